@@ -1,0 +1,14 @@
+pub mod Bools
+pub mod Update
+pub mod Rows
+pub mod Fits
+pub mod Choice
+pub mod Complete
+pub mod TableLaws
+pub mod Next
+pub mod Placings
+pub mod Sound
+pub mod AnswerLaws
+pub mod ItemsLaws
+pub mod PrepareLaws
+pub mod Promise

@@ -1,0 +1,25 @@
+use borrow.Author.Tests.{lt-ltb, le-ltb}
+use borrow.Author.Needs.{needs}
+use Rattle.placing.proofs.last_behind.Statement.{statement}
+use Rattle.placing.proofs.last_behind.Tie as tie
+use Rattle.placing.proofs.last_behind.Reads as reads
+use Rattle.placing.proofs.last_behind.Lts as lts
+
+mul-result : tie.Need-mul-result
+mul-result c = search needs
+
+shared-slice-read-result : tie.Need-shared-slice-read-result
+shared-slice-read-result c = search needs
+
+add-result : tie.Need-add-result
+add-result c = search needs
+
+returns : tie.Need-returns
+returns c = rw (lt-ltb (c .before .before .args .place) (c .before .before .args .n) (c .before .if1 .taken))
+
+returns-2 : tie.Need-returns-2
+returns-2 c = rw (le-ltb (c .before .args .place) (c .before .args .n) (c .if1 .left))
+
+pub last-behind-spec : {M : Type 1} → statement M
+last-behind-spec =
+    tie.close (tie.spec mul-result shared-slice-read-result add-result returns returns-2)

@@ -1,0 +1,50 @@
+-- The limits and the order of a replay table: refusal 22 (document 01, "Placing" and "Numbers returned").
+use Prim.Native.Nat.{ℕ}
+use mathlib.Core.Bool.{Bool, true, false, not, _&&_, _||_}
+use mathlib.Core.List.{List, [], _∷_}
+use lib.ListN.{length}
+use lib.Dec.{leb, ltb, eqb}
+use Rattle.placing.specs.Item.{Item, itemsOf}
+
+-- "at most 64 items"
+abbrev pub mostItems : ℕ
+mostItems = 64
+
+-- "high ≤ 1,000,000, row times 1..1,000,000, floors to 1,000,000"
+abbrev pub greatest : ℕ
+greatest = 1_000_000
+
+-- "a fixed column outside low + 1..high, or a fixed item with a floor" is refused; 0 is free.
+unfoldable pub fixedFits : ℕ → ℕ → ℕ → ℕ → Bool
+fixedFits low high fixed floor = eqb fixed 0 || (ltb low fixed && leb fixed high && eqb floor 0)
+
+-- Row 0..3, the row time, the floor and the fixed column within their limits.
+unfoldable pub itemFits : ℕ → ℕ → Item → Bool
+unfolding fixedFits
+itemFits low high x = leb (x .row) 3 && leb 1 (x .time) && leb (x .time) greatest && leb (x .floor) greatest && fixedFits low high (x .fixed) (x .floor)
+
+-- "by row, then by row time, strictly rising": an item comes after a row and a row time.
+unfoldable pub comesAfter : ℕ → ℕ → Item → Bool
+comesAfter row time x = ltb row (x .row) || (eqb row (x .row) && ltb time (x .time))
+
+-- Every item is within its limits and comes after the one before it, the first after row 0 and time 0.
+abbrev pub itemsFit : ℕ → ℕ → ℕ → ℕ → List Item → Bool
+itemsFit low high row time [] = true
+itemsFit low high row time (x ∷ xs) = itemFits low high x && comesAfter row time x && itemsFit low high (x .row) (x .time) xs
+
+-- "low ≤ high ≤ 1,000,000"
+unfoldable pub boundsFit : ℕ → ℕ → Bool
+boundsFit low high = leb low high && leb high greatest
+
+-- The whole table.
+unfoldable pub tableFits : ℕ → ℕ → List Item → Bool
+unfolding boundsFit
+tableFits low high table = leb (length table) mostItems && boundsFit low high && itemsFit low high 0 0 table
+
+-- Four slices of one length.
+unfoldable pub lengthsAgree : List ℕ → List ℕ → List ℕ → List ℕ → Bool
+lengthsAgree rows times fixed floors = eqb (length times) (length rows) && eqb (length fixed) (length rows) && eqb (length floors) (length rows)
+
+-- 22: "replay table breaks the limits or order above, a fixed column outside low + 1..high, or a fixed item with a floor". Slices of unequal length hold no table.
+unfoldable pub malformed : ℕ → ℕ → List ℕ → List ℕ → List ℕ → List ℕ → Bool
+malformed low high rows times fixed floors = not (lengthsAgree rows times fixed floors && tableFits low high (itemsOf rows times fixed floors))

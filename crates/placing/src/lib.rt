@@ -1,0 +1,214 @@
+// The chosen placing of a replay table, on lent slices of numbers. It knows nothing of lines.
+ghost use mathlib.Core.Path.{_≡_};
+ghost use mathlib.Core.Bool.{not};
+ghost use Prim.Native.Nat.{ℕ, _+_, _-_, _≤_, _<_};
+ghost use mathlib.Core.List.{List, _++_};
+ghost use lib.ListN.{length, getD, take, drop};
+ghost use lib.Dec.{ltb, eqb};
+ghost use mathlib.Core.Bool.{cond};
+ghost use Rattle.placing.specs.Item.{Item, itemsOf};
+ghost use Rattle.placing.specs.Table.{itemFits, comesAfter, itemsFit, malformed};
+ghost use Rattle.placing.specs.Answer.{answer, columnsLeft};
+ghost use Rattle.placing.specs.Places.{Prepared, PrepareAsks, Aligned, offerAt, WalkAsks, WalkGives};
+
+// Whether an item is within its limits.
+fn item_fits(low: u32, high: u32, row: u32, time: u32, fixed: u32, floor: u32) -> bool
+    ensures { λ r. ⌜ r ≡ itemFits low high (record { row = row; time = time; fixed = fixed; floor = floor }) ⌝ }
+{
+    let held = (low < fixed) & (fixed <= high) & (floor == 0);
+    (row <= 3) & (1 <= time) & (time <= 1_000_000) & (floor <= 1_000_000) & ((fixed == 0) | held)
+}
+
+// Whether an item comes after a row and a row time.
+fn comes_after(row: u32, time: u32, its_row: u32, its_time: u32, fixed: u32, floor: u32) -> bool
+    ensures { λ r. ⌜ r ≡ comesAfter row time (record { row = «its_row»; time = «its_time»; fixed = fixed; floor = floor }) ⌝ }
+{
+    (row < its_row) | ((row == its_row) & (time < its_time))
+}
+
+// Whether every item is within its limits and comes after the one before it.
+fn items_fit(low: u32, high: u32, rows: &[u32], times: &[u32], fixed: &[u32], floors: &[u32]) -> bool
+    requires { ⌜ (length (now times) ≡ length (now rows)) × (length (now fixed) ≡ length (now rows)) × (length (now floors) ≡ length (now rows)) ⌝ }
+    ensures { λ r. ⌜ r ≡ itemsFit low high 0 0 (itemsOf (now (rows .entry)) (now (times .entry)) (now (fixed .entry)) (now (floors .entry))) ⌝ }
+{
+    let mut ok = true;
+    let mut row: u32 = 0;
+    let mut time: u32 = 0;
+    let mut i: usize = 0;
+    while i < rows.len() {
+        let its_row = rows[i];
+        let its_time = times[i];
+        let its_fixed = fixed[i];
+        let its_floor = floors[i];
+        let within = item_fits(low, high, its_row, its_time, its_fixed, its_floor);
+        let after = comes_after(row, time, its_row, its_time, its_fixed, its_floor);
+        ok = ok & (within & after);
+        row = its_row;
+        time = its_time;
+        i += 1;
+    }
+    ok
+}
+
+// Whether the table is malformed: refusal 22.
+fn is_malformed(low: u32, high: u32, rows: &[u32], times: &[u32], fixed: &[u32], floors: &[u32]) -> bool
+    ensures { λ r. ⌜ r ≡ malformed low high (now (rows .entry)) (now (times .entry)) (now (fixed .entry)) (now (floors .entry)) ⌝ }
+{
+    let n = rows.len();
+    let agree = (times.len() == n) & (fixed.len() == n) & (floors.len() == n);
+    if !agree {
+        return true;
+    }
+    let bounds = (n <= 64) & ((low <= high) & (high <= 1_000_000));
+    if !bounds {
+        return true;
+    }
+    !items_fit(low, high, rows, times, fixed, floors)
+}
+
+fn row_number(row: u32) -> usize
+    ensures { λ r. ⌜ r ≡ row ⌝ }
+{
+    row as usize
+}
+
+// The last column of the item behind in a row, or one past the highest where there is none.
+fn last_behind(high: u32, lasts: &[u32], place: usize, n: usize) -> u32
+    requires { ⌜ (n ≤ length (now lasts)) × (high ≤ 1_000_000) ⌝ }
+    ensures { λ r. ⌜ r ≡ cond (ltb place n) (getD (now (lasts .entry)) place 0) (high + 1) ⌝ }
+{
+    if place < n {
+        lasts[place]
+    } else {
+        high + 1
+    }
+}
+
+// An item's last column from that of the item behind it.
+fn last_from(fixed: u32, behind: u32) -> u32
+    ensures { λ r. ⌜ r ≡ cond (eqb fixed 0) (behind - 1) fixed ⌝ }
+{
+    if fixed == 0 {
+        if behind == 0 { 0 } else { behind - 1 }
+    } else {
+        fixed
+    }
+}
+
+// Each item's last column, and each row's first place, from the table's end backwards.
+fn prepare(high: u32, rows: &[u32], fixed: &[u32], lasts: &mut [u32], next: &mut [usize])
+    requires { ⌜ PrepareAsks high (now rows) (now fixed) (now lasts) (now next) ⌝ }
+    ensures { λ _. ⌜ Prepared high 0 (now (rows .entry)) (now (fixed .entry)) (now (lasts .exit)) (now (next .exit)) ⌝ }
+{
+    let mut i = rows.len();
+    while 0 < i {
+        i -= 1;
+        let r = row_number(rows[i]);
+        let behind = last_behind(high, lasts, next[r], rows.len());
+        lasts[i] = last_from(fixed[i], behind);
+        next[r] = i;
+    }
+}
+
+// What a row offers a column.
+pub enum Offer {
+    Fixed,
+    Free(u32),
+    Nothing,
+}
+
+// What row r, whose next place is i, offers column c.
+fn offered(rows: &[u32], fixed: &[u32], floors: &[u32], lasts: &[u32], r: usize, i: usize, c: u32) -> Offer
+    requires { ⌜ Aligned (now rows) (now fixed) (now floors) (now lasts) ⌝ }
+    ensures { λ o. ⌜ o ≡ offerAt (now (rows .entry)) (now (fixed .entry)) (now (floors .entry)) (now (lasts .entry)) r i c ⌝ }
+{
+    if i < rows.len() {
+        if row_number(rows[i]) == r {
+            if fixed[i] == c {
+                return Offer::Fixed;
+            }
+            if (fixed[i] == 0) & (floors[i] < c) {
+                return Offer::Free(lasts[i]);
+            }
+        }
+    }
+    Offer::Nothing
+}
+
+// The walk over the columns. Whether every item has its column, which then stands in `work` at its place.
+fn walk(low: u32, high: u32, rows: &[u32], fixed: &[u32], floors: &[u32], lasts: &[u32], next: &mut [usize], work: &mut [u32]) -> bool
+    requires { ⌜ WalkAsks low high (now rows) (now fixed) (now floors) (now lasts) (now next) (now work) ⌝ }
+    ensures { λ r. ⌜ WalkGives low high (now (rows .entry)) (now (fixed .entry)) (now (floors .entry)) r (now (work .exit)) ⌝ }
+{
+    let n = rows.len();
+    let mut left = n;
+    let mut c = low + 1;
+    'columns: while (c <= high) & (0 < left) {
+        let mut chosen: usize = 4;
+        let mut best: u32 = 0;
+        let mut r: usize = 0;
+        'search: while r < 4 {
+            let o = offered(rows, fixed, floors, lasts, r, next[r], c);
+            match o {
+                Offer::Fixed => {
+                    chosen = r;
+                    break 'search;
+                }
+                Offer::Free(last) => {
+                    if (chosen == 4) | (last < best) {
+                        chosen = r;
+                        best = last;
+                    }
+                }
+                Offer::Nothing => {}
+            }
+            r += 1;
+        }
+        if chosen < 4 {
+            let i = next[chosen];
+            work[i] = c;
+            next[chosen] = i + 1;
+            left -= 1;
+        }
+        c += 1;
+    }
+    left == 0
+}
+
+// The first n of `work` into `columns`.
+fn copy(work: &[u32], n: usize, columns: &mut [u32])
+    requires { ⌜ (n ≤ length (now work)) × (n ≤ length (now columns)) ⌝ }
+    ensures { λ _. ⌜ now (columns .exit) ≡ take n (now (work .entry)) ++ drop n (now (columns .entry)) ⌝ }
+{
+    let mut i: usize = 0;
+    while i < n {
+        columns[i] = work[i];
+        i += 1;
+    }
+}
+
+// Document 01's placing: the number answered, and on 0 the chosen columns in table order.
+#[no_mangle]
+pub extern "C" fn placing_place(low: u32, high: u32, rows: &[u32], times: &[u32], fixed: &[u32], floors: &[u32], columns: &mut [u32]) -> u32
+    ensures {
+        λ r. ⌜ (r ≡ answer low high (now (rows .entry)) (now (times .entry)) (now (fixed .entry)) (now (floors .entry)) (now (columns .entry)))
+            × (now (columns .exit) ≡ columnsLeft low high (now (rows .entry)) (now (times .entry)) (now (fixed .entry)) (now (floors .entry)) (now (columns .entry))) ⌝
+    }
+{
+    if is_malformed(low, high, rows, times, fixed, floors) {
+        return 22;
+    }
+    let n = rows.len();
+    if columns.len() < n {
+        return 23;
+    }
+    let mut lasts = [0u32; 64];
+    let mut next = [n; 4];
+    prepare(high, rows, fixed, &mut lasts, &mut next);
+    let mut work = [0u32; 64];
+    if !walk(low, high, rows, fixed, floors, &lasts, &mut next, &mut work) {
+        return 24;
+    }
+    copy(&work, n, columns);
+    0
+}

@@ -1,0 +1,18 @@
+// Names the directory of the engine's static libraries. Only the programs that
+// declare the engine's functions link them; the search path also reaches
+// packages that depend on this one.
+
+use std::env;
+use std::path::Path;
+
+fn main() {
+    let given = env::var("CEMENTLEDGE_LIB").unwrap_or("../target/staticlib".to_string());
+    let package = env::var("CARGO_MANIFEST_DIR").expect("set by cargo");
+    let libraries = Path::new(&package).join(given);
+    println!("cargo:rerun-if-env-changed=CEMENTLEDGE_LIB");
+    println!(
+        "cargo:rerun-if-changed={}",
+        libraries.join("libplacing.a").display()
+    );
+    println!("cargo:rustc-link-search=native={}", libraries.display());
+}
