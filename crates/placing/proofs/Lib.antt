@@ -11,4 +11,8 @@ pub mod Sound
 pub mod AnswerLaws
 pub mod ItemsLaws
 pub mod PrepareLaws
+pub mod WalkLaws
+pub mod SearchLaws
+pub mod OfferLaws
+pub mod Turn
 pub mod Promise

@@ -1,3 +1,16 @@
+use Prim.Native.Nat.{ℕ, suc, _+_, _-_, _≤_, _<_}
+use mathlib.Core.Path.{_≡_, refl, sym, ap, _∙_}
+use mathlib.Core.Logic.{⊎-elim}
+use native.Mathlib.Omega.{arith}
+use mathlib.Core.Bool.{_&&_}
+use mathlib.Core.Option.{some}
+use lib.ListN.{length, getD}
+use lib.Dec.{leb, ltb}
+use borrow.Author.Tests.{eq-eqb, ne-eqb, leb-true, ltb-true}
+use Rattle.placing.proofs.Bools.{both-true}
+use Rattle.placing.proofs.SearchLaws.{choiceOf}
+use borrow.Author.Needs.{needs}
+use Rattle.placing.proofs.Turn.{Chosen, Searching, Walking, searching-begun, searching-ended, turn-fixed, turn-take, turn-keep, turn-nothing, place-inside, column-taken, column-empty, walking-begun, walking-done}
 use Rattle.placing.proofs.walk.Statement.{statement}
 use Rattle.placing.proofs.walk.Tie as tie
 use Rattle.placing.proofs.walk.Reads as reads
@@ -5,119 +18,138 @@ use Rattle.placing.proofs.walk.Lts as lts
 use Rattle.placing.proofs.offered.Reads as offered-reads
 
 abbrev Inv-search : tie.InvT-search
-Inv-search low high rows fixed floors lasts next work n left c chosen₀ best₀ r₀ chosen best r = ?
+Inv-search low high rows fixed floors lasts next work n left c chosen₀ best₀ r₀ chosen best r = Searching high rows fixed floors next c chosen best r
 
 abbrev μ-search : tie.MeasureT-search
-μ-search low high rows fixed floors lasts next work n left c chosen₀ best₀ r₀ chosen best r = ?
+μ-search low high rows fixed floors lasts next work n left c chosen₀ best₀ r₀ chosen best r = 4 - r
 
 abbrev Inv-columns : tie.InvT-columns
-Inv-columns low high rows fixed floors lasts next₀ work₀ n left₀ c₀ next work left c = ?
+Inv-columns low high rows fixed floors lasts next₀ work₀ n left₀ c₀ next work left c = Walking low high rows fixed floors lasts next₀ work₀ next work left c
 
 abbrev μ-columns : tie.MeasureT-columns
-μ-columns low high rows fixed floors lasts next₀ work₀ n left₀ c₀ next work left c = ?
+μ-columns low high rows fixed floors lasts next₀ work₀ n left₀ c₀ next work left c = suc high - c
 
--- src/lib.rt:143:17
 add-c : tie.Need-add-c Inv-search μ-search Inv-columns μ-columns
-add-c c = ?
+add-c c = search needs
 
--- src/lib.rt:144:5
 columns-holds : tie.Need-columns-holds Inv-search μ-search Inv-columns μ-columns
-columns-holds c = ?
+columns-holds c =
+    let a = c .before .before .before .before .before .before .args in
+    walking-begun (a .low) (a .high) (a .rows .now) (a .fixed .now) (a .floors .now) (a .lasts .now) (a .next .now) (a .work .now) (c .before .before .before .before .before .before .pre)
 
--- src/lib.rt:148:9
 search-holds : tie.Need-search-holds Inv-search μ-search Inv-columns μ-columns
-search-holds c = ?
+search-holds c =
+    let a = c .before .before .before .before .before .before .before .before .args in
+    searching-begun (a .high) (a .rows .now) (a .fixed .now) (a .floors .now) (c .before .columns .next) (c .before .columns .c)
 
--- src/lib.rt:149:60
 mul-offered : tie.Need-mul-offered Inv-search μ-search Inv-columns μ-columns
-mul-offered c = ?
+mul-offered c = search needs
 
--- src/lib.rt:149:60
 slice-read-offered : tie.Need-slice-read-offered Inv-search μ-search Inv-columns μ-columns
-slice-read-offered c = ?
+slice-read-offered c = search needs
 
--- src/lib.rt:149:17
 offered-requires : tie.Need-offered-requires Inv-search μ-search Inv-columns μ-columns
-offered-requires c κs = ?
+offered-requires c κs = search needs
 
--- src/lib.rt:152:21
 enum-told : tie.Need-enum-told Inv-search μ-search Inv-columns μ-columns
-enum-told c = ?
+enum-told c = search needs
 
--- src/lib.rt:155:29
 enum-known-o : tie.Need-enum-known-o Inv-search μ-search Inv-columns μ-columns
-enum-known-o c = ?
+enum-known-o c = search needs
 
 enum-told-2 : tie.Need-enum-told-2 Inv-search μ-search Inv-columns μ-columns
-enum-told-2 c = ?
+enum-told-2 c = search needs
 
--- src/lib.rt:163:13
 add-r : tie.Need-add-r Inv-search μ-search Inv-columns μ-columns
-add-r c = ?
+add-r c = search needs
 
--- src/lib.rt:148:9
 search-less : tie.Need-search-less Inv-search μ-search Inv-columns μ-columns
-search-less c = ?
+search-less c = search needs
 
--- src/lib.rt:148:9
 search-again : tie.Need-search-again Inv-search μ-search Inv-columns μ-columns
-search-again c = ?
+search-again c =
+    let w = c .before .before .before .before .before .before .columns .inv in
+    let s = c .before .before .before .before .search .inv in
+    let l = c .before .before .before .search-test .taken in
+    let o = c .before .offered .ensures in
+    ⊎-elim
+    (λ v. rw (v .4, v .5) (turn-take w s l o (v .1 .given .0 .0) (v .1 .given .1) (v .3 .taken)))
+    (⊎-elim (λ v. rw (v .4, v .5) (turn-keep w s l o (v .1 .given .0 .0) (v .1 .given .1) (v .3 .left))) (λ v. rw (v .2, v .3) (turn-nothing w s l o (v .1 .given .1))))
+    (c .match .came)
 
--- src/lib.rt:166:21
+-- The row that the search was left with is the walk's choice at the column.
+chosen-now : (c : tie.Left-search Inv-search μ-search Inv-columns μ-columns)
+    → let a = c .before .before .before .before .before .before .before .before .before .before .args in
+      Chosen (a .high) (a .rows .now) (a .fixed .now) (a .floors .now) (c .before .before .before .columns .next) (c .before .before .before .columns .c) (choiceOf (c .search-test .chosen))
+chosen-now c =
+    ⊎-elim
+    (λ v. rw (v .1) (searching-ended (v .0 .left) (c .before .search .inv)))
+    (λ v. λ times. rw (v .5, ne-eqb (c .before .search .r) 4 (λ q. omega (arith, v .0 .taken))) (turn-fixed (c .before .before .before .columns .inv) (c .before .search .inv) (v .0 .taken) (v .2 .ensures) (v .4 .given .1) times))
+    (c .search-test .came)
+
+chosen-small : (c : tie.Left-search Inv-search μ-search Inv-columns μ-columns) → c .search-test .chosen ≤ 4
+chosen-small c = ⊎-elim (λ v. omega (arith, v .1, c .before .search .inv .chosen-within)) (λ v. omega (arith, v .5, v .0 .taken)) (c .search-test .came)
+
+taken-now : (c : tie.Left-search Inv-search μ-search Inv-columns μ-columns) → c .search-test .chosen < 4
+    → let a = c .before .before .before .before .before .before .before .before .before .before .args in
+      Chosen (a .high) (a .rows .now) (a .fixed .now) (a .floors .now) (c .before .before .before .columns .next) (c .before .before .before .columns .c) (some (c .search-test .chosen))
+taken-now c l times = rw (ne-eqb (c .search-test .chosen) 4 (λ q. omega arith)) at (chosen-now c times)
+
+inside-now : (c : tie.Left-search Inv-search μ-search Inv-columns μ-columns) → c .search-test .chosen < 4 → getD (c .before .before .before .columns .next) (c .search-test .chosen) 0 < 64
+inside-now c l = omega (arith, place-inside (c .before .before .before .columns .inv) (c .search-test .chosen) l (taken-now c l), c .before .before .before .columns .inv .asks .ordered .few)
+
+going : (c : tie.In-columns Inv-search μ-search Inv-columns μ-columns) → (c .before .columns .c ≤ c .before .before .before .before .before .before .before .before .args .high) × (0 < c .before .columns .left)
+going c =
+    let t = both-true (leb (c .before .columns .c) (c .before .before .before .before .before .before .before .before .args .high)) (ltb 0 (c .before .columns .left)) (c .columns-test .taken) in
+    (leb-true (c .before .columns .c) (c .before .before .before .before .before .before .before .before .args .high) (t .0), ltb-true 0 (c .before .columns .left) (t .1))
+
 mul-i : tie.Need-mul-i Inv-search μ-search Inv-columns μ-columns
-mul-i c = ?
+mul-i c = search needs
 
--- src/lib.rt:166:21
 slice-read-i : tie.Need-slice-read-i Inv-search μ-search Inv-columns μ-columns
-slice-read-i c = ?
+slice-read-i c = search needs
 
--- src/lib.rt:167:13
 mul-work : tie.Need-mul-work Inv-search μ-search Inv-columns μ-columns
-mul-work c = ?
+mul-work c = omega (arith, inside-now (c .before .before .before) (c .before .before .if2 .taken))
 
--- src/lib.rt:167:13
 slice-write-work : tie.Need-slice-write-work Inv-search μ-search Inv-columns μ-columns
-slice-write-work c = ?
+slice-write-work c = omega (arith, inside-now (c .before .before .before) (c .before .before .if2 .taken), c .before .before .before .before .before .before .columns .inv .work-long)
 
--- src/lib.rt:168:28
 add-next : tie.Need-add-next Inv-search μ-search Inv-columns μ-columns
-add-next c = ?
+add-next c = omega (arith, inside-now (c .before .before .before) (c .before .before .if2 .taken))
 
--- src/lib.rt:168:13
 mul-next : tie.Need-mul-next Inv-search μ-search Inv-columns μ-columns
-mul-next c = ?
+mul-next c = search needs
 
--- src/lib.rt:168:13
 slice-write-next : tie.Need-slice-write-next Inv-search μ-search Inv-columns μ-columns
-slice-write-next c = ?
+slice-write-next c = search needs
 
--- src/lib.rt:169:13
 sub-left : tie.Need-sub-left Inv-search μ-search Inv-columns μ-columns
-sub-left c = ?
+sub-left c = omega (arith, going (c .before .before .before .before .before) .1)
 
--- src/lib.rt:171:9
 add-c-2 : tie.Need-add-c-2 Inv-search μ-search Inv-columns μ-columns
-add-c-2 c = ?
+add-c-2 c = search needs
 
--- src/lib.rt:144:5
 columns-less : tie.Need-columns-less Inv-search μ-search Inv-columns μ-columns
-columns-less c = ?
+columns-less c = omega (arith, going (c .before .before .before) .0)
 
--- src/lib.rt:144:5
 columns-again : tie.Need-columns-again Inv-search μ-search Inv-columns μ-columns
-columns-again c = ?
+columns-again c =
+    let w = c .before .before .before .before .columns .inv in
+    let q = going (c .before .before .before) .0 in
+    ⊎-elim
+    (λ v. rw (v .3, v .4, v .5) (column-taken w (c .before .search-test .chosen) (v .0 .taken) q (taken-now (c .before) (v .0 .taken))))
+    (λ v. rw (v .1, v .2, v .3) (column-empty w q (λ times. rw (eq-eqb (c .before .search-test .chosen) 4 (omega (arith, chosen-small (c .before), v .0 .left))) at (chosen-now (c .before) times))))
+    (c .if2 .came)
 
--- src/lib.rt:137:1
 same-length : tie.Need-same-length Inv-search μ-search Inv-columns μ-columns
-same-length c = ?
+same-length c = search needs
 
--- src/lib.rt:137:1
 same-length-2 : tie.Need-same-length-2 Inv-search μ-search Inv-columns μ-columns
-same-length-2 c = ?
+same-length-2 c = search needs
 
--- src/lib.rt:137:1
 returns : tie.Need-returns Inv-search μ-search Inv-columns μ-columns
-returns c = ?
+returns c = walking-done (c .before .columns .inv) (c .columns-test .left)
 
 pub walk-spec : {M : Type 1} → statement M
 walk-spec =
