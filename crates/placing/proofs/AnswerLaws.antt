@@ -7,7 +7,8 @@ use mathlib.Core.List.{List, [], _∷_, _++_}
 use native.Mathlib.Omega.{arith}
 use lib.ListN.{length, drop}
 use lib.Dec.{ltb, eqb}
-use borrow.Author.Tests.{eq-eqb, ne-eqb}
+use borrow.Author.Tests.{eq-eqb, ne-eqb, lt-ltb, le-ltb}
+use Rattle.placing.specs.Walk.{walked, noneWait}
 use Rattle.placing.specs.Item.{Item, itemsOf}
 use Rattle.placing.specs.Table.{malformed}
 use Rattle.placing.specs.Answer.{unplaceable, chosenColumns, firstOf, answer, columnsLeft}
@@ -36,3 +37,30 @@ module _ (low high : ℕ) (rows times fixed floors columns : List ℕ) where
   pub left-refused : answer low high rows times fixed floors columns ≢ 0 → columnsLeft low high rows times fixed floors columns ≡ columns
   unfolding columnsLeft
   left-refused h = rw (ne-eqb (answer low high rows times fixed floors columns) 0 h, columnsLeft)
+
+  -- What a refusal answers and leaves.
+  refuses : (n : ℕ) → n ≢ 0 → answer low high rows times fixed floors columns ≡ n → (n ≡ answer low high rows times fixed floors columns) × (columns ≡ columnsLeft low high rows times fixed floors columns)
+  refuses n h e = (sym e, sym (left-refused (λ z. h (sym e ∙ z))))
+
+  pub refuses-form : malformed low high rows times fixed floors ≡ true → (22 ≡ answer low high rows times fixed floors columns) × (columns ≡ columnsLeft low high rows times fixed floors columns)
+  unfolding answer
+  refuses-form m = refuses 22 (λ z. omega arith) (rw m)
+
+  pub refuses-short : malformed low high rows times fixed floors ≡ false → length columns < length rows
+      → (23 ≡ answer low high rows times fixed floors columns) × (columns ≡ columnsLeft low high rows times fixed floors columns)
+  unfolding answer
+  refuses-short m s = refuses 23 (λ z. omega arith) (rw (m, lt-ltb (length columns) (length rows) s))
+
+  module _ (m : malformed low high rows times fixed floors ≡ false) (s : length rows ≤ length columns) where
+    pub refuses-none : noneWait (walked low high (itemsOf rows times fixed floors) .waiting) ≡ false
+        → (24 ≡ answer low high rows times fixed floors columns) × (columns ≡ columnsLeft low high rows times fixed floors columns)
+    unfolding answer unplaceable
+    refuses-none w = refuses 24 (λ z. omega arith) (rw (m, le-ltb (length columns) (length rows) s, w))
+
+    pub accepts : noneWait (walked low high (itemsOf rows times fixed floors) .waiting) ≡ true → (left : List ℕ)
+        → left ≡ walked low high (itemsOf rows times fixed floors) .columns ++ drop (length rows) columns
+        → (0 ≡ answer low high rows times fixed floors columns) × (left ≡ columnsLeft low high rows times fixed floors columns)
+    unfolding answer unplaceable chosenColumns
+    accepts w left e =
+        let zero-is : answer low high rows times fixed floors columns ≡ 0 = rw (m, le-ltb (length columns) (length rows) s, w) in
+        (sym zero-is, e ∙ sym (left-accepted zero-is))

@@ -55,19 +55,22 @@ module _ (high : ℕ) {n c : ℕ} (ends : n + suc c ≡ suc high) {R R′ : Rows
       missed : {Q : Rows} → Fits n (suc c) Q → Q a ≡ w ∷ R′ a → ⊥
       missed g waits = omega (arith, due high g ends a waits, last-fixed high w (R′ a) h)
   fixed-goes h e (put r v Q u may f) =
-      elim (ℕ-discrete r a)
-      [ yes same ↦ at-a r v Q u same f
-      | no other ↦ (let no : ⊥ = omega (arith, due high f ends a (u .rest a (λ q. other (sym q)) ∙ t .first), last-fixed high w (R′ a) h) in absurd no) ]
+      elim (ℕ-discrete r a) [
+        | yes same ↦ at-a r v Q u same f
+        | no other ↦ (let no : ⊥ = omega (arith, due high f ends a (u .rest a (λ q. other (sym q)) ∙ t .first), last-fixed high w (R′ a) h) in absurd no)
+      ]
 
   -- So does the free item with the least last column where no item is fixed at the column.
   free-goes : (rows : List (List Waiting)) → R ≡ rowOf rows → FreeChosen high c rows a → Fits (suc n) c R → Fits n (suc c) R′
   free-goes rows same says (skip f) = fill high a w t f
   free-goes rows same says (put r v Q u may f) =
-      elim (ℕ-discrete r a)
-      [ yes e ↦ at-a r v Q u e f
-      | no other ↦ elim may
-      [ fixed h e ↦ absurd (true≢false (sym (fixed-test c (rowOf rows r) (sym (ap (λ (P : Rows). P r) same) ∙ u .first) e) ∙ says .no-fixed r))
-      | free e l ↦ swap high a r w v u t (λ q. other (sym q)) e (omega arith) (rw same (says .least r (free-test c (rowOf rows r) (sym (ap (λ (P : Rows). P r) same) ∙ u .first) e l))) ends f ] ]
+      elim (ℕ-discrete r a) [
+        | yes e ↦ at-a r v Q u e f
+        | no other ↦ elim may [
+          | fixed h e ↦ absurd (true≢false (sym (fixed-test c (rowOf rows r) (sym (ap (λ (P : Rows). P r) same) ∙ u .first) e) ∙ says .no-fixed r))
+          | free e l ↦ swap high a r w v u t (λ q. other (sym q)) e (omega arith) (rw same (says .least r (free-test c (rowOf rows r) (sym (ap (λ (P : Rows). P r) same) ∙ u .first) e l))) ends f
+        ]
+      ]
 
 pub took : (c a : ℕ) (s : Walk) {w : Waiting} {ws : List Waiting} → rowOf (s .waiting) a ≡ w ∷ ws
     → placeIn c (some a) s ≡ record { waiting = set (s .waiting) a ws; columns = set (s .columns) (w .place) c }

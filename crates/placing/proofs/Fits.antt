@@ -54,9 +54,10 @@ last-none high = omega arith
 -- Rows without the first item of the same row are the same rows.
 pub same-rows : {R Q R′ : Rows} (r : ℕ) {v w : Waiting} → Takes R r v Q → Takes R r w R′ → Q ≡ R′
 same-rows {R} {Q} {R′} r {v} {w} t u =
-    fun-ext λ s. elim (ℕ-discrete s r)
-    [ yes e ↦ ap Q e ∙ cons-rest (sym (t .first) ∙ u .first) ∙ ap R′ (sym e)
-    | no h ↦ t .rest s h ∙ sym (u .rest s h) ]
+    fun-ext λ s. elim (ℕ-discrete s r) [
+      | yes e ↦ ap Q e ∙ cons-rest (sym (t .first) ∙ u .first) ∙ ap R′ (sym e)
+      | no h ↦ t .rest s h ∙ sym (u .rest s h)
+    ]
 
 -- Two rows give their first items in either order.
 abbrev both-gone : Rows → ℕ → Rows → Rows
@@ -68,9 +69,9 @@ module _ {R R′ Q : Rows} (a r : ℕ) {w v : Waiting} (t : Takes R a w R′) (u
 
   then-first : Takes Q a w (both-gone R′ r Q)
   then-first =
-      record
-      { first = u .rest a (λ e. apart (sym e)) ∙ t .first ∙ ap (λ (l : List Waiting). w ∷ l) (sym (changed-else R′ r (Q r) a (λ e. apart (sym e))))
-      ; rest = λ s h. elim (ℕ-discrete s r) [ yes e ↦ ap (changed R′ r (Q r)) e ∙ changed-there R′ r (Q r) r refl ∙ ap Q (sym e) | no g ↦ changed-else R′ r (Q r) s g ∙ t .rest s h ∙ sym (u .rest s g) ]
+      record {
+        first = u .rest a (λ e. apart (sym e)) ∙ t .first ∙ ap (λ (l : List Waiting). w ∷ l) (sym (changed-else R′ r (Q r) a (λ e. apart (sym e))));
+        rest = λ s h. elim (ℕ-discrete s r) [ yes e ↦ ap (changed R′ r (Q r)) e ∙ changed-there R′ r (Q r) r refl ∙ ap Q (sym e) | no g ↦ changed-else R′ r (Q r) s g ∙ t .rest s h ∙ sym (u .rest s g) ];
       }
 
 due-behind : (high c : ℕ) (ws : List Waiting) → c ≤ high → ((w : Waiting) (rest : List Waiting) → ws ≡ w ∷ rest → c < lastColumn high (w ∷ rest)) → c < lastColumn high ws
@@ -87,20 +88,22 @@ module _ (high : ℕ) where
   due (done none) e a waits = absurd (nil-cons (sym (none a) ∙ waits))
   due (skip f) e a waits = let later = due f (omega arith) a waits in omega arith
   due (put {n = n} {c = c} {R = R} r v R′ t may f) e a {w} {ws} waits =
-      elim (ℕ-discrete a r)
-      [ no other ↦ (let later = due f (omega arith) a (t .rest a other ∙ waits) in omega arith)
-      | yes same ↦
-          (let both : w ∷ ws ≡ v ∷ R′ r = sym waits ∙ ap R same ∙ t .first in
-          rw both (due-here high c v (R′ r) may (due-behind high c (R′ r) (omega arith) (λ y ys e′. due f (omega arith) r e′)))) ]
+      elim (ℕ-discrete a r) [
+        | no other ↦ (let later = due f (omega arith) a (t .rest a other ∙ waits) in omega arith)
+        | yes same ↦
+            (let both : w ∷ ws ≡ v ∷ R′ r = sym waits ∙ ap R same ∙ t .first in
+            rw both (due-here high c v (R′ r) may (due-behind high c (R′ r) (omega arith) (λ y ys e′. due f (omega arith) r e′))))
+      ]
 
   -- A column left empty is no loss to an item that waits: it may have taken it.
   pub fill : {n c : ℕ} {R R′ : Rows} (a : ℕ) (w : Waiting) → Takes R a w R′ → Fits n c R → Fits n c R′
   fill a w t (done none) = absurd (nil-cons (sym (none a) ∙ t .first))
   fill a w t (skip f) = skip (fill a w t f)
   fill {R′ = R′} a w t (put {n = n} {c = c} {R = R} r v Q u may f) =
-      elim (ℕ-discrete r a)
-      [ yes e ↦ skip (subst (λ (P : Rows). Fits n (suc c) P) (same-rows a (subst (λ (k : ℕ). Takes R k v Q) e u) t) f)
-      | no h ↦ put r v (both-gone R′ r Q) (then-second a r t u h) may (fill a w (then-first a r t u h) f) ]
+      elim (ℕ-discrete r a) [
+        | yes e ↦ skip (subst (λ (P : Rows). Fits n (suc c) P) (same-rows a (subst (λ (k : ℕ). Takes R k v Q) e u) t) f)
+        | no h ↦ put r v (both-gone R′ r Q) (then-second a r t u h) may (fill a w (then-first a r t u h) f)
+      ]
 
   -- Of two free items that may stand before column c, the one with the earlier last column may have gone first.
   pub swap : {n c : ℕ} {R P Q : Rows} (a b : ℕ) (x y : Waiting) → Takes R b y P → Takes R a x Q → a ≢ b
@@ -110,32 +113,35 @@ module _ (high : ℕ) where
   swap {R = R} {Q = Q} a b x y t u apart fy floor sooner e (put {n = n} {c = c} {R = P} r z P′ v may f) =
       let la : lastColumn high (P a) ≡ lastColumn high (R a) = ap (lastColumn high) (t .rest a apart) in
       let lb : lastColumn high (R b) ≡ lastColumn high (P b) - 1 = ap (lastColumn high) (t .first) ∙ last-free high y (P b) fy in
-      elim (ℕ-discrete r a)
-      [ yes ra ↦
-          put b y (both-gone P a Q) (then-first b a t u apart) (free fy floor)
-          (subst (λ (S : Rows). Fits n (suc c) S) (same-rows a (subst (λ (k : ℕ). Takes P k z P′) ra v) (then-second b a t u apart)) f)
-      | no rna ↦ elim (ℕ-discrete r b)
-      [ yes rb ↦
-          (let v′ : Takes P b z P′ = subst (λ (k : ℕ). Takes P k z P′) rb v in
-          put {n = n} b y (both-gone P a Q) (then-first b a t u apart) (free fy floor)
-          (elim may
-          [ free fz lz ↦ swap a b x z v′ (then-second b a t u apart) apart fz (omega arith) (omega arith) (omega arith) f
-          | fixed hz ez ↦
-              (let lz : lastColumn high (P b) ≡ z .item .fixed = ap (lastColumn high) (v′ .first) ∙ last-fixed high z (P′ b) hz in
-              let waits : P′ a ≡ x ∷ Q a = v′ .rest a apart ∙ t .rest a apart ∙ u .first in
-              let still : suc c ≤ lastColumn high (x ∷ Q a) = due f (omega arith) a waits in
-              let lx : lastColumn high (R a) ≡ lastColumn high (x ∷ Q a) = ap (lastColumn high) (u .first) in
-              let no : ⊥ = omega arith in
-              absurd no) ]))
-      | no rnb ↦
-          (let R′ : Rows = changed R r (P′ r) in
-          let w : Takes R r z R′ =
-                record
-                { first = sym (t .rest r rnb) ∙ v .first ∙ ap (λ (l : List Waiting). z ∷ l) (sym (changed-there R r (P′ r) r refl))
-                ; rest = changed-else R r (P′ r)
-                } in
-          let same : both-gone P r R′ ≡ P′ = same-rows r (then-second b r t w rnb) v in
-          let la′ : lastColumn high (R′ a) ≡ lastColumn high (R a) = ap (lastColumn high) (changed-else R r (P′ r) a (λ q. rna (sym q))) in
-          let lb′ : lastColumn high (R′ b) ≡ lastColumn high (R b) = ap (lastColumn high) (changed-else R r (P′ r) b (λ q. rnb (sym q))) in
-          put r z (both-gone Q r R′) (then-second a r u w rna) may
-          (swap a b x y (subst (λ (S : Rows). Takes R′ b y S) same (then-first b r t w rnb)) (then-first a r u w rna) apart fy (omega arith) (omega arith) (omega arith) f)) ] ]
+      elim (ℕ-discrete r a) [
+        | yes ra ↦
+            put b y (both-gone P a Q) (then-first b a t u apart) (free fy floor)
+            (subst (λ (S : Rows). Fits n (suc c) S) (same-rows a (subst (λ (k : ℕ). Takes P k z P′) ra v) (then-second b a t u apart)) f)
+        | no rna ↦ elim (ℕ-discrete r b) [
+          | yes rb ↦
+              (let v′ : Takes P b z P′ = subst (λ (k : ℕ). Takes P k z P′) rb v in
+              put {n = n} b y (both-gone P a Q) (then-first b a t u apart) (free fy floor)
+              (elim may [
+                | free fz lz ↦ swap a b x z v′ (then-second b a t u apart) apart fz (omega arith) (omega arith) (omega arith) f
+                | fixed hz ez ↦
+                    (let lz : lastColumn high (P b) ≡ z .item .fixed = ap (lastColumn high) (v′ .first) ∙ last-fixed high z (P′ b) hz in
+                    let waits : P′ a ≡ x ∷ Q a = v′ .rest a apart ∙ t .rest a apart ∙ u .first in
+                    let still : suc c ≤ lastColumn high (x ∷ Q a) = due f (omega arith) a waits in
+                    let lx : lastColumn high (R a) ≡ lastColumn high (x ∷ Q a) = ap (lastColumn high) (u .first) in
+                    let no : ⊥ = omega arith in
+                    absurd no)
+              ]))
+          | no rnb ↦
+              (let R′ : Rows = changed R r (P′ r) in
+              let w : Takes R r z R′ =
+              record {
+                first = sym (t .rest r rnb) ∙ v .first ∙ ap (λ (l : List Waiting). z ∷ l) (sym (changed-there R r (P′ r) r refl));
+                rest = changed-else R r (P′ r);
+              } in
+              let same : both-gone P r R′ ≡ P′ = same-rows r (then-second b r t w rnb) v in
+              let la′ : lastColumn high (R′ a) ≡ lastColumn high (R a) = ap (lastColumn high) (changed-else R r (P′ r) a (λ q. rna (sym q))) in
+              let lb′ : lastColumn high (R′ b) ≡ lastColumn high (R b) = ap (lastColumn high) (changed-else R r (P′ r) b (λ q. rnb (sym q))) in
+              put r z (both-gone Q r R′) (then-second a r u w rna) may
+              (swap a b x y (subst (λ (S : Rows). Takes R′ b y S) same (then-first b r t w rnb)) (then-first a r u w rna) apart fy (omega arith) (omega arith) (omega arith) f))
+        ]
+      ]

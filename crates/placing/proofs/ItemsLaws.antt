@@ -32,8 +32,8 @@ module _ (low high row time : ℕ) (rows times fixed floors : List ℕ) (i : ℕ
 
   pub fit-more : (ok : Bool) → (ok && itemsFit low high row time (drop i (itemsOf rows times fixed floors)))
       ≡ (ok && (itemFits low high (record { row = getD rows i 0; time = getD times i 0; fixed = getD fixed i 0; floor = getD floors i 0 })
-        && comesAfter row time (record { row = getD rows i 0; time = getD times i 0; fixed = getD fixed i 0; floor = getD floors i 0 }))
-        && itemsFit low high (getD rows i 0) (getD times i 0) (drop (i + 1) (itemsOf rows times fixed floors)))
+      && comesAfter row time (record { row = getD rows i 0; time = getD times i 0; fixed = getD fixed i 0; floor = getD floors i 0 }))
+      && itemsFit low high (getD rows i 0) (getD times i 0) (drop (i + 1) (itemsOf rows times fixed floors)))
   unfolding item
   fit-more ok =
       let table = itemsOf rows times fixed floors in

@@ -15,4 +15,5 @@ pub mod WalkLaws
 pub mod SearchLaws
 pub mod OfferLaws
 pub mod Turn
+pub mod Formed
 pub mod Promise

@@ -26,17 +26,18 @@ pub gone-takes : (table : List Item) (next : ℕ → ℕ) (k : ℕ) → k < leng
 gone-takes table next k l e =
     let a = rowAt table k in
     let w : Waiting = record { place = k; item = itemAt table k } in
-    record
-    { first = ap (from table a) e ∙ from-head table a k l refl ∙ ap (λ (i : ℕ). w ∷ from table a i) (sym (changed-there next a (suc k) a refl))
-    ; rest = λ s h. ap (from table s) (changed-else next a (suc k) s h)
+    record {
+      first = ap (from table a) e ∙ from-head table a k l refl ∙ ap (λ (i : ℕ). w ∷ from table a i) (sym (changed-there next a (suc k) a refl));
+      rest = λ s h. ap (from table s) (changed-else next a (suc k) s h);
     }
 
 pub gone-low : (table : List Item) → Sorted table → (next : ℕ → ℕ) (k : ℕ) → k < length table → ((r : ℕ) → Low table r (next r)) → (r : ℕ) → Low table r (gone table next k r)
 gone-low table sorted next k l lows r =
     let a = rowAt table k in
-    elim (ℕ-discrete r a)
-    [ yes e ↦ rw (changed-there next a (suc k) r e, e) (low-next table sorted k l)
-    | no h ↦ rw (changed-else next a (suc k) r h) (lows r) ]
+    elim (ℕ-discrete r a) [
+      | yes e ↦ rw (changed-there next a (suc k) r e, e) (low-next table sorted k l)
+      | no h ↦ rw (changed-else next a (suc k) r h) (lows r)
+    ]
 
 -- Where row r begins.
 pub record Begins (table : List Item) (r i : ℕ) : Type 0 where
@@ -49,16 +50,17 @@ pub begins : (table : List Item) → Sorted table → (r m i : ℕ) → i + m �
 begins table sorted r zero i e =
     record { place = i; low = λ k p q. omega arith; waits = refl; first = λ k p q s. p }
 begins table sorted r (suc m) i e =
-    elim (decLt (rowAt table i) r)
-    [ no h ↦ record { place = i; low = λ k p q. omega (arith, sorted i k p q); waits = refl; first = λ k p q s. p }
-    | yes l ↦
-        (let b = begins table sorted r m (suc i) (omega arith) in
-        record
-        { place = b .place
-        ; low = b .low
-        ; waits = from-skip table r i (omega arith) (λ q. omega arith) ∙ b .waits
-        ; first = λ k p q s. b .first k (after l k p s) q s
-        }) ]
+    elim (decLt (rowAt table i) r) [
+      | no h ↦ record { place = i; low = λ k p q. omega (arith, sorted i k p q); waits = refl; first = λ k p q s. p }
+      | yes l ↦
+          (let b = begins table sorted r m (suc i) (omega arith) in
+          record {
+            place = b .place;
+            low = b .low;
+            waits = from-skip table r i (omega arith) (λ q. omega arith) ∙ b .waits;
+            first = λ k p q s. b .first k (after l k p s) q s;
+          })
+    ]
   where
     after : rowAt table i < r → (k : ℕ) → i ≤ k → rowAt table k ≡ r → i < k
     after l k p s = elim (ℕ-discrete i k) [ yes same ↦ omega (arith, ap (rowAt table) same) | no d ↦ omega arith ]

@@ -27,15 +27,17 @@ module _ (high : ℕ) (rows times fixed floors lasts : List ℕ) (o : Ordered ro
   unfolding offerAt
   offer-is =
       let table = itemsOf rows times fixed floors in
-      elim (decLt i (length rows))
-      [ no h ↦ rw (le-ltb i (length rows) (omega arith), nothing-there (λ l. absurd (h l)))
-      | yes l ↦ elim (ℕ-discrete (getD rows i 0) r)
-      [ no h ↦ rw (lt-ltb i (length rows) l, ne-eqb (getD rows i 0) r h, nothing-there (λ _. h))
-      | yes e ↦
-          (let row : rowAt table i ≡ r = row-is rows times fixed floors i l ∙ e in
-          let last : getD lasts i 0 ≡ lastColumn high (from table r i) = lasts-are l ∙ ap (λ (s : ℕ). lastColumn high (from table s i)) row in
-          let head : from table r i ≡ record { place = i; item = itemAt table i } ∷ from table r (suc i) = from-head table r i (in-table rows times fixed floors l) row in
-          rw (lt-ltb i (length rows) l, eq-eqb (getD rows i 0) r e, last, head, fixed-is rows times fixed floors i l, floor-is rows times fixed floors i l)) ] ]
+      elim (decLt i (length rows)) [
+        | no h ↦ rw (le-ltb i (length rows) (omega arith), nothing-there (λ l. absurd (h l)))
+        | yes l ↦ elim (ℕ-discrete (getD rows i 0) r) [
+          | no h ↦ rw (lt-ltb i (length rows) l, ne-eqb (getD rows i 0) r h, nothing-there (λ _. h))
+          | yes e ↦
+              (let row : rowAt table i ≡ r = row-is rows times fixed floors i l ∙ e in
+              let last : getD lasts i 0 ≡ lastColumn high (from table r i) = lasts-are l ∙ ap (λ (s : ℕ). lastColumn high (from table s i)) row in
+              let head : from table r i ≡ record { place = i; item = itemAt table i } ∷ from table r (suc i) = from-head table r i (in-table rows times fixed floors l) row in
+              rw (lt-ltb i (length rows) l, eq-eqb (getD rows i 0) r e, last, head, fixed-is rows times fixed floors i l, floor-is rows times fixed floors i l))
+        ]
+      ]
 
 pub offer-fixed : (f g : Bool) (l : ℕ) → offerBy true f g l ≡ Fixed → f ≡ true
 offer-fixed true g l e = refl

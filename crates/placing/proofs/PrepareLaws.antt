@@ -39,9 +39,9 @@ module _ (rows times fixed floors : List ℕ) where
 
 pub prepared-start : (high : ℕ) (rows fixed lasts next : List ℕ) → PrepareAsks high rows fixed lasts next → Prepared high (length rows) rows fixed lasts next
 prepared-start high rows fixed lasts next p =
-    record
-    { lasts-are = λ k l m times floors. absurd (past k l m)
-    ; begins = λ r l times floors. rw (p .next-past r l) (at-end r times floors)
+    record {
+      lasts-are = λ k l m times floors. absurd (past k l m);
+      begins = λ r l times floors. rw (p .next-past r l) (at-end r times floors);
     }
   where
     past : (k : ℕ) → length rows ≤ k → k < length rows → ⊥
@@ -49,12 +49,12 @@ prepared-start high rows fixed lasts next p =
 
     at-end : (r : ℕ) (times floors : List ℕ) → BeginsAt (itemsOf rows times fixed floors) r (length rows) (length rows)
     at-end r times floors =
-        record
-        { after = omega arith
-        ; within = rw length-items (omega arith)
-        ; there = λ l. absurd (past (length rows) (omega arith) (in-rows rows times fixed floors l))
-        ; low = λ k l m. absurd (past k l (in-rows rows times fixed floors m))
-        ; waits = refl
+        record {
+          after = omega arith;
+          within = rw length-items (omega arith);
+          there = λ l. absurd (past (length rows) (omega arith) (in-rows rows times fixed floors l));
+          low = λ k l m. absurd (past k l (in-rows rows times fixed floors m));
+          waits = refl;
         }
 
 abbrev pub behindOf : ℕ → List ℕ → List ℕ → ℕ → ℕ
@@ -71,11 +71,12 @@ module _ (high : ℕ) (rows fixed lasts next : List ℕ) (o : Ordered rows) (k :
         let j = getD next r 0 in
         let table = itemsOf rows times fixed floors in
         let b : BeginsAt table r (suc k) j = p .begins r (o .four k l) times floors in
-        elim (decLt j (length rows))
-        [ yes m ↦
-            (let same : rowAt table j ≡ r = b .there (in-table rows times fixed floors m) in
-            rw (lt-ltb j (length rows) m, b .waits) (p .lasts-are j (b .after) m times floors ∙ ap (λ (s : ℕ). lastColumn high (from table s j)) same))
-        | no h ↦ rw (le-ltb j (length rows) (omega arith), b .waits, from-end table r j (rw length-items (omega arith)), last-none) (omega arith) ]
+        elim (decLt j (length rows)) [
+          | yes m ↦
+              (let same : rowAt table j ≡ r = b .there (in-table rows times fixed floors m) in
+              rw (lt-ltb j (length rows) m, b .waits) (p .lasts-are j (b .after) m times floors ∙ ap (λ (s : ℕ). lastColumn high (from table s j)) same))
+          | no h ↦ rw (le-ltb j (length rows) (omega arith), b .waits, from-end table r j (rw length-items (omega arith)), last-none) (omega arith)
+        ]
 
     last-is : lastOf (getD fixed k 0) (behindOf high rows lasts (getD next (getD rows k 0) 0)) ≡ lastColumn high (from (itemsOf rows times fixed floors) (getD rows k 0) k)
     last-is =
@@ -84,41 +85,44 @@ module _ (high : ℕ) (rows fixed lasts next : List ℕ) (o : Ordered rows) (k :
         let w : Waiting = record { place = k; item = itemAt table k } in
         let head : from table r k ≡ w ∷ from table r (suc k) = from-head table r k (in-table rows times fixed floors l) (row-is rows times fixed floors k l) in
         let its = fixed-is rows times fixed floors k l in
-        elim (ℕ-discrete (getD fixed k 0) 0)
-        [ yes e ↦ rw (eq-eqb (getD fixed k 0) 0 e, behind-is, head, last-free high w (from table r (suc k)) (its ∙ e))
-        | no h ↦ rw (ne-eqb (getD fixed k 0) 0 h, head, last-fixed high w (from table r (suc k)) (λ e. h (sym its ∙ e)), its) ]
+        elim (ℕ-discrete (getD fixed k 0) 0) [
+          | yes e ↦ rw (eq-eqb (getD fixed k 0) 0 e, behind-is, head, last-free high w (from table r (suc k)) (its ∙ e))
+          | no h ↦ rw (ne-eqb (getD fixed k 0) 0 h, head, last-fixed high w (from table r (suc k)) (λ e. h (sym its ∙ e)), its)
+        ]
 
     begins-here : BeginsAt (itemsOf rows times fixed floors) (getD rows k 0) k k
     begins-here =
-        record
-        { after = omega arith
-        ; within = omega (arith, in-table rows times fixed floors l)
-        ; there = λ m. row-is rows times fixed floors k l
-        ; low = λ j q m. rw (← row-is rows times fixed floors k l) (sorted-table rows times fixed floors o k j q m)
-        ; waits = refl
+        record {
+          after = omega arith;
+          within = omega (arith, in-table rows times fixed floors l);
+          there = λ m. row-is rows times fixed floors k l;
+          low = λ j q m. rw (← row-is rows times fixed floors k l) (sorted-table rows times fixed floors o k j q m);
+          waits = refl;
         }
 
     begins-else : (s j : ℕ) → s ≢ getD rows k 0 → BeginsAt (itemsOf rows times fixed floors) s (suc k) j → BeginsAt (itemsOf rows times fixed floors) s k j
     begins-else s j h b =
-        record
-        { after = omega (arith, b .after)
-        ; within = b .within
-        ; there = b .there
-        ; low = b .low
-        ; waits = from-skip (itemsOf rows times fixed floors) s k (in-table rows times fixed floors l) (λ e. h (sym e ∙ row-is rows times fixed floors k l)) ∙ b .waits
+        record {
+          after = omega (arith, b .after);
+          within = b .within;
+          there = b .there;
+          low = b .low;
+          waits = from-skip (itemsOf rows times fixed floors) s k (in-table rows times fixed floors l) (λ e. h (sym e ∙ row-is rows times fixed floors k l)) ∙ b .waits;
         }
 
   -- The turn.
   pub prepared-more : length rows ≤ length lasts → length next ≡ 4
       → Prepared high k rows fixed (set lasts k (lastOf (getD fixed k 0) (behindOf high rows lasts (getD next (getD rows k 0) 0)))) (set next (getD rows k 0) k)
   prepared-more long four =
-      record
-      { lasts-are = λ j q m times floors. elim (ℕ-discrete j k)
-        [ yes e ↦ subst (λ (i : ℕ). getD (set lasts k (lastOf (getD fixed k 0) (behindOf high rows lasts (getD next (getD rows k 0) 0)))) i 0 ≡ lastColumn high (from (itemsOf rows times fixed floors) (rowAt (itemsOf rows times fixed floors) i) i)) (sym e)
-          (getD-set-same lasts k _ 0 (omega arith) ∙ last-is times floors ∙ ap (λ (s : ℕ). lastColumn high (from (itemsOf rows times fixed floors) s k)) (sym (row-is rows times fixed floors k l)))
-        | no d ↦ getD-set-other lasts k j _ 0 d ∙ p .lasts-are j (omega arith) m times floors ]
-      ; begins = λ s q times floors. elim (ℕ-discrete s (getD rows k 0))
-        [ yes e ↦ subst (λ (i : ℕ). BeginsAt (itemsOf rows times fixed floors) i k (getD (set next (getD rows k 0) k) i 0)) (sym e)
-          (rw (getD-set-same next (getD rows k 0) k 0 (omega (arith, o .four k l))) (begins-here times floors))
-        | no d ↦ rw (getD-set-other next (getD rows k 0) s k 0 d) (begins-else times floors s (getD next s 0) d (p .begins s q times floors)) ]
+      record {
+        lasts-are = λ j q m times floors. elim (ℕ-discrete j k) [
+          | yes e ↦ subst (λ (i : ℕ). getD (set lasts k (lastOf (getD fixed k 0) (behindOf high rows lasts (getD next (getD rows k 0) 0)))) i 0 ≡ lastColumn high (from (itemsOf rows times fixed floors) (rowAt (itemsOf rows times fixed floors) i) i)) (sym e)
+              (getD-set-same lasts k _ 0 (omega arith) ∙ last-is times floors ∙ ap (λ (s : ℕ). lastColumn high (from (itemsOf rows times fixed floors) s k)) (sym (row-is rows times fixed floors k l)))
+          | no d ↦ getD-set-other lasts k j _ 0 d ∙ p .lasts-are j (omega arith) m times floors
+        ];
+        begins = λ s q times floors. elim (ℕ-discrete s (getD rows k 0)) [
+          | yes e ↦ subst (λ (i : ℕ). BeginsAt (itemsOf rows times fixed floors) i k (getD (set next (getD rows k 0) k) i 0)) (sym e)
+              (rw (getD-set-same next (getD rows k 0) k 0 (omega (arith, o .four k l))) (begins-here times floors))
+          | no d ↦ rw (getD-set-other next (getD rows k 0) s k 0 d) (begins-else times floors s (getD next s 0) d (p .begins s q times floors))
+        ];
       }

@@ -37,10 +37,10 @@ fit : (low high : ℕ) (table : List Item) → tableFits low high table ≡ true
 unfolding tableFits
 fit low high table e =
     let t = both-true (leb (length table) 64 && boundsFit low high) (itemsFit low high 0 0 table) e in
-    record
-    { bounds = leb-true low high (both-true (leb low high) (leb high 1_000_000) (both-true (leb (length table) 64) (boundsFit low high) (t .0) .1) .0)
-    ; sorted = rows-rise low high 0 0 table (t .1)
-    ; four = rows-four low high 0 0 table (t .1)
+    record {
+      bounds = leb-true low high (both-true (leb low high) (leb high 1_000_000) (both-true (leb (length table) 64) (boundsFit low high) (t .0) .1) .0);
+      sorted = rows-rise low high 0 0 table (t .1);
+      four = rows-four low high 0 0 table (t .1);
     }
 
 module _ (low high : ℕ) (table : List Item) (f : Fit low high table) where
@@ -69,22 +69,22 @@ module _ (low high : ℕ) (table : List Item) (f : Fit low high table) where
   split-begun : (columns : List ℕ) → KeepsRules low high table columns → Split table columns (suc low) first-next
   unfolding first-next
   split-begun columns keeps =
-      record
-      { lows = λ r. begin r .low
-      ; past = λ k l p. omega (arith, none-before k l)
-      ; ahead = λ k l p. keeps .inside k l .0
+      record {
+        lows = λ r. begin r .low;
+        past = λ k l p. omega (arith, none-before k l);
+        ahead = λ k l p. keeps .inside k l .0;
       }
 
   good-begun : Good table low (suc low) first-next (replicate (length table) 0)
   unfolding first-next
   good-begun =
-      record
-      { one-each = length-replicate (length table) 0
-      ; lows = λ r. begin r .low
-      ; inside = λ k l p. omega (arith, none-before k l)
-      ; may = λ k l p. absurd (never k l p)
-      ; distinct = λ j k o l p q. absurd (never k l q)
-      ; rising = λ j k o l p e. omega (arith, none-before k l)
+      record {
+        one-each = length-replicate (length table) 0;
+        lows = λ r. begin r .low;
+        inside = λ k l p. omega (arith, none-before k l);
+        may = λ k l p. absurd (never k l p);
+        distinct = λ j k o l p q. absurd (never k l q);
+        rising = λ j k o l p e. omega (arith, none-before k l);
       }
     where
       never : (k : ℕ) → k < length table → k < first-next (rowAt table k) → ⊥
@@ -111,9 +111,10 @@ accepted low high table e a = sound low high table (fit low high table e) (not-f
 -- A table is refused for want of a placing if and only if no list of columns keeps the rules.
 pub none-exists : (low high : ℕ) (table : List Item) → tableFits low high table ≡ true → (unplaceable low high table ≡ true) ↔ ((columns : List ℕ) → ¬ KeepsRules low high table columns)
 unfolding unplaceable
-none-exists low high table e =
-    (λ a columns keeps. true≢false (sym (complete low high table (fit low high table e) columns keeps) ∙ not-true (noneWait (walked low high table .waiting)) a),
-    λ never. waits (noneWait (walked low high table .waiting)) refl never)
+none-exists low high table e = (
+  λ a columns keeps. true≢false (sym (complete low high table (fit low high table e) columns keeps) ∙ not-true (noneWait (walked low high table .waiting)) a),
+  λ never. waits (noneWait (walked low high table .waiting)) refl never,
+)
   where
     waits : (b : Bool) → noneWait (walked low high table .waiting) ≡ b → ((columns : List ℕ) → ¬ KeepsRules low high table columns) → not b ≡ true
     waits false q never = refl
@@ -128,11 +129,12 @@ module _ (low high : ℕ) (rows times fixed floors columns : List ℕ) where
   pub answers-none : (answer low high rows times fixed floors columns ≡ 24)
       ↔ ((malformed low high rows times fixed floors ≡ false) × (length rows ≤ length columns) × ((cs : List ℕ) → ¬ KeepsRules low high (itemsOf rows times fixed floors) cs))
   unfolding answer
-  answers-none =
-      (λ e.
-      (let t = first-none (malformed low high rows times fixed floors) (ltb (length columns) (length rows)) (unplaceable low high (itemsOf rows times fixed floors)) e in
-      (t .0, ltb-false (length columns) (length rows) (t .1), none-exists low high (itemsOf rows times fixed floors) (formed (t .0)) .0 (t .2))),
-      λ h. rw (h .0, le-ltb (length columns) (length rows) (h .1), none-exists low high (itemsOf rows times fixed floors) (formed (h .0)) .1 (h .2)))
+  answers-none = (
+    λ e.
+        (let t = first-none (malformed low high rows times fixed floors) (ltb (length columns) (length rows)) (unplaceable low high (itemsOf rows times fixed floors)) e in
+        (t .0, ltb-false (length columns) (length rows) (t .1), none-exists low high (itemsOf rows times fixed floors) (formed (t .0)) .0 (t .2))),
+    λ h. rw (h .0, le-ltb (length columns) (length rows) (h .1), none-exists low high (itemsOf rows times fixed floors) (formed (h .0)) .1 (h .2)),
+  )
 
   -- Where the answer is 0, the columns left keep the rules.
   pub answers-zero : answer low high rows times fixed floors columns ≡ 0 → KeepsRules low high (itemsOf rows times fixed floors) (take (length rows) (columnsLeft low high rows times fixed floors columns))
@@ -140,6 +142,8 @@ module _ (low high : ℕ) (rows times fixed floors columns : List ℕ) where
   answers-zero e =
       let t = first-zero (malformed low high rows times fixed floors) (ltb (length columns) (length rows)) (unplaceable low high (itemsOf rows times fixed floors)) e in
       let keeps = accepted low high (itemsOf rows times fixed floors) (formed (t .0)) (t .2) in
-      rw (left-accepted low high rows times fixed floors columns e,
-      take-at (chosenColumns low high (itemsOf rows times fixed floors)) (drop (length rows) columns) (length rows) (keeps .one-each ∙ length-items rows times fixed floors))
+      rw (
+        left-accepted low high rows times fixed floors columns e,
+        take-at (chosenColumns low high (itemsOf rows times fixed floors)) (drop (length rows) columns) (length rows) (keeps .one-each ∙ length-items rows times fixed floors),
+      )
       keeps

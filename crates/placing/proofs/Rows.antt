@@ -55,11 +55,13 @@ module _ (table : List Item) where
     -- Where a row waits from place i on, its first waits at i.
     pub from-some : (r i : ℕ) {w : Waiting} {ws : List Waiting} → Low table r i → from table r i ≡ w ∷ ws → (i < length table) × (rowAt table i ≡ r)
     from-some r i {w} {ws} low e =
-        elim (decLt i (length table))
-        [ no past ↦ absurd (nil-cons (sym (from-none r i low (λ l. absurd (past l))) ∙ e))
-        | yes l ↦ elim (ℕ-discrete (rowAt table i) r)
-        [ yes same ↦ (l, same)
-        | no other ↦ absurd (nil-cons (sym (from-none r i low (λ _. other)) ∙ e)) ] ]
+        elim (decLt i (length table)) [
+          | no past ↦ absurd (nil-cons (sym (from-none r i low (λ l. absurd (past l))) ∙ e))
+          | yes l ↦ elim (ℕ-discrete (rowAt table i) r) [
+            | yes same ↦ (l, same)
+            | no other ↦ absurd (nil-cons (sym (from-none r i low (λ _. other)) ∙ e))
+          ]
+        ]
 
     -- An item of the row from place i on waits there.
     pub from-waits : (r i k : ℕ) → Low table r i → i ≤ k → k < length table → rowAt table k ≡ r → from table r i ≡ [] → ⊥

@@ -32,24 +32,24 @@ pub record Good (table : List Item) (low c : ℕ) (next : ℕ → ℕ) (columns 
 module _ (table : List Item) (low : ℕ) where
   later : (c : ℕ) (next : ℕ → ℕ) (columns : List ℕ) → Good table low c next columns → Good table low (suc c) next columns
   later c next columns g =
-      record
-      { one-each = g .one-each
-      ; lows = g .lows
-      ; inside = λ k l p. omega (arith, g .inside k l p .0, g .inside k l p .1)
-      ; may = g .may
-      ; distinct = g .distinct
-      ; rising = g .rising
+      record {
+        one-each = g .one-each;
+        lows = g .lows;
+        inside = λ k l p. omega (arith, g .inside k l p .0, g .inside k l p .1);
+        may = g .may;
+        distinct = g .distinct;
+        rising = g .rising;
       }
 
   all-placed : (high : ℕ) (next : ℕ → ℕ) (columns : List ℕ) → Good table low (suc high) next columns → ((k : ℕ) → k < length table → k < next (rowAt table k)) → KeepsRules low high table columns
   all-placed high next columns g all =
-      record
-      { one-each = g .one-each
-      ; inside = λ k l. omega (arith, g .inside k l (all k l) .0, g .inside k l (all k l) .1)
-      ; distinct = λ j k p l. g .distinct j k p l (all j (omega arith)) (all k l)
-      ; rising = λ j k p l e. g .rising j k p l (all k l) e
-      ; fixed = λ k l h. is-fixed k h (g .may k l (all k l))
-      ; free = λ k l e. is-free k e (g .may k l (all k l))
+      record {
+        one-each = g .one-each;
+        inside = λ k l. omega (arith, g .inside k l (all k l) .0, g .inside k l (all k l) .1);
+        distinct = λ j k p l. g .distinct j k p l (all j (omega arith)) (all k l);
+        rising = λ j k p l e. g .rising j k p l (all k l) e;
+        fixed = λ k l h. is-fixed k h (g .may k l (all k l));
+        free = λ k l e. is-free k e (g .may k l (all k l));
       }
     where
       is-fixed : (k : ℕ) {c : ℕ} → itemAt table k .fixed ≢ 0 → May (itemAt table k) c → c ≡ itemAt table k .fixed
@@ -65,11 +65,16 @@ module _ (table : List Item) (low : ℕ) where
     -- An item that stands before its row's next place is the one just placed, or stood there before.
     now-placed : (j : ℕ) → j < length table → j < gone table next k (rowAt table j) → (j ≡ k) ⊎ ((j ≢ k) × (j < next (rowAt table j)))
     now-placed j m p =
-        elim (ℕ-discrete j k)
-        [ yes e ↦ inl e
-        | no d ↦ inr (d, elim (ℕ-discrete (rowAt table j) (rowAt table k))
-        [ yes e ↦ (let moved = changed-there next (rowAt table k) (suc k) (rowAt table j) e in let same : next (rowAt table j) ≡ k = ap next e ∙ its in omega arith)
-        | no h ↦ rw (changed-else next (rowAt table k) (suc k) (rowAt table j) h) at p ]) ]
+        elim (ℕ-discrete j k) [
+          | yes e ↦ inl e
+          | no d ↦ inr (
+            d,
+            elim (ℕ-discrete (rowAt table j) (rowAt table k)) [
+              | yes e ↦ (let moved = changed-there next (rowAt table k) (suc k) (rowAt table j) e in let same : next (rowAt table j) ≡ k = ap next e ∙ its in omega arith)
+              | no h ↦ rw (changed-else next (rowAt table k) (suc k) (rowAt table j) h) at p
+            ],
+          )
+        ]
 
     here : (j : ℕ) → j ≡ k → getD (set columns k c) j 0 ≡ c
     here j e = ap (λ (i : ℕ). getD (set columns k c) i 0) e ∙ getD-set-same columns k c 0 (rw (g .one-each) l)
@@ -99,13 +104,13 @@ module _ (table : List Item) (low : ℕ) where
 
     pub one-placed : Good table low (suc c) (gone table next k) (set columns k c)
     one-placed =
-        record
-        { one-each = length-set columns k c ∙ g .one-each
-        ; lows = gone-low table sorted next k l (g .lows)
-        ; inside = λ j m p. ⊎-elim (λ e. omega (arith, here j e)) (λ d. omega (arith, there j (d .0), g .inside j m (d .1) .0, g .inside j m (d .1) .1)) (now-placed j m p)
-        ; may = λ j m p. kept-may j m (now-placed j m p)
-        ; distinct = λ i j o m p q. kept-distinct i j o m (now-placed i (omega arith) p) (now-placed j m q)
-        ; rising = λ i j o m q e. kept-rising i j o m e (now-placed j m q)
+        record {
+          one-each = length-set columns k c ∙ g .one-each;
+          lows = gone-low table sorted next k l (g .lows);
+          inside = λ j m p. ⊎-elim (λ e. omega (arith, here j e)) (λ d. omega (arith, there j (d .0), g .inside j m (d .1) .0, g .inside j m (d .1) .1)) (now-placed j m p);
+          may = λ j m p. kept-may j m (now-placed j m p);
+          distinct = λ i j o m p q. kept-distinct i j o m (now-placed i (omega arith) p) (now-placed j m q);
+          rising = λ i j o m q e. kept-rising i j o m e (now-placed j m q);
         }
 
   module _ (sorted : Sorted table) (high : ℕ) where
@@ -131,19 +136,21 @@ module _ (table : List Item) (low : ℕ) where
             let its : next (rowAt table k) ≡ k = ap next same in
             let first : w ≡ record { place = k; item = itemAt table k } = cons-first (sym there ∙ from-head table a k l same) in
             let takes : Takes (rowOf (s .waiting)) a (record { place = k; item = itemAt table k }) (rows-at table (gone table next k)) =
-                  subst₂ (λ (R : Rows) (r : ℕ). Takes R r (record { place = k; item = itemAt table k }) (rows-at table (gone table next k))) (sym waits) same (gone-takes table next k l its) in
-            rw (took c a s e)
-            (gone table next k,
-            same-rows a (set-takes (s .waiting) a w ws e) takes,
-            rw (ap (λ (x : Waiting). x .place) first) (one-placed sorted c next (s .columns) g above k l its (subst (λ (x : Waiting). May (x .item) c) first may)))
+            subst₂ (λ (R : Rows) (r : ℕ). Takes R r (record { place = k; item = itemAt table k }) (rows-at table (gone table next k))) (sym waits) same (gone-takes table next k l its) in
+            rw (took c a s e) (
+              gone table next k,
+              same-rows a (set-takes (s .waiting) a w ws e) takes,
+              rw (ap (λ (x : Waiting). x .place) first) (one-placed sorted c next (s .columns) g above k l its (subst (λ (x : Waiting). May (x .item) c) first may)),
+            )
 
     pub walk-keeps : (n c : ℕ) (s : Walk) (next : ℕ → ℕ) → c ≢ 0 → low < c → n + c ≡ suc high → rowOf (s .waiting) ≡ rows-at table next → Good table low c next (s .columns) → noneWait (walk high n c s .waiting) ≡ true → KeepsRules low high table (walk high n c s .columns)
     walk-keeps zero c s next pos above ends waits g empty =
         let e : c ≡ suc high = omega arith in
         all-placed high next (s .columns) (rw e at g) λ k l.
-        elim (decLt k (next (rowAt table k)))
-        [ yes p ↦ p
-        | no h ↦ absurd (from-waits table sorted (rowAt table k) (next (rowAt table k)) k (g .lows (rowAt table k)) (omega arith) l refl (sym (ap (λ (R : Rows). R (rowAt table k)) waits) ∙ none-waits (s .waiting) empty (rowAt table k))) ]
+        elim (decLt k (next (rowAt table k))) [
+          | yes p ↦ p
+          | no h ↦ absurd (from-waits table sorted (rowAt table k) (next (rowAt table k)) k (g .lows (rowAt table k)) (omega arith) l refl (sym (ap (λ (R : Rows). R (rowAt table k)) waits) ∙ none-waits (s .waiting) empty (rowAt table k)))
+        ]
     walk-keeps (suc n) c s next pos above ends waits g empty =
         let (next′, waits′, g′) = column-keeps c s next pos above waits g (chosenRow high c (s .waiting)) (choice-says high c (s .waiting)) in
         walk-keeps n (suc c) (placeIn c (chosenRow high c (s .waiting)) s) next′ (λ z. omega arith) (omega arith) (omega arith) waits′ g′ empty

@@ -83,12 +83,12 @@ module _ {low high : ℕ} {rows fixed floors lasts next₀ work₀ next work : L
     pub turn-nothing : o ≡ Nothing → Searching high rows fixed floors next c chosen best (r + 1)
     unfolding rowNow
     turn-nothing e =
-        record
-        { within = omega arith
-        ; chosen-within = s .chosen-within
-        ; searched = λ times.
-          (let t = offer-nothing (fixedHere c (rowNow times)) (freeHere c (rowNow times)) (lastColumn high (rowNow times)) (sym (offers times) ∙ e) in
-          search-nothing high c (rowsNow (itemsOf rows times fixed floors) next) r chosen best (there times) (s .searched times) (t .0) (t .1))
+        record {
+          within = omega arith;
+          chosen-within = s .chosen-within;
+          searched = λ times.
+              (let t = offer-nothing (fixedHere c (rowNow times)) (freeHere c (rowNow times)) (lastColumn high (rowNow times)) (sym (offers times) ∙ e) in
+              search-nothing high c (rowsNow (itemsOf rows times fixed floors) next) r chosen best (there times) (s .searched times) (t .0) (t .1));
         }
 
     module _ (last : ℕ) (e : o ≡ Free last) where
@@ -98,12 +98,12 @@ module _ {low high : ℕ} {rows fixed floors lasts next₀ work₀ next work : L
       pub turn-take : (eqb chosen 4 || ltb last best) ≡ true → Searching high rows fixed floors next c r last (r + 1)
       unfolding rowNow
       turn-take t =
-          record
-          { within = omega arith
-          ; chosen-within = omega arith
-          ; searched = λ times.
-            (let f = free-row times in
-            search-take high c (rowsNow (itemsOf rows times fixed floors) next) r chosen best (there times) (s .searched times) (f .0) (f .1) last (f .2) (λ q. omega arith) (wins (either (eqb chosen 4) (ltb last best) t)))
+          record {
+            within = omega arith;
+            chosen-within = omega arith;
+            searched = λ times.
+                (let f = free-row times in
+                search-take high c (rowsNow (itemsOf rows times fixed floors) next) r chosen best (there times) (s .searched times) (f .0) (f .1) last (f .2) (λ q. omega arith) (wins (either (eqb chosen 4) (ltb last best) t)));
           }
         where
           wins : (eqb chosen 4 ≡ true) ⊎ (ltb last best ≡ true) → (chosen ≡ 4) ⊎ (last < best)
@@ -113,13 +113,13 @@ module _ {low high : ℕ} {rows fixed floors lasts next₀ work₀ next work : L
       pub turn-keep : (eqb chosen 4 || ltb last best) ≡ false → Searching high rows fixed floors next c chosen best (r + 1)
       unfolding rowNow
       turn-keep t =
-          record
-          { within = omega arith
-          ; chosen-within = s .chosen-within
-          ; searched = λ times.
-            (let f = free-row times in
-            let n = neither (eqb chosen 4) (ltb last best) t in
-            search-keep high c (rowsNow (itemsOf rows times fixed floors) next) r chosen best (there times) (s .searched times) (f .0) (f .1) last (f .2) (eqb-false chosen 4 (n .0)) (ltb-false last best (n .1)))
+          record {
+            within = omega arith;
+            chosen-within = s .chosen-within;
+            searched = λ times.
+                (let f = free-row times in
+                let n = neither (eqb chosen 4) (ltb last best) t in
+                search-keep high c (rowsNow (itemsOf rows times fixed floors) next) r chosen best (there times) (s .searched times) (f .0) (f .1) last (f .2) (eqb-false chosen 4 (n .0)) (ltb-false last best (n .1)));
           }
 
   stepOf : (a : ℕ) → a < 4 → Chosen high rows fixed floors next c (some a) → (times : List ℕ) → Step (itemsOf rows times fixed floors) next work a c
@@ -133,34 +133,34 @@ module _ {low high : ℕ} {rows fixed floors lasts next₀ work₀ next work : L
       → Walking low high rows fixed floors lasts next₀ work₀ (set next a (getD next a 0 + 1)) (set work (getD next a 0) c) (left - 1) (c + 1)
   unfolding view
   column-taken a l q e =
-      record
-      { asks = w .asks
-      ; above = omega (arith, w .above)
-      ; within = omega arith
-      ; next-long = length-set next a (getD next a 0 + 1) ∙ w .next-long
-      ; work-long = length-set work (getD next a 0) c ∙ w .work-long
-      ; lows = λ times. stepOf a l e times .lows
-      ; left-is = λ times. omega (arith, w .left-is times, stepOf a l e times .fewer)
-      ; same = λ times.
-        (let s = view (itemsOf rows times fixed floors) next work in
-        w .same times ∙ walk-more high c s q ∙ ap (λ (o : Option ℕ). walk high (suc high - (c + 1)) (c + 1) (placeIn c o s)) (e times) ∙ ap (walk high (suc high - (c + 1)) (c + 1)) (stepOf a l e times .placed))
+      record {
+        asks = w .asks;
+        above = omega (arith, w .above);
+        within = omega arith;
+        next-long = length-set next a (getD next a 0 + 1) ∙ w .next-long;
+        work-long = length-set work (getD next a 0) c ∙ w .work-long;
+        lows = λ times. stepOf a l e times .lows;
+        left-is = λ times. omega (arith, w .left-is times, stepOf a l e times .fewer);
+        same = λ times.
+            (let s = view (itemsOf rows times fixed floors) next work in
+            w .same times ∙ walk-more high c s q ∙ ap (λ (o : Option ℕ). walk high (suc high - (c + 1)) (c + 1) (placeIn c o s)) (e times) ∙ ap (walk high (suc high - (c + 1)) (c + 1)) (stepOf a l e times .placed));
       }
 
   -- A column left empty.
   pub column-empty : c ≤ high → Chosen high rows fixed floors next c none → Walking low high rows fixed floors lasts next₀ work₀ next work left (c + 1)
   unfolding view
   column-empty q e =
-      record
-      { asks = w .asks
-      ; above = omega (arith, w .above)
-      ; within = omega arith
-      ; next-long = w .next-long
-      ; work-long = w .work-long
-      ; lows = w .lows
-      ; left-is = w .left-is
-      ; same = λ times.
-        (let s = view (itemsOf rows times fixed floors) next work in
-        w .same times ∙ walk-more high c s q ∙ ap (λ (o : Option ℕ). walk high (suc high - (c + 1)) (c + 1) (placeIn c o s)) (e times))
+      record {
+        asks = w .asks;
+        above = omega (arith, w .above);
+        within = omega arith;
+        next-long = w .next-long;
+        work-long = w .work-long;
+        lows = w .lows;
+        left-is = w .left-is;
+        same = λ times.
+            (let s = view (itemsOf rows times fixed floors) next work in
+            w .same times ∙ walk-more high c s q ∙ ap (λ (o : Option ℕ). walk high (suc high - (c + 1)) (c + 1) (placeIn c o s)) (e times));
       }
 
   finished : (leb c high && ltb 0 left) ≡ false → (times : List ℕ) → walked low high (itemsOf rows times fixed floors) ≡ view (itemsOf rows times fixed floors) next work
@@ -183,9 +183,9 @@ module _ {low high : ℕ} {rows fixed floors lasts next₀ work₀ next work : L
   pub walking-done : (leb c high && ltb 0 left) ≡ false → WalkGives low high rows fixed floors (eqb left 0) work
   unfolding view
   walking-done e =
-      record
-      { placed-is = λ times. ap (λ (n : ℕ). eqb n 0) (w .left-is times) ∙ none-total (rowsNow (itemsOf rows times fixed floors) next) ∙ ap (λ (s : Walk). noneWait (s .waiting)) (sym (finished e times))
-      ; columns-are = λ times. ap (λ (n : ℕ). take n work) (sym (length-items rows times fixed floors)) ∙ ap (λ (s : Walk). s .columns) (sym (finished e times))
+      record {
+        placed-is = λ times. ap (λ (n : ℕ). eqb n 0) (w .left-is times) ∙ none-total (rowsNow (itemsOf rows times fixed floors) next) ∙ ap (λ (s : Walk). noneWait (s .waiting)) (sym (finished e times));
+        columns-are = λ times. ap (λ (n : ℕ). take n work) (sym (length-items rows times fixed floors)) ∙ ap (λ (s : Walk). s .columns) (sym (finished e times));
       }
 
 rows-begun : (table : List Item) (next : List ℕ) → ((r : ℕ) → r < 4 → from table r 0 ≡ from table r (getD next r 0)) → rowsOf table ≡ rowsNow table next
@@ -196,16 +196,16 @@ rows-begun table next h = λ k. h 0 (omega arith) k ∷ h 1 (omega arith) k ∷ 
 pub walking-begun : (low high : ℕ) (rows fixed floors lasts next work : List ℕ) → WalkAsks low high rows fixed floors lasts next work → Walking low high rows fixed floors lasts next work next work (length rows) (low + 1)
 unfolding view walked begun
 walking-begun low high rows fixed floors lasts next work a =
-    record
-    { asks = a
-    ; above = omega arith
-    ; within = omega (arith, a .bounds)
-    ; next-long = a .next-long
-    ; work-long = a .work-long
-    ; lows = λ times r l. a .prepared .begins r l times floors .low
-    ; left-is = λ times.
-      sym (ap total (sym (rows-same times)) ∙ total-begun (itemsOf rows times fixed floors) (λ k l. rw (row-is rows times fixed floors k (in-rows rows times fixed floors l)) (a .ordered .four k (in-rows rows times fixed floors l))) ∙ length-items rows times fixed floors)
-    ; same = λ times. λ k. walk high (count k) (sym (add-one low) k) (record { waiting = rows-same times k; columns = clear times k })
+    record {
+      asks = a;
+      above = omega arith;
+      within = omega (arith, a .bounds);
+      next-long = a .next-long;
+      work-long = a .work-long;
+      lows = λ times r l. a .prepared .begins r l times floors .low;
+      left-is = λ times.
+          sym (ap total (sym (rows-same times)) ∙ total-begun (itemsOf rows times fixed floors) (λ k l. rw (row-is rows times fixed floors k (in-rows rows times fixed floors l)) (a .ordered .four k (in-rows rows times fixed floors l))) ∙ length-items rows times fixed floors);
+      same = λ times. λ k. walk high (count k) (sym (add-one low) k) (record { waiting = rows-same times k; columns = clear times k });
     }
   where
     rows-same : (times : List ℕ) → rowsOf (itemsOf rows times fixed floors) ≡ rowsNow (itemsOf rows times fixed floors) next
@@ -216,3 +216,8 @@ walking-begun low high rows fixed floors lasts next work a =
 
     clear : (times : List ℕ) → replicate (length (itemsOf rows times fixed floors)) 0 ≡ take (length (itemsOf rows times fixed floors)) work
     clear times = rw length-items (sym (a .work-clear))
+
+pub take-replicate : (n m x : ℕ) → n ≤ m → take n (replicate m x) ≡ replicate n x
+take-replicate zero m x l = refl
+take-replicate (suc n) zero x l = let no : ⊥ = omega arith in absurd no
+take-replicate (suc n) (suc m) x l = ap (λ (xs : List ℕ). x ∷ xs) (take-replicate n m x (omega arith))

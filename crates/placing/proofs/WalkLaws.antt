@@ -113,11 +113,12 @@ module _ (table : List Item) (sorted : Sorted table) (next work : List ℕ) (lon
     where
       same : (r : ℕ) → r < 4 → rowOf (rowsNow table (set next a v)) r ≡ rowOf (set (rowsNow table next) a (from table a v)) r
       same r m =
-          elim (ℕ-discrete r a)
-          [ yes e ↦ row-now table (set next a v) r m
-            ∙ subst (λ (i : ℕ). from table i (getD (set next a v) i 0) ≡ rowOf (set (rowsNow table next) a (from table a v)) i) (sym e)
-              (ap (from table a) (getD-set-same next a v 0 (omega arith)) ∙ sym (getD-set-same (rowsNow table next) a (from table a v) [] (omega (arith, length-now table next))))
-          | no h ↦ row-now table (set next a v) r m ∙ ap (from table r) (getD-set-other next a r v 0 h) ∙ sym (row-now table next r m) ∙ sym (getD-set-other (rowsNow table next) a r (from table a v) [] h) ]
+          elim (ℕ-discrete r a) [
+            | yes e ↦ row-now table (set next a v) r m
+                ∙ subst (λ (i : ℕ). from table i (getD (set next a v) i 0) ≡ rowOf (set (rowsNow table next) a (from table a v)) i) (sym e)
+                (ap (from table a) (getD-set-same next a v 0 (omega arith)) ∙ sym (getD-set-same (rowsNow table next) a (from table a v) [] (omega (arith, length-now table next))))
+            | no h ↦ row-now table (set next a v) r m ∙ ap (from table r) (getD-set-other next a r v 0 h) ∙ sym (row-now table next r m) ∙ sym (getD-set-other (rowsNow table next) a r (from table a v) [] h)
+          ]
 
   pub step : (high c a : ℕ) → a < 4 → chosenRow high c (rowsNow table next) ≡ some a → Step table next work a c
   unfolding view
@@ -130,12 +131,13 @@ module _ (table : List Item) (sorted : Sorted table) (next work : List ℕ) (lon
       let head : w ∷ ws ≡ record { place = i; item = itemAt table i } ∷ from table a (suc i) = sym there ∙ from-head table a i m row in
       let place : w .place ≡ i = ap (λ (x : Waiting). x .place) (cons-first head) in
       let moved : rowsNow table (set next a (i + 1)) ≡ set (rowsNow table next) a ws = rows-set a (i + 1) l ∙ ap (λ (x : List Waiting). set (rowsNow table next) a x) (ap (from table a) (add-one i) ∙ sym (cons-rest head)) in
-      record
-      { inside = m
-      ; placed = took c a (view table next work) waits ∙ λ k. record { waiting = sym moved k; columns = (ap (λ (p : ℕ). set (take (length table) work) p c) place ∙ sym (take-set-lt (length table) work i c m)) k }
-      ; fewer = ap (λ (x : List (List Waiting)). suc (total x)) moved ∙ total-taken (rowsNow table next) a waits
-      ; lows = λ r q. elim (ℕ-discrete r a)
-        [ yes same ↦ subst (λ (s : ℕ). Low table s (getD (set next a (i + 1)) s 0)) (sym same)
-          (subst (λ (v : ℕ). Low table a v) (sym (getD-set-same next a (i + 1) 0 (omega arith) ∙ add-one i)) (subst (λ (s : ℕ). Low table s (suc i)) row (low-next table sorted i m)))
-        | no h ↦ rw (getD-set-other next a r (i + 1) 0 h) (lows r q) ]
+      record {
+        inside = m;
+        placed = took c a (view table next work) waits ∙ λ k. record { waiting = sym moved k; columns = (ap (λ (p : ℕ). set (take (length table) work) p c) place ∙ sym (take-set-lt (length table) work i c m)) k };
+        fewer = ap (λ (x : List (List Waiting)). suc (total x)) moved ∙ total-taken (rowsNow table next) a waits;
+        lows = λ r q. elim (ℕ-discrete r a) [
+          | yes same ↦ subst (λ (s : ℕ). Low table s (getD (set next a (i + 1)) s 0)) (sym same)
+              (subst (λ (v : ℕ). Low table a v) (sym (getD-set-same next a (i + 1) 0 (omega arith) ∙ add-one i)) (subst (λ (s : ℕ). Low table s (suc i)) row (low-next table sorted i m)))
+          | no h ↦ rw (getD-set-other next a r (i + 1) 0 h) (lows r q)
+        ];
       }

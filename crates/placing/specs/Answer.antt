@@ -30,6 +30,7 @@ answer low high rows times fixed floors columns = firstOf (malformed low high ro
 -- Accepted, the chosen columns, "places past their result unchanged"; refused, the columns as they came.
 unfoldable pub columnsLeft : ℕ → ℕ → List ℕ → List ℕ → List ℕ → List ℕ → List ℕ → List ℕ
 columnsLeft low high rows times fixed floors columns =
-    elim (eqb (answer low high rows times fixed floors columns) 0)
-    [ true ↦ chosenColumns low high (itemsOf rows times fixed floors) ++ drop (length rows) columns
-    | false ↦ columns ]
+    elim (eqb (answer low high rows times fixed floors columns) 0) [
+      | true ↦ chosenColumns low high (itemsOf rows times fixed floors) ++ drop (length rows) columns
+      | false ↦ columns
+    ]

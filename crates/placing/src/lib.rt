@@ -27,7 +27,14 @@ fn comes_after(row: u32, time: u32, its_row: u32, its_time: u32, fixed: u32, flo
 }
 
 // Whether every item is within its limits and comes after the one before it.
-fn items_fit(low: u32, high: u32, rows: &[u32], times: &[u32], fixed: &[u32], floors: &[u32]) -> bool
+fn items_fit(
+    low: u32,
+    high: u32,
+    rows: &[u32],
+    times: &[u32],
+    fixed: &[u32],
+    floors: &[u32],
+) -> bool
     requires { ⌜ (length (now times) ≡ length (now rows)) × (length (now fixed) ≡ length (now rows)) × (length (now floors) ≡ length (now rows)) ⌝ }
     ensures { λ r. ⌜ r ≡ itemsFit low high 0 0 (itemsOf (now (rows .entry)) (now (times .entry)) (now (fixed .entry)) (now (floors .entry))) ⌝ }
 {
@@ -51,7 +58,14 @@ fn items_fit(low: u32, high: u32, rows: &[u32], times: &[u32], fixed: &[u32], fl
 }
 
 // Whether the table is malformed: refusal 22.
-fn is_malformed(low: u32, high: u32, rows: &[u32], times: &[u32], fixed: &[u32], floors: &[u32]) -> bool
+fn is_malformed(
+    low: u32,
+    high: u32,
+    rows: &[u32],
+    times: &[u32],
+    fixed: &[u32],
+    floors: &[u32],
+) -> bool
     ensures { λ r. ⌜ r ≡ malformed low high (now (rows .entry)) (now (times .entry)) (now (fixed .entry)) (now (floors .entry)) ⌝ }
 {
     let n = rows.len();
@@ -77,11 +91,7 @@ fn last_behind(high: u32, lasts: &[u32], place: usize, n: usize) -> u32
     requires { ⌜ (n ≤ length (now lasts)) × (high ≤ 1_000_000) ⌝ }
     ensures { λ r. ⌜ r ≡ cond (ltb place n) (getD (now (lasts .entry)) place 0) (high + 1) ⌝ }
 {
-    if place < n {
-        lasts[place]
-    } else {
-        high + 1
-    }
+    if place < n { lasts[place] } else { high + 1 }
 }
 
 // An item's last column from that of the item behind it.
@@ -118,7 +128,15 @@ pub enum Offer {
 }
 
 // What row r, whose next place is i, offers column c.
-fn offered(rows: &[u32], fixed: &[u32], floors: &[u32], lasts: &[u32], r: usize, i: usize, c: u32) -> Offer
+fn offered(
+    rows: &[u32],
+    fixed: &[u32],
+    floors: &[u32],
+    lasts: &[u32],
+    r: usize,
+    i: usize,
+    c: u32,
+) -> Offer
     requires { ⌜ Aligned (now rows) (now fixed) (now floors) (now lasts) ⌝ }
     ensures { λ o. ⌜ o ≡ offerAt (now (rows .entry)) (now (fixed .entry)) (now (floors .entry)) (now (lasts .entry)) r i c ⌝ }
 {
@@ -136,7 +154,16 @@ fn offered(rows: &[u32], fixed: &[u32], floors: &[u32], lasts: &[u32], r: usize,
 }
 
 // The walk over the columns. Whether every item has its column, which then stands in `work` at its place.
-fn walk(low: u32, high: u32, rows: &[u32], fixed: &[u32], floors: &[u32], lasts: &[u32], next: &mut [usize], work: &mut [u32]) -> bool
+fn walk(
+    low: u32,
+    high: u32,
+    rows: &[u32],
+    fixed: &[u32],
+    floors: &[u32],
+    lasts: &[u32],
+    next: &mut [usize],
+    work: &mut [u32],
+) -> bool
     requires { ⌜ WalkAsks low high (now rows) (now fixed) (now floors) (now lasts) (now next) (now work) ⌝ }
     ensures { λ r. ⌜ WalkGives low high (now (rows .entry)) (now (fixed .entry)) (now (floors .entry)) r (now (work .exit)) ⌝ }
 {
@@ -189,11 +216,17 @@ fn copy(work: &[u32], n: usize, columns: &mut [u32])
 
 // Document 01's placing: the number answered, and on 0 the chosen columns in table order.
 #[no_mangle]
-pub extern "C" fn placing_place(low: u32, high: u32, rows: &[u32], times: &[u32], fixed: &[u32], floors: &[u32], columns: &mut [u32]) -> u32
-    ensures {
-        λ r. ⌜ (r ≡ answer low high (now (rows .entry)) (now (times .entry)) (now (fixed .entry)) (now (floors .entry)) (now (columns .entry)))
-            × (now (columns .exit) ≡ columnsLeft low high (now (rows .entry)) (now (times .entry)) (now (fixed .entry)) (now (floors .entry)) (now (columns .entry))) ⌝
-    }
+pub extern "C" fn placing_place(
+    low: u32,
+    high: u32,
+    rows: &[u32],
+    times: &[u32],
+    fixed: &[u32],
+    floors: &[u32],
+    columns: &mut [u32],
+) -> u32
+    ensures { λ r. ⌜ (r ≡ answer low high (now (rows .entry)) (now (times .entry)) (now (fixed .entry)) (now (floors .entry)) (now (columns .entry)))
+        × (now (columns .exit) ≡ columnsLeft low high (now (rows .entry)) (now (times .entry)) (now (fixed .entry)) (now (floors .entry)) (now (columns .entry))) ⌝ }
 {
     if is_malformed(low, high, rows, times, fixed, floors) {
         return 22;

@@ -87,13 +87,13 @@ loop-again c =
     let e : t .i ≡ suc k = omega arith in
     let l : k < length (a .rows .now) = omega arith in
     let p : Prepared (a .high) (suc k) (a .rows .now) (a .fixed .now) (t .lasts) (t .next) = rw e at (t .inv .prepared) in
-    record
-    { asks = t .inv .asks
-    ; within = omega arith
-    ; lasts-long = length-set (t .lasts) k (c .last-from .result) ∙ t .inv .lasts-long
-    ; next-long = length-set (t .next) (c .before .before .before .before .before .row-number .result) k ∙ t .inv .next-long
-    ; prepared = rw (c .last-from .ensures, c .before .before .last-behind .ensures, c .before .before .before .before .before .row-number .ensures)
-      (prepared-more (a .high) (a .rows .now) (a .fixed .now) (t .lasts) (t .next) (t .inv .asks .ordered) k l p (omega (arith, t .inv .asks .ordered .few)) (t .inv .next-long))
+    record {
+      asks = t .inv .asks;
+      within = omega arith;
+      lasts-long = length-set (t .lasts) k (c .last-from .result) ∙ t .inv .lasts-long;
+      next-long = length-set (t .next) (c .before .before .before .before .before .row-number .result) k ∙ t .inv .next-long;
+      prepared = rw (c .last-from .ensures, c .before .before .last-behind .ensures, c .before .before .before .before .before .row-number .ensures)
+          (prepared-more (a .high) (a .rows .now) (a .fixed .now) (t .lasts) (t .next) (t .inv .asks .ordered) k l p (omega (arith, t .inv .asks .ordered .few)) (t .inv .next-long));
     }
 
 same-length : tie.Need-same-length Inv-loop μ-loop

@@ -80,7 +80,7 @@ search-again c =
 -- The row that the search was left with is the walk's choice at the column.
 chosen-now : (c : tie.Left-search Inv-search μ-search Inv-columns μ-columns)
     → let a = c .before .before .before .before .before .before .before .before .before .before .args in
-      Chosen (a .high) (a .rows .now) (a .fixed .now) (a .floors .now) (c .before .before .before .columns .next) (c .before .before .before .columns .c) (choiceOf (c .search-test .chosen))
+    Chosen (a .high) (a .rows .now) (a .fixed .now) (a .floors .now) (c .before .before .before .columns .next) (c .before .before .before .columns .c) (choiceOf (c .search-test .chosen))
 chosen-now c =
     ⊎-elim
     (λ v. rw (v .1) (searching-ended (v .0 .left) (c .before .search .inv)))
@@ -92,7 +92,7 @@ chosen-small c = ⊎-elim (λ v. omega (arith, v .1, c .before .search .inv .cho
 
 taken-now : (c : tie.Left-search Inv-search μ-search Inv-columns μ-columns) → c .search-test .chosen < 4
     → let a = c .before .before .before .before .before .before .before .before .before .before .args in
-      Chosen (a .high) (a .rows .now) (a .fixed .now) (a .floors .now) (c .before .before .before .columns .next) (c .before .before .before .columns .c) (some (c .search-test .chosen))
+    Chosen (a .high) (a .rows .now) (a .fixed .now) (a .floors .now) (c .before .before .before .columns .next) (c .before .before .before .columns .c) (some (c .search-test .chosen))
 taken-now c l times = rw (ne-eqb (c .search-test .chosen) 4 (λ q. omega arith)) at (chosen-now c times)
 
 inside-now : (c : tie.Left-search Inv-search μ-search Inv-columns μ-columns) → c .search-test .chosen < 4 → getD (c .before .before .before .columns .next) (c .search-test .chosen) 0 < 64
