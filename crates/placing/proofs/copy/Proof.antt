@@ -31,22 +31,22 @@ loop-holds : tie.Need-loop-holds Inv-loop μ-loop
 loop-holds c = record { within = omega arith; same = refl; now = refl }
 
 mul-columns : tie.Need-mul-columns Inv-loop μ-loop
-mul-columns c = search needs
+mul-columns c = omega arith
 
 shared-slice-read-columns : tie.Need-shared-slice-read-columns Inv-loop μ-loop
-shared-slice-read-columns c = search needs
+shared-slice-read-columns c = omega arith
 
 mul-columns-2 : tie.Need-mul-columns-2 Inv-loop μ-loop
-mul-columns-2 c = search needs
+mul-columns-2 c = omega arith
 
 slice-write-columns : tie.Need-slice-write-columns Inv-loop μ-loop
-slice-write-columns c = search needs
+slice-write-columns c = omega arith
 
 add-i : tie.Need-add-i Inv-loop μ-loop
-add-i c = search needs
+add-i c = omega arith
 
 loop-less : tie.Need-loop-less Inv-loop μ-loop
-loop-less c = search needs
+loop-less c = omega arith
 
 loop-again : tie.Need-loop-again Inv-loop μ-loop
 loop-again c =

@@ -26,28 +26,28 @@ loop-holds : tie.Need-loop-holds Inv-loop μ-loop
 loop-holds c = (omega arith, refl)
 
 mul-its-row : tie.Need-mul-its-row Inv-loop μ-loop
-mul-its-row c = search needs
+mul-its-row c = omega arith
 
 shared-slice-read-its-row : tie.Need-shared-slice-read-its-row Inv-loop μ-loop
-shared-slice-read-its-row c = search needs
+shared-slice-read-its-row c = omega arith
 
 mul-its-time : tie.Need-mul-its-time Inv-loop μ-loop
-mul-its-time c = search needs
+mul-its-time c = omega arith
 
 shared-slice-read-its-time : tie.Need-shared-slice-read-its-time Inv-loop μ-loop
-shared-slice-read-its-time c = search needs
+shared-slice-read-its-time c = omega arith
 
 mul-its-fixed : tie.Need-mul-its-fixed Inv-loop μ-loop
-mul-its-fixed c = search needs
+mul-its-fixed c = omega arith
 
 shared-slice-read-its-fixed : tie.Need-shared-slice-read-its-fixed Inv-loop μ-loop
-shared-slice-read-its-fixed c = search needs
+shared-slice-read-its-fixed c = omega arith
 
 mul-its-floor : tie.Need-mul-its-floor Inv-loop μ-loop
-mul-its-floor c = search needs
+mul-its-floor c = omega arith
 
 shared-slice-read-its-floor : tie.Need-shared-slice-read-its-floor Inv-loop μ-loop
-shared-slice-read-its-floor c = search needs
+shared-slice-read-its-floor c = omega arith
 
 item-fits-requires : tie.Need-item-fits-requires Inv-loop μ-loop
 item-fits-requires c κs = search needs
@@ -56,10 +56,10 @@ comes-after-requires : tie.Need-comes-after-requires Inv-loop μ-loop
 comes-after-requires c κs = search needs
 
 add-i : tie.Need-add-i Inv-loop μ-loop
-add-i c = search needs
+add-i c = omega arith
 
 loop-less : tie.Need-loop-less Inv-loop μ-loop
-loop-less c = search needs
+loop-less c = omega arith
 
 loop-again : tie.Need-loop-again Inv-loop μ-loop
 loop-again c =

@@ -1,18 +1,18 @@
+use native.Mathlib.Omega.{arith}
 use borrow.Author.Tests.{lt-ltb, le-ltb}
-use borrow.Author.Needs.{needs}
 use Rattle.placing.proofs.last_behind.Statement.{statement}
 use Rattle.placing.proofs.last_behind.Tie as tie
 use Rattle.placing.proofs.last_behind.Reads as reads
 use Rattle.placing.proofs.last_behind.Lts as lts
 
 mul-result : tie.Need-mul-result
-mul-result c = search needs
+mul-result c = omega arith
 
 shared-slice-read-result : tie.Need-shared-slice-read-result
-shared-slice-read-result c = search needs
+shared-slice-read-result c = omega arith
 
 add-result : tie.Need-add-result
-add-result c = search needs
+add-result c = omega arith
 
 returns : tie.Need-returns
 returns c = rw (lt-ltb (c .before .before .args .place) (c .before .before .args .n) (c .before .if1 .taken))

@@ -1,11 +1,10 @@
 use native.Mathlib.Omega.{arith}
 use borrow.Author.Tests.{eq-eqb, ne-eqb, lt-ltb, le-ltb}
-use borrow.Author.Needs.{needs}
 use Rattle.placing.proofs.last_from.Statement.{statement}
 use Rattle.placing.proofs.last_from.Tie as tie
 
 sub-result : tie.Need-sub-result
-sub-result c = search needs
+sub-result c = omega arith
 
 returns : tie.Need-returns
 returns c = rw (eq-eqb (c .before .before .args .fixed) 0 (c .before .if1 .taken)) (omega arith)

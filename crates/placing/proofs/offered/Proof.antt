@@ -1,3 +1,4 @@
+use native.Mathlib.Omega.{arith}
 use mathlib.Core.Path.{sym, _∙_}
 use lib.ListN.{length, getD}
 use borrow.Author.Tests.{lt-ltb, le-ltb, eq-eqb, ne-eqb}
@@ -10,19 +11,19 @@ use Rattle.placing.proofs.offered.Lts as lts
 use Rattle.placing.proofs.row_number.Reads as row-number-reads
 
 mul-row-number : tie.Need-mul-row-number
-mul-row-number c = search needs
+mul-row-number c = omega arith
 
 shared-slice-read-row-number : tie.Need-shared-slice-read-row-number
-shared-slice-read-row-number c = search needs
+shared-slice-read-row-number c = omega arith
 
 row-number-requires : tie.Need-row-number-requires
 row-number-requires c κs = search needs
 
 mul-if3 : tie.Need-mul-if3
-mul-if3 c = search needs
+mul-if3 c = omega arith
 
 shared-slice-read-if3 : tie.Need-shared-slice-read-if3
-shared-slice-read-if3 c = search needs
+shared-slice-read-if3 c = omega arith
 
 returns : tie.Need-returns
 unfolding offerAt
@@ -31,22 +32,22 @@ returns c =
     rw (lt-ltb (a .i) (length (a .rows .now)) (c .before .before .before .before .before .if1 .taken), eq-eqb (getD (a .rows .now) (a .i) 0) (a .r) (sym (c .before .before .before .row-number .ensures) ∙ c .before .before .if2 .taken), eq-eqb (getD (a .fixed .now) (a .i) 0) (a .c) (c .if3 .taken))
 
 mul-if4 : tie.Need-mul-if4
-mul-if4 c = search needs
+mul-if4 c = omega arith
 
 shared-slice-read-if4 : tie.Need-shared-slice-read-if4
-shared-slice-read-if4 c = search needs
+shared-slice-read-if4 c = omega arith
 
 mul-if4-2 : tie.Need-mul-if4-2
-mul-if4-2 c = search needs
+mul-if4-2 c = omega arith
 
 shared-slice-read-if4-2 : tie.Need-shared-slice-read-if4-2
-shared-slice-read-if4-2 c = search needs
+shared-slice-read-if4-2 c = omega arith
 
 mul-t25 : tie.Need-mul-t25
-mul-t25 c = search needs
+mul-t25 c = omega arith
 
 shared-slice-read-t27 : tie.Need-shared-slice-read-t27
-shared-slice-read-t27 c = search needs
+shared-slice-read-t27 c = omega arith
 
 returns-2 : tie.Need-returns-2
 unfolding offerAt

@@ -35,13 +35,13 @@ loop-holds c =
     record { asks = p; within = omega arith; lasts-long = p .lasts-long; next-long = p .next-long; prepared = prepared-start (a .high) (a .rows .now) (a .fixed .now) (a .lasts .now) (a .next .now) p }
 
 sub-i : tie.Need-sub-i Inv-loop μ-loop
-sub-i c = search needs
+sub-i c = omega arith
 
 mul-row-number : tie.Need-mul-row-number Inv-loop μ-loop
-mul-row-number c = search needs
+mul-row-number c = omega arith
 
 shared-slice-read-row-number : tie.Need-shared-slice-read-row-number Inv-loop μ-loop
-shared-slice-read-row-number c = search needs
+shared-slice-read-row-number c = omega arith
 
 row-number-requires : tie.Need-row-number-requires Inv-loop μ-loop
 row-number-requires c κs = search needs
@@ -56,19 +56,19 @@ last-behind-requires : tie.Need-last-behind-requires Inv-loop μ-loop
 last-behind-requires c κs = search needs
 
 mul-last-from : tie.Need-mul-last-from Inv-loop μ-loop
-mul-last-from c = search needs
+mul-last-from c = omega arith
 
 shared-slice-read-last-from : tie.Need-shared-slice-read-last-from Inv-loop μ-loop
-shared-slice-read-last-from c = search needs
+shared-slice-read-last-from c = omega arith
 
 last-from-requires : tie.Need-last-from-requires Inv-loop μ-loop
 last-from-requires c κs = search needs
 
 mul-lasts : tie.Need-mul-lasts Inv-loop μ-loop
-mul-lasts c = search needs
+mul-lasts c = omega arith
 
 slice-write-lasts : tie.Need-slice-write-lasts Inv-loop μ-loop
-slice-write-lasts c = search needs
+slice-write-lasts c = omega arith
 
 mul-next : tie.Need-mul-next Inv-loop μ-loop
 mul-next c = omega (arith, c .before .before .before .before .before .before .before .before .loop .inv .asks .ordered .four (c .before .before .before .before .before .before .before .before .loop .i - 1) (omega arith), c .before .before .before .before .before .row-number .ensures)
@@ -77,7 +77,7 @@ slice-write-next : tie.Need-slice-write-next Inv-loop μ-loop
 slice-write-next c = omega (arith, c .before .before .before .before .before .before .before .before .loop .inv .asks .ordered .four (c .before .before .before .before .before .before .before .before .loop .i - 1) (omega arith), c .before .before .before .before .before .row-number .ensures)
 
 loop-less : tie.Need-loop-less Inv-loop μ-loop
-loop-less c = search needs
+loop-less c = omega arith
 
 loop-again : tie.Need-loop-again Inv-loop μ-loop
 loop-again c =

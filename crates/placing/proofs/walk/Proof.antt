@@ -30,7 +30,7 @@ abbrev μ-columns : tie.MeasureT-columns
 μ-columns low high rows fixed floors lasts next₀ work₀ n left₀ c₀ next work left c = suc high - c
 
 add-c : tie.Need-add-c Inv-search μ-search Inv-columns μ-columns
-add-c c = search needs
+add-c c = omega arith
 
 columns-holds : tie.Need-columns-holds Inv-search μ-search Inv-columns μ-columns
 columns-holds c =
@@ -43,10 +43,10 @@ search-holds c =
     searching-begun (a .high) (a .rows .now) (a .fixed .now) (a .floors .now) (c .before .columns .next) (c .before .columns .c)
 
 mul-offered : tie.Need-mul-offered Inv-search μ-search Inv-columns μ-columns
-mul-offered c = search needs
+mul-offered c = omega arith
 
 slice-read-offered : tie.Need-slice-read-offered Inv-search μ-search Inv-columns μ-columns
-slice-read-offered c = search needs
+slice-read-offered c = omega arith
 
 offered-requires : tie.Need-offered-requires Inv-search μ-search Inv-columns μ-columns
 offered-requires c κs = search needs
@@ -61,10 +61,10 @@ enum-told-2 : tie.Need-enum-told-2 Inv-search μ-search Inv-columns μ-columns
 enum-told-2 c = search needs
 
 add-r : tie.Need-add-r Inv-search μ-search Inv-columns μ-columns
-add-r c = search needs
+add-r c = omega arith
 
 search-less : tie.Need-search-less Inv-search μ-search Inv-columns μ-columns
-search-less c = search needs
+search-less c = omega arith
 
 search-again : tie.Need-search-again Inv-search μ-search Inv-columns μ-columns
 search-again c =
@@ -104,10 +104,10 @@ going c =
     (leb-true (c .before .columns .c) (c .before .before .before .before .before .before .before .before .args .high) (t .0), ltb-true 0 (c .before .columns .left) (t .1))
 
 mul-i : tie.Need-mul-i Inv-search μ-search Inv-columns μ-columns
-mul-i c = search needs
+mul-i c = omega arith
 
 slice-read-i : tie.Need-slice-read-i Inv-search μ-search Inv-columns μ-columns
-slice-read-i c = search needs
+slice-read-i c = omega arith
 
 mul-work : tie.Need-mul-work Inv-search μ-search Inv-columns μ-columns
 mul-work c = omega (arith, inside-now (c .before .before .before) (c .before .before .if2 .taken))
@@ -119,16 +119,16 @@ add-next : tie.Need-add-next Inv-search μ-search Inv-columns μ-columns
 add-next c = omega (arith, inside-now (c .before .before .before) (c .before .before .if2 .taken))
 
 mul-next : tie.Need-mul-next Inv-search μ-search Inv-columns μ-columns
-mul-next c = search needs
+mul-next c = omega arith
 
 slice-write-next : tie.Need-slice-write-next Inv-search μ-search Inv-columns μ-columns
-slice-write-next c = search needs
+slice-write-next c = omega arith
 
 sub-left : tie.Need-sub-left Inv-search μ-search Inv-columns μ-columns
 sub-left c = omega (arith, going (c .before .before .before .before .before) .1)
 
 add-c-2 : tie.Need-add-c-2 Inv-search μ-search Inv-columns μ-columns
-add-c-2 c = search needs
+add-c-2 c = omega arith
 
 columns-less : tie.Need-columns-less Inv-search μ-search Inv-columns μ-columns
 columns-less c = omega (arith, going (c .before .before .before) .0)
