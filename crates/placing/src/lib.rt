@@ -239,9 +239,12 @@ pub extern "C" fn placing_place(
     let mut next = [n; 4];
     prepare(high, rows, fixed, &mut lasts, &mut next);
     let mut work = [0u32; 64];
-    if !walk(low, high, rows, fixed, floors, &lasts, &mut next, &mut work) {
-        return 24;
+    let mut number: u32 = 24;
+    let mut count: usize = 0;
+    if walk(low, high, rows, fixed, floors, &lasts, &mut next, &mut work) {
+        number = 0;
+        count = n;
     }
-    copy(&work, n, columns);
-    0
+    copy(&work, count, columns);
+    number
 }

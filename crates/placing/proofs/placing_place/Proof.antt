@@ -1,21 +1,13 @@
-use Prim.Native.Nat.{ℕ}
-use mathlib.Core.Path.{_≡_, refl, sym, ap, _∙_}
-use mathlib.Core.List.{List, _++_}
+use mathlib.Core.Path.{_≡_, refl, sym, _∙_}
+use mathlib.Core.Logic.{⊎-elim}
 use native.Mathlib.Omega.{arith}
-use lib.ListN.{length, getD-replicate, drop}
-use borrow.Author.Tests.{not-true, not-false}
+use lib.ListN.{length, getD-replicate}
 use Rattle.placing.proofs.AnswerLaws.{refuses-form, refuses-short, refuses-none, accepts}
 use Rattle.placing.proofs.Turn.{take-replicate}
 use Rattle.placing.proofs.Formed.{formed}
 use borrow.Author.Needs.{needs}
 use Rattle.placing.proofs.placing_place.Statement.{statement}
 use Rattle.placing.proofs.placing_place.Tie as tie
-use Rattle.placing.proofs.placing_place.Reads as reads
-use Rattle.placing.proofs.placing_place.Lts as lts
-use Rattle.placing.proofs.copy.Reads as copy-reads
-use Rattle.placing.proofs.is_malformed.Reads as is-malformed-reads
-use Rattle.placing.proofs.prepare.Reads as prepare-reads
-use Rattle.placing.proofs.walk.Reads as walk-reads
 
 is-malformed-requires : tie.Need-is-malformed-requires
 is-malformed-requires c κs = search needs
@@ -66,11 +58,6 @@ walk-requires c κs =
       prepared = c .before .before .before .before .before .prepare .ensures;
     }
 
-returns-3 : tie.Need-returns-3
-returns-3 c =
-    let a = c .before .before .before .before .before .before .before .before .before .before .before .before .before .before .before .before .before .before .before .before .args in
-    refuses-none (a .low) (a .high) (a .rows .now) (a .times .now) (a .fixed .now) (a .floors .now) (a .columns .now) (sym (c .before .before .before .before .before .before .before .before .before .before .before .before .before .before .is-malformed .ensures) ∙ c .before .before .before .before .before .before .before .before .before .before .before .before .before .if1 .left) (c .before .before .before .before .before .before .before .before .before .before .before .before .if2 .left) (sym (c .before .before .before .walk .ensures .placed-is (a .times .now)) ∙ not-true (c .before .before .before .walk .result) (c .if3 .taken))
-
 slice-aggregate-copy : tie.Need-slice-aggregate-copy
 slice-aggregate-copy c = search needs
 
@@ -78,15 +65,26 @@ copy-requires : tie.Need-copy-requires
 copy-requires c κs =
     let a = c .before .before .before .before .before .before .before .before .before .before .before .before .before .before .before .before .before .before .before .before .before .before .args in
     let f = formed (a .low) (a .high) (a .rows .now) (a .times .now) (a .fixed .now) (a .floors .now) (sym (c .before .before .before .before .before .before .before .before .before .before .before .before .before .before .before .before .is-malformed .ensures) ∙ c .before .before .before .before .before .before .before .before .before .before .before .before .before .before .before .if1 .left) in
-    (omega (arith, c .before .before .before .before .before .walk .kept .1 .1 .1 .1 .1 .1 .1 .0, f .ordered .few), c .before .before .before .before .before .before .before .before .before .before .before .before .before .before .if2 .left)
+    let long = c .before .before .before .before .before .walk .kept .1 .1 .1 .1 .1 .1 .1 .0 in
+    ⊎-elim (λ v. (omega (arith, v .2, long, f .ordered .few), omega (arith, v .2, c .before .before .before .before .before .before .before .before .before .before .before .before .before .before .if2 .left))) (λ v. (omega (arith, v .2), omega (arith, v .2))) (c .before .before .if3 .came)
 
 same-length : tie.Need-same-length
 same-length c = search needs
 
-returns-4 : tie.Need-returns-4
-returns-4 c =
+returns-3 : tie.Need-returns-3
+returns-3 c =
     let a = c .before .before .before .before .before .before .before .before .before .before .before .before .before .before .before .before .before .before .before .before .before .before .before .before .before .args in
-    accepts (a .low) (a .high) (a .rows .now) (a .times .now) (a .fixed .now) (a .floors .now) (a .columns .now) (sym (c .before .before .before .before .before .before .before .before .before .before .before .before .before .before .before .before .before .before .before .is-malformed .ensures) ∙ c .before .before .before .before .before .before .before .before .before .before .before .before .before .before .before .before .before .before .if1 .left) (c .before .before .before .before .before .before .before .before .before .before .before .before .before .before .before .before .before .if2 .left) (sym (c .before .before .before .before .before .before .before .before .walk .ensures .placed-is (a .times .now)) ∙ not-false (c .before .before .before .before .before .before .before .before .walk .result) (c .before .before .before .before .before .if3 .left)) _ (c .before .before .copy .ensures ∙ ap (λ (l : List ℕ). l ++ drop (length (a .rows .now)) (a .columns .now)) (c .before .before .before .before .before .before .before .before .walk .ensures .columns-are (a .times .now)))
+    let m = sym (c .before .before .before .before .before .before .before .before .before .before .before .before .before .before .before .before .before .before .before .is-malformed .ensures) ∙ c .before .before .before .before .before .before .before .before .before .before .before .before .before .before .before .before .before .before .if1 .left in
+    let s = c .before .before .before .before .before .before .before .before .before .before .before .before .before .before .before .before .before .if2 .left in
+    let w = sym (c .before .before .before .before .before .before .before .before .walk .ensures .placed-is (a .times .now)) in
+    ⊎-elim
+    (λ v. rw (v .1)
+    (accepts (a .low) (a .high) (a .rows .now) (a .times .now) (a .fixed .now) (a .floors .now) (a .columns .now) m s (w ∙ v .0 .taken) (c .before .before .copy .last .1 .1 .0)
+    (rw (v .2, c .before .before .before .before .before .before .before .before .walk .ensures .columns-are (a .times .now)) at (c .before .before .copy .ensures))))
+    (λ v. rw (v .1)
+    (let r = refuses-none (a .low) (a .high) (a .rows .now) (a .times .now) (a .fixed .now) (a .floors .now) (a .columns .now) m s (w ∙ v .0 .left) in
+    (r .0, (rw (v .2) at (c .before .before .copy .ensures)) ∙ r .1)))
+    (c .before .before .before .before .before .if3 .came)
 
 pub placing-place-spec : {M : Type 1} → statement M
 placing-place-spec =
@@ -102,8 +100,7 @@ placing-place-spec =
     slice-aggregate-walk-2
     slice-aggregate-walk-3
     walk-requires
-    returns-3
     slice-aggregate-copy
     copy-requires
     same-length
-    returns-4)
+    returns-3)
