@@ -1,0 +1,76 @@
+-- The refusals of a plan, 1 to 7 (document 01, "Numbers returned").
+use Prim.Native.Nat.{ℕ, zero, suc, _+_, _*_}
+use mathlib.Core.Bool.{Bool, true, false, not, _&&_, _||_}
+use mathlib.Core.List.{List, [], _∷_}
+use lib.ListN.{length, getD, take, drop}
+use lib.Dec.{leb, ltb, eqb}
+use Rattle.plan.specs.declared.Channel.{Channel}
+use Rattle.plan.specs.Layout.{Layout, readSlots}
+use Rattle.plan.specs.Rule.{ruleFields, ruleFits}
+use Rattle.plan.specs.Channel.{channelFits, channelAfter}
+use Rattle.plan.specs.Plan.{Plan, planOf, planLength, planVersion, planNodes, planChannels, planSize, entering, leaving}
+
+-- 1: "plan under 5 bytes, or not its length field"
+unfoldable pub badLength : List ℕ → Bool
+unfolding planLength
+badLength s = ltb (length s) 5 || not (eqb (planLength s) (length s))
+
+-- 2: "plan version"
+unfoldable pub badVersion : List ℕ → Bool
+unfolding planVersion
+badVersion s = not (eqb (planVersion s) 1)
+
+-- 3: "N or M": N is 2..12, M is 1..24.
+unfoldable pub badCounts : List ℕ → Bool
+unfolding planNodes planChannels
+badCounts s = not (leb 2 (planNodes s) && leb (planNodes s) 12 && leb 1 (planChannels s) && leb (planChannels s) 24)
+
+-- 4: "length is not 5 + 4N + 6M"
+unfoldable pub badSize : List ℕ → Bool
+unfolding planNodes planChannels planSize
+badSize s = not (eqb (length s) (planSize (planNodes s) (planChannels s)))
+
+-- 5: "rule"
+abbrev pub rulesFit : List (List ℕ) → Bool
+rulesFit [] = true
+rulesFit (r ∷ rest) = ruleFits r && rulesFit rest
+
+unfoldable pub badRules : List ℕ → Bool
+unfolding planNodes ruleFields
+badRules s = not (rulesFit (readSlots ruleFields (planNodes s) (drop 5 s)))
+
+-- 6: "belt fields or order"
+abbrev pub channelsFit : ℕ → ℕ → ℕ → List Channel → Bool
+channelsFit n sender receiver [] = true
+channelsFit n sender receiver (c ∷ rest) = channelFits n c && channelAfter sender receiver c && channelsFit n (c .sender) (c .receiver) rest
+
+unfoldable pub badChannels : List ℕ → Bool
+unfolding planNodes planOf channelFits channelAfter
+badChannels s = not (channelsFit (planNodes s) 0 0 (planOf s .channels))
+
+-- 7: "over 4 belts in or out"
+abbrev pub fourAtMost : Plan → ℕ → Bool
+fourAtMost p zero = true
+fourAtMost p (suc n) = leb (length (entering p n)) 4 && leb (length (leaving p n)) 4 && fourAtMost p n
+
+unfoldable pub badDegrees : List ℕ → Bool
+unfolding planNodes planOf entering leaving
+badDegrees s = not (fourAtMost (planOf s) (planNodes s))
+
+-- "each in rising order, and the first that applies is returned"; 0 where none does.
+unfoldable pub planRefusal : List ℕ → ℕ
+unfolding badLength badVersion badCounts badSize badRules badChannels badDegrees
+planRefusal s =
+    elim (badLength s)
+    [ true ↦ 1
+    | false ↦ elim (badVersion s)
+    [ true ↦ 2
+    | false ↦ elim (badCounts s)
+    [ true ↦ 3
+    | false ↦ elim (badSize s)
+    [ true ↦ 4
+    | false ↦ elim (badRules s)
+    [ true ↦ 5
+    | false ↦ elim (badChannels s)
+    [ true ↦ 6
+    | false ↦ elim (badDegrees s) [ true ↦ 7 | false ↦ 0 ] ] ] ] ] ] ]

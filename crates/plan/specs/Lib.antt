@@ -1,0 +1,7 @@
+-- The line's plan, in document 01's order.
+pub mod Layout
+pub mod Record
+pub mod Rule
+pub mod Channel
+pub mod Plan
+pub mod Check

@@ -1,0 +1,98 @@
+-- A plan: the nodes' rules and the channels, and its layout (document 01, "The line").
+use Prim.Native.Nat.{ℕ, suc, _+_, _*_}
+use mathlib.Core.Bool.{Bool, true, false}
+use mathlib.Core.List.{List, [], _∷_, _++_}
+use lib.ListN.{length, getD, take, drop}
+use lib.Dec.{eqb}
+use Rattle.plan.specs.declared.Rule.{Rule}
+use Rattle.plan.specs.declared.Rule.the-variants.{Keep}
+use Rattle.plan.specs.declared.Channel.{Channel}
+use Rattle.plan.specs.Layout.{Layout, fields, writeSlots, readSlots}
+use Rattle.plan.specs.Rule.{ruleLayout}
+use Rattle.plan.specs.Channel.{channelLayout}
+
+pub record Plan : Type 0 where
+  pub rules : List Rule
+  pub channels : List Channel
+
+abbrev pub nodeCount : Plan → ℕ
+nodeCount p = length (p .rules)
+
+abbrev pub channelCount : Plan → ℕ
+channelCount p = length (p .channels)
+
+-- What stands past the plan's nodes and channels.
+abbrev pub noChannel : Channel
+noChannel = record { sender = 0; receiver = 0; mask = 0; modulus = 0; remainder = 0 }
+
+abbrev pub ruleAt : Plan → ℕ → Rule
+ruleAt p n = getD (p .rules) n Keep
+
+abbrev pub channelAt : Plan → ℕ → Channel
+channelAt p b = getD (p .channels) b noChannel
+
+-- The numbers, counted from k, of the things in a list that pass a test.
+abbrev pub keepIf : Bool → ℕ → List ℕ → List ℕ
+keepIf true k ks = k ∷ ks
+keepIf false k ks = ks
+
+abbrev pub numbersFrom : {A : Type 0} → ℕ → (A → Bool) → List A → List ℕ
+numbersFrom k f [] = []
+numbersFrom k f (x ∷ xs) = keepIf (f x) k (numbersFrom (suc k) f xs)
+
+-- The channels that enter a node and those that leave it, by number. Channels rise by sender, so a node's entering channels are in the order of its parents.
+unfoldable pub entering : Plan → ℕ → List ℕ
+entering p n = numbersFrom 0 (λ (c : Channel). eqb (c .receiver) n) (p .channels)
+
+unfoldable pub leaving : Plan → ℕ → List ℕ
+leaving p n = numbersFrom 0 (λ (c : Channel). eqb (c .sender) n) (p .channels)
+
+-- "A node without entering belts is an infeed, without leaving belts an outfeed": a source and a sink.
+abbrev pub isNone : List ℕ → Bool
+isNone [] = true
+isNone (x ∷ xs) = false
+
+unfoldable pub isSource : Plan → ℕ → Bool
+unfolding entering
+isSource p n = isNone (entering p n)
+
+unfoldable pub isSink : Plan → ℕ → Bool
+unfolding leaving
+isSink p n = isNone (leaving p n)
+
+-- "A plan, big-endian: length of the whole plan (2 bytes), version 1, node count N, belt count M; then N rules of 4 bytes, then M belts of 6."
+unfoldable pub headLayout : Layout (List ℕ)
+unfolding fields
+headLayout = fields (2 ∷ 1 ∷ 1 ∷ 1 ∷ [])
+
+unfoldable pub planSize : ℕ → ℕ → ℕ
+planSize n m = 5 + 4 * n + 6 * m
+
+unfoldable pub planBytes : Plan → List ℕ
+unfolding headLayout ruleLayout channelLayout planSize
+planBytes p = headLayout .write (planSize (nodeCount p) (channelCount p) ∷ 1 ∷ nodeCount p ∷ channelCount p ∷ []) ++ (writeSlots ruleLayout (p .rules) ++ writeSlots channelLayout (p .channels))
+
+-- The numbers of a plan's head: length, version, N and M.
+unfoldable pub planLength : List ℕ → ℕ
+unfolding headLayout
+planLength s = getD (headLayout .read s) 0 0
+
+unfoldable pub planVersion : List ℕ → ℕ
+unfolding headLayout
+planVersion s = getD (headLayout .read s) 1 0
+
+unfoldable pub planNodes : List ℕ → ℕ
+unfolding headLayout
+planNodes s = getD (headLayout .read s) 2 0
+
+unfoldable pub planChannels : List ℕ → ℕ
+unfolding headLayout
+planChannels s = getD (headLayout .read s) 3 0
+
+unfoldable pub planOf : List ℕ → Plan
+unfolding ruleLayout channelLayout planNodes planChannels
+planOf s =
+    record
+    { rules = readSlots ruleLayout (planNodes s) (drop 5 s)
+    ; channels = readSlots channelLayout (planChannels s) (drop (5 + 4 * planNodes s) s)
+    }
