@@ -1,0 +1,46 @@
+-- Logging and clocks (document 01, "Clocks and steps").
+use Prim.Native.Nat.{ℕ, suc, max}
+use mathlib.Core.Bool.{Bool, true, false, cond, not, _&&_}
+use mathlib.Core.List.{List, [], _∷_, _++_}
+use mathlib.Core.Option.{Option, none, some}
+use lib.Dec.{ltb, eqb}
+use Rattle.plan.specs.declared.Record.{Record}
+use Rattle.plan.specs.declared.Channel.{Channel}
+use Rattle.plan.specs.Channel.{takes}
+use Rattle.rules.specs.Line.{Origin, fed, made, Message, Entry, Node, Lane}
+
+-- A node's time rises by 1 and the message is logged.
+unfoldable pub logged : Record → Origin → Origin → Node → Node
+logged what origin before x =
+    record
+    { status = x .status
+    ; crashed = x .crashed
+    ; time = suc (x .time)
+    ; log = x .log ++ record { what = what; time = suc (x .time); origin = origin; before = before } ∷ []
+    ; held = x .held
+    ; targets = x .targets
+    }
+
+-- A log entry as a message.
+abbrev pub messageOf : Entry → Message
+messageOf e = record { what = e .what; time = e .time; origin = e .origin }
+
+-- "the first logged message later than the belt's mark that the belt takes"
+abbrev pub firstTaken : Channel → ℕ → List Entry → Option Entry
+firstTaken c mark [] = none
+firstTaken c mark (e ∷ log) = elim (ltb mark (e .time) && takes c (e .what)) [ true ↦ some e | false ↦ firstTaken c mark log ]
+
+-- A message goes on the channel, and "the mark becomes its time".
+unfoldable pub sentOn : Entry → Lane → Lane
+sentOn e s = record { mark = e .time; taken = s .taken; heard = s .heard; queue = s .queue ++ messageOf e ∷ [] }
+
+-- The entries for the sender's parents, raised by what a message was made from.
+abbrev pub raiseHeard : List ℕ → List ℕ → Origin → List ℕ
+raiseHeard ps [] o = []
+raiseHeard [] (h ∷ hs) o = h ∷ hs
+raiseHeard (p ∷ ps) (h ∷ hs) fed = h ∷ hs
+raiseHeard (p ∷ ps) (h ∷ hs) (made s t) = cond (eqb p s) (max h t) h ∷ raiseHeard ps hs (made s t)
+
+-- "The receiver removes the belt's first message, raises its clock by it": for the sender its time, for the sender's parents what the message was made from. The rest of the queue stays.
+unfoldable pub takenFrom : List ℕ → Message → List Message → Lane → Lane
+takenFrom senderParents m rest s = record { mark = s .mark; taken = max (s .taken) (m .time); heard = raiseHeard senderParents (s .heard) (m .origin); queue = rest }

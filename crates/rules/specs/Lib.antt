@@ -1,0 +1,10 @@
+-- Document 01 over an abstract line, a module for each of its paragraphs.
+pub mod Lists
+pub mod Line
+pub mod Frame
+pub mod Clock
+pub mod Recover
+pub mod Replay
+pub mod Step
+pub mod Plain
+pub mod Sheet

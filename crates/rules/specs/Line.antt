@@ -1,0 +1,138 @@
+-- The line: its nodes and channels as they are (document 01, "The line" and "Clocks and steps").
+use Prim.Native.Nat.{ℕ, zero, suc}
+use mathlib.Core.Bool.{Bool, true, false}
+use mathlib.Core.List.{List, [], _∷_, map}
+use lib.ListN.{length, getD, set, replicate}
+use Rattle.plan.specs.declared.Record.{Record}
+use Rattle.plan.specs.declared.Channel.{Channel}
+use Rattle.plan.specs.Plan.{Plan, nodeCount, channelAt, entering}
+use Rattle.rules.specs.Lists.{upTo}
+
+-- "64 log entries a node, 8 messages on a belt, 64 held records a node, 64 targets a node, 1,000,000 accepted steps"
+abbrev pub logLimit : ℕ
+logLimit = 64
+
+abbrev pub queueLimit : ℕ
+queueLimit = 8
+
+abbrev pub heldLimit : ℕ
+heldLimit = 64
+
+abbrev pub targetLimit : ℕ
+targetLimit = 64
+
+abbrev pub stepLimit : ℕ
+stepLimit = 1_000_000
+
+-- What something was made from: nothing at a source, else a sender and its time.
+pub data Origin : Type 0 where
+  fed : Origin
+  made : ℕ → ℕ → Origin
+
+-- "A message is a record, its sender's time, and the sender and time that it was itself made from (none at an infeed)."
+pub record Message : Type 0 where
+  pub what : Record
+  pub time : ℕ
+  pub origin : Origin
+
+-- "Each log entry is such a message, made by this node, and keeps also the sender and time that its input was made from, if any."
+pub record Entry : Type 0 where
+  pub what : Record
+  pub time : ℕ
+  pub origin : Origin
+  pub before : Origin
+
+-- A held record (buffered in a replay): the record as the node would log it, the parent and the parent's time, and what that message was made from.
+pub record Held : Type 0 where
+  pub what : Record
+  pub sender : ℕ
+  pub time : ℕ
+  pub before : Origin
+
+-- A target: the node's time, a parent and the parent's time.
+pub record Target : Type 0 where
+  pub time : ℕ
+  pub parent : ℕ
+  pub parentTime : ℕ
+
+pub data Status : Type 0 where
+  up down replay : Status
+
+pub record Node : Type 0 where
+  pub status : Status
+  pub crashed : Bool
+  pub time : ℕ
+  pub log : List Entry
+  pub held : List Held
+  pub targets : List Target
+
+-- A channel's state. The receiver's clock entry for the sender is `taken`, its entries for the sender's parents are `heard`, in the parents' order: a pair of nodes has at most one channel.
+pub record Lane : Type 0 where
+  pub mark : ℕ
+  pub taken : ℕ
+  pub heard : List ℕ
+  pub queue : List Message
+
+pub record Line : Type 0 where
+  pub plan : Plan
+  pub steps : ℕ
+  pub nodes : List Node
+  pub lanes : List Lane
+
+-- "A node has a time (0 at first)": a node that is up and has done nothing.
+abbrev pub freshNode : Node
+freshNode = record { status = up; crashed = false; time = 0; log = []; held = []; targets = [] }
+
+-- The parents of a node, rising.
+unfoldable pub parents : Plan → ℕ → List ℕ
+unfolding entering
+parents p n = map (λ (b : ℕ). channelAt p b .sender) (entering p n)
+
+-- A channel with nothing on it, marked and taken up to a time.
+unfoldable pub freshLane : Plan → Channel → ℕ → Lane
+unfolding parents
+freshLane p c t = record { mark = t; taken = t; heard = replicate (length (parents p (c .sender))) 0; queue = [] }
+
+-- The line that a plan starts as.
+unfoldable pub initialLine : Plan → Line
+unfolding freshLane
+initialLine p = record { plan = p; steps = 0; nodes = replicate (nodeCount p) freshNode; lanes = map (λ (c : Channel). freshLane p c 0) (p .channels) }
+
+abbrev pub noLane : Lane
+noLane = record { mark = 0; taken = 0; heard = []; queue = [] }
+
+abbrev pub nodeAt : Line → ℕ → Node
+nodeAt l n = getD (l .nodes) n freshNode
+
+abbrev pub laneAt : Line → ℕ → Lane
+laneAt l b = getD (l .lanes) b noLane
+
+-- The small changes that every effect is made of.
+unfoldable pub withNode : ℕ → Node → Line → Line
+withNode n x l = record { plan = l .plan; steps = l .steps; nodes = set (l .nodes) n x; lanes = l .lanes }
+
+unfoldable pub withLane : ℕ → Lane → Line → Line
+withLane b x l = record { plan = l .plan; steps = l .steps; nodes = l .nodes; lanes = set (l .lanes) b x }
+
+unfoldable pub counted : Line → Line
+counted l = record { plan = l .plan; steps = suc (l .steps); nodes = l .nodes; lanes = l .lanes }
+
+-- One change for each of some channels.
+abbrev pub withLanes : (ℕ → Lane → Lane) → List ℕ → Line → Line
+withLanes f [] l = l
+withLanes f (b ∷ bs) l = withLanes f bs (withLane b (f b (laneAt l b)) l)
+
+abbrev pub isUp : Status → Bool
+isUp up = true
+isUp down = false
+isUp replay = false
+
+abbrev pub isDown : Status → Bool
+isDown up = false
+isDown down = true
+isDown replay = false
+
+abbrev pub isReplay : Status → Bool
+isReplay up = false
+isReplay down = false
+isReplay replay = true

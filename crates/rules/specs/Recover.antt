@@ -1,0 +1,102 @@
+-- What Recover finds of node B in its children's clocks and logs (document 01, kind 5).
+use Prim.Native.Nat.{ℕ}
+use mathlib.Core.Bool.{Bool, true, false, cond, not, _&&_, _||_}
+use mathlib.Core.List.{List, [], _∷_, _++_, map}
+use lib.ListN.{length, replicate}
+use lib.Dec.{leb, ltb, eqb}
+use Rattle.plan.specs.Plan.{Plan, channelAt, entering, leaving}
+use Rattle.rules.specs.Lists.{keep, allOf, anyOf, joined, greatestOf, leastOf}
+use Rattle.rules.specs.Line.{Origin, fed, made, Entry, Target, Status, up, replay, Node, Lane, Line, nodeAt, laneAt, withNode, withLane, withLanes, freshLane}
+
+-- The children's clock entries for B.
+unfoldable pub childTimes : Line → ℕ → List ℕ
+unfolding leaving
+childTimes l b = map (λ (c : ℕ). laneAt l c .taken) (leaving (l .plan) b)
+
+-- "Low is the least and high the greatest clock entry for B among its children."
+unfoldable pub lowOf : Line → ℕ → ℕ
+unfolding childTimes
+lowOf l b = leastOf (childTimes l b)
+
+unfoldable pub highOf : Line → ℕ → ℕ
+unfolding childTimes
+highOf l b = greatestOf (childTimes l b)
+
+-- A child's log entry made from B's message at a time, whose own input was a parent's message at a time.
+abbrev pub triple : ℕ → Origin → Origin → List Target
+triple b fed before = []
+triple b (made s t) fed = []
+triple b (made s t) (made p u) = cond (eqb s b) (record { time = t; parent = p; parentTime = u } ∷ []) []
+
+abbrev pub triples : ℕ → List Entry → List Target
+triples b [] = []
+triples b (e ∷ log) = triple b (e .origin) (e .before) ++ triples b log
+
+-- All of them, over B's children.
+unfoldable pub childTriples : Line → ℕ → List Target
+unfolding leaving
+childTriples l b = joined (map (λ (c : ℕ). triples b (nodeAt l (channelAt (l .plan) c .receiver) .log)) (leaving (l .plan) b))
+
+-- "the restored entry is the greatest A-time in children's log entries made from B's messages with B-time at most low, 0 if none"
+unfoldable pub restored : Line → ℕ → ℕ → ℕ
+unfolding childTriples lowOf
+restored l b parent = greatestOf (map (λ (t : Target). t .parentTime) (keep (λ (t : Target). eqb (t .parent) parent && leb (t .time) (lowOf l b)) (childTriples l b)))
+
+-- Targets in their stored order: by B-time, then parent, then the parent's time.
+abbrev pub sameTarget : Target → Target → Bool
+sameTarget t u = eqb (t .time) (u .time) && eqb (t .parent) (u .parent) && eqb (t .parentTime) (u .parentTime)
+
+abbrev pub targetBefore : Target → Target → Bool
+targetBefore t u = ltb (t .time) (u .time) || (eqb (t .time) (u .time) && (ltb (t .parent) (u .parent) || (eqb (t .parent) (u .parent) && ltb (t .parentTime) (u .parentTime))))
+
+-- A target in its place, once.
+abbrev pub addTarget : Target → List Target → List Target
+addTarget t [] = t ∷ []
+addTarget t (u ∷ us) = elim (targetBefore t u) [ true ↦ t ∷ u ∷ us | false ↦ elim (sameTarget t u) [ true ↦ u ∷ us | false ↦ u ∷ addTarget t us ] ]
+
+abbrev pub sortTargets : List Target → List Target
+sortTargets [] = []
+sortTargets (t ∷ ts) = addTarget t (sortTargets ts)
+
+-- "Targets are the distinct triples (B-time, A, A-time) with B-time above low, over all children."
+unfoldable pub targetsOf : Line → ℕ → List Target
+unfolding childTriples lowOf
+targetsOf l b = sortTargets (keep (λ (t : Target). ltb (lowOf l b) (t .time)) (childTriples l b))
+
+-- "targets give one time two inputs or one input two times"
+abbrev pub clash : Target → Target → Bool
+clash t u = eqb (t .time) (u .time) || (eqb (t .parent) (u .parent) && eqb (t .parentTime) (u .parentTime))
+
+abbrev pub conflict : List Target → Bool
+conflict [] = false
+conflict (t ∷ ts) = anyOf (clash t) ts || conflict ts
+
+-- "the greatest A-time of its targets", 0 if the parent has none.
+abbrev pub rowGoal : List Target → ℕ → ℕ
+rowGoal ts parent = greatestOf (map (λ (t : Target). t .parentTime) (keep (λ (t : Target). eqb (t .parent) parent) ts))
+
+-- "a parent's row is complete when B's entry for it reaches the greatest A-time of its targets (at once if it has none)"
+unfoldable pub rowComplete : Line → ℕ → ℕ → Bool
+rowComplete l b c = leb (rowGoal (nodeAt l b .targets) (channelAt (l .plan) c .sender)) (laneAt l c .taken)
+
+unfoldable pub rowsComplete : Line → ℕ → Bool
+unfolding entering rowComplete
+rowsComplete l b = allOf (rowComplete l b) (entering (l .plan) b)
+
+abbrev pub noTargets : List Target → Bool
+noTargets [] = true
+noTargets (t ∷ ts) = false
+
+abbrev pub statusOf : List Target → Status
+statusOf [] = up
+statusOf (t ∷ ts) = replay
+
+-- B restored: "B's time is low; each leaving belt's mark is the child's entry for B, each entering belt's mark the restored entry. No targets: B is up. Else it replays." Parents' parents get 0.
+unfoldable pub recovered : ℕ → Line → Line
+unfolding lowOf targetsOf restored entering leaving freshLane withNode withLane
+recovered b l =
+    let marked : ℕ → Lane → Lane = λ c s. record { mark = s .taken; taken = s .taken; heard = s .heard; queue = s .queue } in
+    let entered : ℕ → Lane → Lane = λ c s. freshLane (l .plan) (channelAt (l .plan) c) (restored l b (channelAt (l .plan) c .sender)) in
+    withLanes entered (entering (l .plan) b)
+    (withLanes marked (leaving (l .plan) b)
+    (withNode b (record { status = statusOf (targetsOf l b); crashed = true; time = lowOf l b; log = []; held = []; targets = targetsOf l b }) l))

@@ -1,0 +1,272 @@
+-- A step: the refusals 9 to 21 and 24 in rising order, and the effect of each kind (document 01, "Clocks and steps", "Numbers returned").
+use Prim.Native.Nat.{ℕ, suc}
+use mathlib.Core.Bool.{Bool, true, false, cond, not, _&&_, _||_}
+use mathlib.Core.List.{List, [], _∷_, _++_, map}
+use mathlib.Core.Option.{Option, none, some}
+use lib.ListN.{length, getD}
+use lib.Dec.{leb, ltb, eqb}
+use Rattle.plan.specs.declared.Record.{Record}
+use Rattle.plan.specs.Layout.{Layout}
+use Rattle.plan.specs.Record.{recordLayout, recordFits}
+use Rattle.plan.specs.Rule.{applied}
+use Rattle.plan.specs.Channel.{takes}
+use Rattle.plan.specs.Plan.{Plan, nodeCount, channelCount, ruleAt, channelAt, entering, leaving, isSource, isSink}
+use Rattle.rules.specs.Lists.{anyOf}
+use Rattle.rules.specs.Line.{logLimit, queueLimit, heldLimit, targetLimit, stepLimit, Origin, fed, made, Message, Entry, Held, Status, up, down, replay, Node, Lane, Line, nodeAt, laneAt, withNode, withLane, counted, withLanes, isUp, isDown, isReplay, parents, freshLane}
+use Rattle.rules.specs.Frame.{Frame, feed, send, take, crash, recover, frameOf, badFrameLength, badFrameVersion, badKind}
+use Rattle.rules.specs.Clock.{logged, firstTaken, sentOn, takenFrom}
+use Rattle.rules.specs.Recover.{targetsOf, conflict, rowComplete, noTargets, recovered}
+use Rattle.rules.specs.Replay.{passedOn, holding, endedIfComplete}
+
+-- 12: "1,000,000 steps accepted"
+unfoldable pub noStepsLeft : Line → Bool
+noStepsLeft l = leb stepLimit (l .steps)
+
+-- 13: "no such node or belt"
+abbrev pub noSuch : Line → Frame → Bool
+noSuch l (feed n r) = leb (nodeCount (l .plan)) n
+noSuch l (send b) = leb (channelCount (l .plan)) b
+noSuch l (take b) = leb (channelCount (l .plan)) b
+noSuch l (crash n) = leb (nodeCount (l .plan)) n
+noSuch l (recover n) = leb (nodeCount (l .plan)) n
+
+-- 14: "Feed not to an infeed; Crash or Recover of an infeed or outfeed"
+abbrev pub wrongNode : Line → Frame → Bool
+wrongNode l (feed n r) = not (isSource (l .plan) n)
+wrongNode l (send b) = false
+wrongNode l (take b) = false
+wrongNode l (crash n) = isSource (l .plan) n || isSink (l .plan) n
+wrongNode l (recover n) = isSource (l .plan) n || isSink (l .plan) n
+
+abbrev pub nodeDown : Line → ℕ → Bool
+nodeDown l n = isDown (nodeAt l n .status)
+
+abbrev pub endDown : Line → ℕ → Bool
+endDown l b = nodeDown l (channelAt (l .plan) b .sender) || nodeDown l (channelAt (l .plan) b .receiver)
+
+-- 15: "Crash of a down node; Send, Take with an end down; Recover of a node not down"
+abbrev pub wrongStatus : Line → Frame → Bool
+wrongStatus l (feed n r) = false
+wrongStatus l (send b) = endDown l b
+wrongStatus l (take b) = endDown l b
+wrongStatus l (crash n) = nodeDown l n
+wrongStatus l (recover n) = not (nodeDown l n)
+
+-- 16: "Crash of a node joined by a belt to one crashed earlier in the run"
+unfoldable pub neighbourCrashed : Line → ℕ → Bool
+unfolding entering leaving
+neighbourCrashed l n =
+    anyOf (λ (c : ℕ). nodeAt l (channelAt (l .plan) c .sender) .crashed) (entering (l .plan) n)
+    || anyOf (λ (c : ℕ). nodeAt l (channelAt (l .plan) c .receiver) .crashed) (leaving (l .plan) n)
+
+abbrev pub besideCrashed : Line → Frame → Bool
+besideCrashed l (feed n r) = false
+besideCrashed l (send b) = false
+besideCrashed l (take b) = false
+besideCrashed l (crash n) = neighbourCrashed l n
+besideCrashed l (recover n) = false
+
+-- 17: "material over 15, zero byte not 0"
+abbrev pub badRecord : Frame → Bool
+badRecord (feed n r) = not (recordFits r)
+badRecord (send b) = false
+badRecord (take b) = false
+badRecord (crash n) = false
+badRecord (recover n) = false
+
+-- What a Send would send.
+unfoldable pub sendable : Line → ℕ → Option Entry
+unfolding takes
+sendable l b = firstTaken (channelAt (l .plan) b) (laneAt l b .mark) (nodeAt l (channelAt (l .plan) b .sender) .log)
+
+abbrev pub isNothing : {A : Type 0} → Option A → Bool
+isNothing none = true
+isNothing (some x) = false
+
+abbrev pub noMessages : List Message → Bool
+noMessages [] = true
+noMessages (m ∷ ms) = false
+
+-- 18: "nothing to send or take"
+abbrev pub nothingThere : Line → Frame → Bool
+nothingThere l (feed n r) = false
+nothingThere l (send b) = isNothing (sendable l b)
+nothingThere l (take b) = noMessages (laneAt l b .queue)
+nothingThere l (crash n) = false
+nothingThere l (recover n) = false
+
+-- 19: "belt holds 8"
+abbrev pub queueFull : Line → Frame → Bool
+queueFull l (feed n r) = false
+queueFull l (send b) = leb queueLimit (length (laneAt l b .queue))
+queueFull l (take b) = false
+queueFull l (crash n) = false
+queueFull l (recover n) = false
+
+abbrev pub receiverOf : Line → ℕ → ℕ
+receiverOf l b = channelAt (l .plan) b .receiver
+
+abbrev pub senderOf : Line → ℕ → ℕ
+senderOf l b = channelAt (l .plan) b .sender
+
+abbrev pub replaying : Line → ℕ → Bool
+replaying l n = isReplay (nodeAt l n .status)
+
+-- 20: "Take on a complete row while replaying"
+abbrev pub rowDone : Line → Frame → Bool
+rowDone l (feed n r) = false
+rowDone l (send b) = false
+rowDone l (take b) = replaying l (receiverOf l b) && rowComplete l (receiverOf l b) b
+rowDone l (crash n) = false
+rowDone l (recover n) = false
+
+-- The record that the receiver makes of a message, after its rule.
+abbrev pub madeBy : Line → ℕ → Record → Record
+madeBy l n r = applied (ruleAt (l .plan) n) r
+
+abbrev pub firstRecord : List Message → Option Record
+firstRecord [] = none
+firstRecord (m ∷ ms) = some (m .what)
+
+abbrev pub toHold : Line → ℕ → Option Record → Bool
+toHold l n none = false
+toHold l n (some r) = passedOn (l .plan) n (madeBy l n r)
+
+-- A Take's space: of the log, or in a replay of the held list where the record is to be held.
+unfoldable pub takeLacks : Line → ℕ → Bool
+unfolding passedOn
+takeLacks l b =
+    let n = receiverOf l b in
+    cond (replaying l n) (toHold l n (firstRecord (laneAt l b .queue)) && leb heldLimit (length (nodeAt l n .held))) (leb logLimit (length (nodeAt l n .log)))
+
+-- 21: "the step needs space that the log or held list lacks, or over 64 targets"
+abbrev pub noSpace : Line → Frame → Bool
+noSpace l (feed n r) = leb logLimit (length (nodeAt l n .log))
+noSpace l (send b) = false
+noSpace l (take b) = takeLacks l b
+noSpace l (crash n) = false
+noSpace l (recover n) = ltb targetLimit (length (targetsOf l n))
+
+-- Feed: "an infeed applies its rule, its time rises by 1, the message is logged".
+unfoldable pub fedLine : ℕ → List ℕ → Line → Line
+unfolding logged withNode recordLayout
+fedLine n r l = withNode n (logged (madeBy l n (recordLayout .read r)) fed fed (nodeAt l n)) l
+
+-- Send: the message "goes on the belt".
+abbrev pub sentLine : ℕ → Option Entry → Line → Line
+sentLine b none l = l
+sentLine b (some e) l = withLane b (sentOn e (laneAt l b)) l
+
+-- Take, of a node that is up: it "applies its rule, raises its time by 1 and logs".
+unfoldable pub takenUp : ℕ → Message → Line → Line
+unfolding logged withNode
+takenUp b m l = withNode (receiverOf l b) (logged (madeBy l (receiverOf l b) (m .what)) (made (senderOf l b) (m .time)) (m .origin) (nodeAt l (receiverOf l b))) l
+
+-- Take, of a node that replays: "raises the clock only; a record that no belt takes is dropped, another is held".
+unfoldable pub takenReplaying : ℕ → Message → Line → Line
+unfolding passedOn holding withNode
+takenReplaying b m l =
+    let n = receiverOf l b in
+    let r = madeBy l n (m .what) in
+    elim (passedOn (l .plan) n r)
+    [ true ↦ withNode n (holding (record { what = r; sender = senderOf l b; time = m .time; before = m .origin }) (nodeAt l n)) l
+    | false ↦ l ]
+
+-- The clock raised and the message gone from the channel.
+unfoldable pub takenLane : ℕ → Message → List Message → Line → Line
+unfolding takenFrom withLane parents
+takenLane b m rest l = withLane b (takenFrom (parents (l .plan) (senderOf l b)) m rest (laneAt l b)) l
+
+abbrev pub takenFirst : ℕ → List Message → Line → Option Line
+takenFirst b [] l = some l
+takenFirst b (m ∷ rest) l =
+    elim (replaying l (receiverOf l b))
+    [ true ↦ endedIfComplete (receiverOf l b) (takenReplaying b m (takenLane b m rest l))
+    | false ↦ some (takenUp b m (takenLane b m rest l)) ]
+
+unfoldable pub takenLine : ℕ → Line → Option Line
+unfolding takenLane takenReplaying takenUp endedIfComplete
+takenLine b l = takenFirst b (laneAt l b .queue) l
+
+-- Crash: "the node is down and crash-marked for good; its log, clock, time, targets and held records, and its belts' messages and marks, are emptied to 0". The clock is `taken` and `heard` of its entering channels; those of its leaving channels are its children's.
+unfoldable pub crashedLine : ℕ → Line → Line
+unfolding entering leaving freshLane withNode withLane
+crashedLine n l =
+    let left : ℕ → Lane → Lane = λ c s. record { mark = 0; taken = s .taken; heard = s .heard; queue = [] } in
+    let entered : ℕ → Lane → Lane = λ c s. freshLane (l .plan) (channelAt (l .plan) c) 0 in
+    withLanes entered (entering (l .plan) n)
+    (withLanes left (leaving (l .plan) n)
+    (withNode n (record { status = down; crashed = true; time = 0; log = []; held = []; targets = [] }) l))
+
+-- Recover: restored, refused where targets conflict, and where it replays ended if its rows are complete.
+unfoldable pub recoveredLine : ℕ → Line → Option Line
+unfolding targetsOf recovered endedIfComplete
+recoveredLine n l =
+    elim (conflict (targetsOf l n))
+    [ true ↦ none
+    | false ↦ elim (noTargets (targetsOf l n)) [ true ↦ some (recovered n l) | false ↦ endedIfComplete n (recovered n l) ] ]
+
+-- The line that a frame leads to, steps not counted; nothing where 24 applies.
+unfoldable pub effect : Line → Frame → Option Line
+unfolding fedLine sentOn withLane sendable takenLine crashedLine recoveredLine
+effect l (feed n r) = some (fedLine n r l)
+effect l (send b) = some (sentLine b (sendable l b) l)
+effect l (take b) = takenLine b l
+effect l (crash n) = some (crashedLine n l)
+effect l (recover n) = recoveredLine n l
+
+-- 24: "no placing exists; targets give one time two inputs or one input two times; a target not held when rows are complete"
+unfoldable pub noPlacing : Line → Frame → Bool
+unfolding effect
+noPlacing l f = isNothing (effect l f)
+
+-- The first of 12 to 21 and 24 that applies, 0 if none does.
+unfoldable pub lineRefusal : Line → Frame → ℕ
+unfolding noStepsLeft isSource isSink neighbourCrashed recordFits sendable rowComplete takeLacks targetsOf noPlacing
+lineRefusal l f =
+    elim (noStepsLeft l)
+    [ true ↦ 12
+    | false ↦ elim (noSuch l f)
+    [ true ↦ 13
+    | false ↦ elim (wrongNode l f)
+    [ true ↦ 14
+    | false ↦ elim (wrongStatus l f)
+    [ true ↦ 15
+    | false ↦ elim (besideCrashed l f)
+    [ true ↦ 16
+    | false ↦ elim (badRecord f)
+    [ true ↦ 17
+    | false ↦ elim (nothingThere l f)
+    [ true ↦ 18
+    | false ↦ elim (queueFull l f)
+    [ true ↦ 19
+    | false ↦ elim (rowDone l f)
+    [ true ↦ 20
+    | false ↦ elim (noSpace l f)
+    [ true ↦ 21
+    | false ↦ elim (noPlacing l f) [ true ↦ 24 | false ↦ 0 ] ] ] ] ] ] ] ] ] ] ]
+
+-- "Step 8 to 21 and then 24, each in rising order, and the first that applies is returned." 8 is of the state's bytes.
+unfoldable pub refusal : Line → List ℕ → ℕ
+unfolding badFrameLength badFrameVersion badKind frameOf lineRefusal
+refusal l f =
+    elim (badFrameLength f)
+    [ true ↦ 9
+    | false ↦ elim (badFrameVersion f)
+    [ true ↦ 10
+    | false ↦ elim (badKind f) [ true ↦ 11 | false ↦ lineRefusal l (frameOf f) ] ] ]
+
+pub record Answer : Type 0 where
+  pub number : ℕ
+  pub line : Line
+
+abbrev pub accepted : Line → Option Line → Line
+accepted l none = l
+accepted l (some k) = counted k
+
+-- A step: refused, the line as it was; accepted, the effect and one more step.
+unfoldable pub step : Line → List ℕ → Answer
+unfolding refusal frameOf effect counted
+step l f =
+    let n = refusal l f in
+    elim (eqb n 0) [ true ↦ record { number = 0; line = accepted l (effect l (frameOf f)) } | false ↦ record { number = n; line = l } ]
