@@ -6,5 +6,6 @@ pub mod Clock
 pub mod Recover
 pub mod Replay
 pub mod Step
+pub mod Damaged
 pub mod Plain
 pub mod Sheet
