@@ -9,3 +9,5 @@ pub mod Step
 pub mod Damaged
 pub mod Plain
 pub mod Sheet
+pub mod Claim
+pub mod Marked
