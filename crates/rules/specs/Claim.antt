@@ -59,12 +59,12 @@ unfoldable pub told : Story → List ℕ → Story
 unfolding step frameOf recordLayout
 told s f =
     let a = step (s .line) f in
-    record
-    { line = a .line
-    ; numbers = s .numbers ++ a .number ∷ []
-    ; fedActs = s .fedActs ++ ifZero (a .number) (feedOf (frameOf f))
-    ; receipts = s .receipts ++ ifZero (a .number) (receiptOf (s .line) (frameOf f))
-    ; crashes = s .crashes ++ ifZero (a .number) (crashOf (frameOf f))
+    record {
+      line = a .line;
+      numbers = s .numbers ++ a .number ∷ [];
+      fedActs = s .fedActs ++ ifZero (a .number) (feedOf (frameOf f));
+      receipts = s .receipts ++ ifZero (a .number) (receiptOf (s .line) (frameOf f));
+      crashes = s .crashes ++ ifZero (a .number) (crashOf (frameOf f));
     }
 
 abbrev pub storyFrom : Story → List (List ℕ) → Story

@@ -12,13 +12,13 @@ use Rattle.rules.specs.Line.{Origin, fed, made, Message, Entry, Node, La
 -- A node's time rises by 1 and the message is logged.
 unfoldable pub logged : Record → Origin → Origin → Node → Node
 logged what origin before x =
-    record
-    { status = x .status
-    ; crashed = x .crashed
-    ; time = suc (x .time)
-    ; log = x .log ++ record { what = what; time = suc (x .time); origin = origin; before = before } ∷ []
-    ; held = x .held
-    ; targets = x .targets
+    record {
+      status = x .status;
+      crashed = x .crashed;
+      time = suc (x .time);
+      log = x .log ++ record { what = what; time = suc (x .time); origin = origin; before = before } ∷ [];
+      held = x .held;
+      targets = x .targets;
     }
 
 -- A log entry as a message.

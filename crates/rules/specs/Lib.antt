@@ -11,3 +11,4 @@ pub mod Plain
 pub mod Sheet
 pub mod Claim
 pub mod Marked
+pub mod Examples

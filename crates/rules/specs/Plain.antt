@@ -47,9 +47,9 @@ passOn p n r qs = joinEach n (applied (ruleAt p n) r) (p .channels) qs
 abbrev pub takeFirst : Plan → ℕ → List Record → PlainLine → PlainLine
 takeFirst p b [] l = l
 takeFirst p b (r ∷ rest) l =
-    record
-    { queues = passOn p (channelAt p b .receiver) r (set (l .queues) b rest)
-    ; received = l .received ++ record { receiver = channelAt p b .receiver; what = r; sender = channelAt p b .sender } ∷ []
+    record {
+      queues = passOn p (channelAt p b .receiver) r (set (l .queues) b rest);
+      received = l .received ++ record { receiver = channelAt p b .receiver; what = r; sender = channelAt p b .sender } ∷ [];
     }
 
 unfoldable pub act : Plan → Act → PlainLine → PlainLine

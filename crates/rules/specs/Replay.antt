@@ -87,11 +87,13 @@ unfolding entering highOf itemOf placing nodePlaced withNode
 replayEnd b l =
     let hs = nodeAt l b .held in
     let rows = heldByRow hs l (entering (l .plan) b) in
-    elim (allOf (isHeld hs) (nodeAt l b .targets))
-    [ false ↦ none
-    | true ↦ elim (placing (nodeAt l b .time) (highOf l b) (itemsByRow l b 0 rows))
-    [ none ↦ none
-    | some columns ↦ some (withNode b (nodePlaced l b (inTableOrder rows) columns) l) ] ]
+    elim (allOf (isHeld hs) (nodeAt l b .targets)) [
+      | false ↦ none
+      | true ↦ elim (placing (nodeAt l b .time) (highOf l b) (itemsByRow l b 0 rows)) [
+        | none ↦ none
+        | some columns ↦ some (withNode b (nodePlaced l b (inTableOrder rows) columns) l)
+      ]
+    ]
 
 -- "When all rows are complete, in that same step (a Recover too)": a line with node B replaying, ended if its rows are complete.
 unfoldable pub endedIfComplete : ℕ → Line → Option Line

@@ -103,12 +103,13 @@ abbrev pub framesText : ℕ → ℕ → Line → List ℕ → List ℕ
 framesText zero k l s = lineText l
 framesText (suc fuel) k l [] = lineText l
 framesText (suc fuel) k l (b ∷ bs) =
-    elim (frameCut (b ∷ bs))
-    [ true ↦ answerLine k 9 ++ lineText l
-    | false ↦
-        (let n = lengthField (b ∷ bs) in
-        let a = step l (take n (b ∷ bs)) in
-        answerLine k (a .number) ++ framesText fuel (suc k) (a .line) (drop n (b ∷ bs))) ]
+    elim (frameCut (b ∷ bs)) [
+      | true ↦ answerLine k 9 ++ lineText l
+      | false ↦
+          (let n = lengthField (b ∷ bs) in
+          let a = step l (take n (b ∷ bs)) in
+          answerLine k (a .number) ++ framesText fuel (suc k) (a .line) (drop n (b ∷ bs)))
+    ]
 
 -- "A refused plan gives `A 0` and the number, and no more."
 abbrev pub planText : ℕ → List ℕ → List ℕ → List ℕ

@@ -168,9 +168,10 @@ unfolding passedOn holding withNode
 takenReplaying b m l =
     let n = receiverOf l b in
     let r = madeBy l n (m .what) in
-    elim (passedOn (l .plan) n r)
-    [ true ↦ withNode n (holding (record { what = r; sender = senderOf l b; time = m .time; before = m .origin }) (nodeAt l n)) l
-    | false ↦ l ]
+    elim (passedOn (l .plan) n r) [
+      | true ↦ withNode n (holding (record { what = r; sender = senderOf l b; time = m .time; before = m .origin }) (nodeAt l n)) l
+      | false ↦ l
+    ]
 
 -- The clock raised and the message gone from the channel.
 unfoldable pub takenLane : ℕ → Message → List Message → Line → Line
@@ -180,9 +181,10 @@ takenLane b m rest l = withLane b (takenFrom (parents (l .plan) (senderOf l b)) 
 abbrev pub takenFirst : ℕ → List Message → Line → Option Line
 takenFirst b [] l = some l
 takenFirst b (m ∷ rest) l =
-    elim (replaying l (receiverOf l b))
-    [ true ↦ endedIfComplete (receiverOf l b) (takenReplaying b m (takenLane b m rest l))
-    | false ↦ some (takenUp b m (takenLane b m rest l)) ]
+    elim (replaying l (receiverOf l b)) [
+      | true ↦ endedIfComplete (receiverOf l b) (takenReplaying b m (takenLane b m rest l))
+      | false ↦ some (takenUp b m (takenLane b m rest l))
+    ]
 
 unfoldable pub takenLine : ℕ → Line → Option Line
 unfolding takenLane takenReplaying takenUp endedIfComplete
@@ -202,9 +204,10 @@ crashedLine n l =
 unfoldable pub recoveredLine : ℕ → Line → Option Line
 unfolding targetsOf recovered endedIfComplete
 recoveredLine n l =
-    elim (conflict (targetsOf l n))
-    [ true ↦ none
-    | false ↦ elim (noTargets (targetsOf l n)) [ true ↦ some (recovered n l) | false ↦ endedIfComplete n (recovered n l) ] ]
+    elim (conflict (targetsOf l n)) [
+      | true ↦ none
+      | false ↦ elim (noTargets (targetsOf l n)) [ true ↦ some (recovered n l) | false ↦ endedIfComplete n (recovered n l) ]
+    ]
 
 -- The line that a frame leads to, steps not counted; nothing where 24 applies.
 unfoldable pub effect : Line → Frame → Option Line
@@ -224,37 +227,49 @@ noPlacing l f = isNothing (effect l f)
 unfoldable pub lineRefusal : Line → Frame → ℕ
 unfolding noStepsLeft isSource isSink neighbourCrashed recordFits sendable rowComplete takeLacks targetsOf noPlacing
 lineRefusal l f =
-    elim (noStepsLeft l)
-    [ true ↦ 12
-    | false ↦ elim (noSuch l f)
-    [ true ↦ 13
-    | false ↦ elim (wrongNode l f)
-    [ true ↦ 14
-    | false ↦ elim (wrongStatus l f)
-    [ true ↦ 15
-    | false ↦ elim (besideCrashed l f)
-    [ true ↦ 16
-    | false ↦ elim (badRecord f)
-    [ true ↦ 17
-    | false ↦ elim (nothingThere l f)
-    [ true ↦ 18
-    | false ↦ elim (queueFull l f)
-    [ true ↦ 19
-    | false ↦ elim (rowDone l f)
-    [ true ↦ 20
-    | false ↦ elim (noSpace l f)
-    [ true ↦ 21
-    | false ↦ elim (noPlacing l f) [ true ↦ 24 | false ↦ 0 ] ] ] ] ] ] ] ] ] ] ]
+    elim (noStepsLeft l) [
+      | true ↦ 12
+      | false ↦ elim (noSuch l f) [
+        | true ↦ 13
+        | false ↦ elim (wrongNode l f) [
+          | true ↦ 14
+          | false ↦ elim (wrongStatus l f) [
+            | true ↦ 15
+            | false ↦ elim (besideCrashed l f) [
+              | true ↦ 16
+              | false ↦ elim (badRecord f) [
+                | true ↦ 17
+                | false ↦ elim (nothingThere l f) [
+                  | true ↦ 18
+                  | false ↦ elim (queueFull l f) [
+                    | true ↦ 19
+                    | false ↦ elim (rowDone l f) [
+                      | true ↦ 20
+                      | false ↦ elim (noSpace l f) [
+                        | true ↦ 21
+                        | false ↦ elim (noPlacing l f) [ true ↦ 24 | false ↦ 0 ]
+                      ]
+                    ]
+                  ]
+                ]
+              ]
+            ]
+          ]
+        ]
+      ]
+    ]
 
 -- "Step 8 to 21 and then 24, each in rising order, and the first that applies is returned." 8 is of the state's bytes.
 unfoldable pub refusal : Line → List ℕ → ℕ
 unfolding badFrameLength badFrameVersion badKind frameOf lineRefusal
 refusal l f =
-    elim (badFrameLength f)
-    [ true ↦ 9
-    | false ↦ elim (badFrameVersion f)
-    [ true ↦ 10
-    | false ↦ elim (badKind f) [ true ↦ 11 | false ↦ lineRefusal l (frameOf f) ] ] ]
+    elim (badFrameLength f) [
+      | true ↦ 9
+      | false ↦ elim (badFrameVersion f) [
+        | true ↦ 10
+        | false ↦ elim (badKind f) [ true ↦ 11 | false ↦ lineRefusal l (frameOf f) ]
+      ]
+    ]
 
 pub record Answer : Type 0 where
   pub number : ℕ

@@ -1,0 +1,1 @@
+// Sheets held to the definitions.
