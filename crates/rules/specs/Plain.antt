@@ -9,6 +9,7 @@ use Rattle.plan.specs.declared.Channel.{Channel}
 use Rattle.plan.specs.Rule.{applied}
 use Rattle.plan.specs.Channel.{takes}
 use Rattle.plan.specs.Plan.{Plan, ruleAt, channelAt}
+use Rattle.rules.specs.Lists.{keep}
 
 -- "A run is any list of feeds and takes."
 pub data Act : Type 0 where
@@ -64,6 +65,14 @@ runFrom p (a ∷ acts) l = runFrom p acts (act p a l)
 unfoldable pub plainRun : Plan → List Act → PlainLine
 unfolding plainStart act
 plainRun p acts = runFrom p acts (plainStart p)
+
+-- The feeds of a run, in order.
+abbrev pub isFeed : Act → Bool
+isFeed (feeds n r) = true
+isFeed (takesFrom b) = false
+
+abbrev pub runFeeds : List Act → List Act
+runFeeds acts = keep isFeed acts
 
 -- "At rest every belt is empty."
 abbrev pub atRest : List (List Record) → Bool

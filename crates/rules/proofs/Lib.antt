@@ -1,0 +1,4 @@
+pub mod Update
+pub mod ListLaws
+pub mod PlainRun
+pub mod Witness
