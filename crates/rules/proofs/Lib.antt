@@ -1,4 +1,9 @@
 pub mod Update
 pub mod ListLaws
+pub mod Rising
 pub mod PlainRun
 pub mod Witness
+pub mod Ghost
+pub mod LineLaws
+pub mod Inv
+pub mod Conclusion

@@ -1,0 +1,58 @@
+-- Reading a line after a small change.
+use Prim.Native.Nat.{ℕ, zero, suc, _<_}
+use mathlib.Core.Path.{_≡_, refl, sym, ap, _∙_}
+use mathlib.Core.Logic.{_≢_}
+use mathlib.Core.List.{List, [], _∷_}
+use lib.ListN.{length, getD, set, length-set}
+use lib.Seq.{getD-set-same, getD-set-other}
+use Rattle.rules.specs.Line.{Node, Lane, Line, freshNode, noLane, nodeAt, laneAt, withNode, withLane, counted}
+
+module _ (n : ℕ) (x : Node) (l : Line) where
+  pub node-there : n < length (l .nodes) → nodeAt (withNode n x l) n ≡ x
+  unfolding withNode
+  node-there h = getD-set-same (l .nodes) n x freshNode h
+
+  pub node-else : (m : ℕ) → m ≢ n → nodeAt (withNode n x l) m ≡ nodeAt l m
+  unfolding withNode
+  node-else m d = getD-set-other (l .nodes) n m x freshNode d
+
+  pub lane-kept : (b : ℕ) → laneAt (withNode n x l) b ≡ laneAt l b
+  unfolding withNode
+  lane-kept b = refl
+
+  pub plan-kept : withNode n x l .plan ≡ l .plan
+  unfolding withNode
+  plan-kept = refl
+
+  pub nodes-long : length (withNode n x l .nodes) ≡ length (l .nodes)
+  unfolding withNode
+  nodes-long = length-set (l .nodes) n x
+
+  pub lanes-kept : withNode n x l .lanes ≡ l .lanes
+  unfolding withNode
+  lanes-kept = refl
+
+module _ (b : ℕ) (x : Lane) (l : Line) where
+  pub lane-there : b < length (l .lanes) → laneAt (withLane b x l) b ≡ x
+  unfolding withLane
+  lane-there h = getD-set-same (l .lanes) b x noLane h
+
+  pub lane-else : (c : ℕ) → c ≢ b → laneAt (withLane b x l) c ≡ laneAt l c
+  unfolding withLane
+  lane-else c d = getD-set-other (l .lanes) b c x noLane d
+
+  pub node-kept : (n : ℕ) → nodeAt (withLane b x l) n ≡ nodeAt l n
+  unfolding withLane
+  node-kept n = refl
+
+  pub plan-same : withLane b x l .plan ≡ l .plan
+  unfolding withLane
+  plan-same = refl
+
+  pub lanes-long : length (withLane b x l .lanes) ≡ length (l .lanes)
+  unfolding withLane
+  lanes-long = length-set (l .lanes) b x
+
+  pub nodes-kept : withLane b x l .nodes ≡ l .nodes
+  unfolding withLane
+  nodes-kept = refl
