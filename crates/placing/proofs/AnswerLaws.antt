@@ -6,10 +6,9 @@ use mathlib.Core.Bool.{Bool, true, false}
 use mathlib.Core.List.{List, [], _∷_, _++_}
 use native.Mathlib.Omega.{arith}
 use lib.ListN.{length, drop}
-use lib.Dec.{ltb, eqb}
 use borrow.Author.Tests.{eq-eqb, ne-eqb, lt-ltb, le-ltb}
 use Rattle.placing.specs.Walk.{walked, noneWait}
-use Rattle.placing.specs.Item.{Item, itemsOf}
+use Rattle.placing.specs.Item.{itemsOf}
 use Rattle.placing.specs.Table.{malformed}
 use Rattle.placing.specs.Answer.{unplaceable, chosenColumns, firstOf, answer, columnsLeft}
 
@@ -24,6 +23,18 @@ first-zero true s u e = let clash : ⊥ = omega arith in absurd clash
 first-zero false true u e = let clash : ⊥ = omega arith in absurd clash
 first-zero false false true e = let clash : ⊥ = omega arith in absurd clash
 first-zero false false false e = (refl, refl, refl)
+
+pub first-form : (m s u : Bool) → firstOf m s u ≡ 22 → m ≡ true
+first-form true s u e = refl
+first-form false true u e = let clash : ⊥ = omega arith in absurd clash
+first-form false false true e = let clash : ⊥ = omega arith in absurd clash
+first-form false false false e = let clash : ⊥ = omega arith in absurd clash
+
+pub first-short : (m s u : Bool) → firstOf m s u ≡ 23 → (m ≡ false) × (s ≡ true)
+first-short true s u e = let clash : ⊥ = omega arith in absurd clash
+first-short false true u e = (refl, refl)
+first-short false false true e = let clash : ⊥ = omega arith in absurd clash
+first-short false false false e = let clash : ⊥ = omega arith in absurd clash
 
 pub length-items : (rows times fixed floors : List ℕ) → length (itemsOf rows times fixed floors) ≡ length rows
 length-items [] times fixed floors = refl

@@ -1,7 +1,7 @@
 -- What the walk's choice at a column tells of the rows.
-use Prim.Native.Nat.{ℕ, zero, suc, _+_, _<_, _≤_}
-use mathlib.Core.Path.{_≡_, refl, sym, ap, subst, _∙_}
-use mathlib.Core.Logic.{_≢_, _⊎_, inl, inr, ⊎-elim}
+use Prim.Native.Nat.{ℕ, zero, suc, _+_, _≤_}
+use mathlib.Core.Path.{_≡_, refl, sym, _∙_}
+use mathlib.Core.Logic.{_≢_, _⊎_, inl, inr}
 use mathlib.Core.Bool.{Bool, true, false, cond, true≢false}
 use mathlib.Core.List.{List, [], _∷_}
 use mathlib.Core.Option.{Option, none, some}
@@ -9,7 +9,7 @@ use native.Mathlib.Omega.{arith}
 use lib.ListN.{getD}
 use lib.Dec.{ltb}
 use borrow.Author.Tests.{ltb-true, ltb-false}
-use Rattle.placing.specs.Walk.{Waiting, lastColumn, fixedHere, freeHere, fixedRow, Candidate, candidate, sooner, freeRow, orElse, chosenRow}
+use Rattle.placing.specs.Walk.{Waiting, lastColumn, fixedHere, freeHere, fixedRow, Candidate, sooner, freeRow, orElse, chosenRow}
 
 abbrev pub rowOf : List (List Waiting) → ℕ → List Waiting
 rowOf rows r = getD rows r []

@@ -1,21 +1,20 @@
 -- The walk is complete: where what waits can be placed from a column on, the walk places it.
-use Prim.Native.Nat.{ℕ, zero, suc, _+_, _<_, _≤_}
+use Prim.Native.Nat.{ℕ, zero, suc, _+_, _<_}
 use mathlib.Core.Path.{_≡_, refl, sym, ap, subst, _∙_}
-use mathlib.Core.Logic.{_≢_, _⊎_, inl, inr, ⊎-elim}
-use mathlib.Core.Bool.{Bool, true, false, _&&_, true≢false}
+use mathlib.Core.Logic.{_≢_, inl, inr}
+use mathlib.Core.Bool.{true, false, true≢false}
 use mathlib.Core.List.{List, [], _∷_}
 use mathlib.Core.Option.{Option, none, some}
 use native.Mathlib.Omega.{arith}
 use native.Mathlib.Decide.{decLt, ℕ-discrete}
-use lib.ListN.{length, getD, set, List·getD-eq-default}
+use lib.ListN.{length, set, List·getD-eq-default}
 use lib.Seq.{getD-set-same, getD-set-other}
 use lib.Dec.{ltb, eqb}
 use borrow.Author.Tests.{ltb-true, eqb-true, eq-eqb, lt-ltb}
-use Rattle.placing.specs.Item.{Item}
-use Rattle.placing.specs.Walk.{Waiting, Walk, lastColumn, fixedHere, freeHere, chosenRow, firstTakes, placeIn, walk, noneWait}
+use Rattle.placing.specs.Walk.{Waiting, Walk, fixedHere, freeHere, chosenRow, placeIn, walk, noneWait}
 use Rattle.placing.proofs.Bools.{both-true}
 use Rattle.placing.proofs.Rows.{nil-cons}
-use Rattle.placing.proofs.Fits.{Rows, May, free, fixed, Takes, Fits, done, skip, put, due, fill, swap, same-rows, last-fixed}
+use Rattle.placing.proofs.Fits.{Rows, free, fixed, Takes, Fits, done, skip, put, due, fill, swap, same-rows, last-fixed}
 use Rattle.placing.proofs.Choice.{rowOf, FreeChosen, ChoiceSays, choice-says}
 
 -- What a row's test says of its next item, and back.

@@ -1,16 +1,13 @@
 -- Completions: what waits in the rows can take columns from c on, n of them. The exchange argument: a free item with a last column no later than another's may go first.
-use Prim.Native.Nat.{ℕ, zero, suc, pred, _+_, _-_, _<_, _≤_}
+use Prim.Native.Nat.{ℕ, suc, _+_, _-_, _<_, _≤_}
 use mathlib.Core.Path.{_≡_, refl, sym, ap, subst, fun-ext, _∙_}
 use mathlib.Core.Logic.{_≢_}
-use mathlib.Core.Bool.{Bool, true, false, cond}
 use mathlib.Core.List.{List, [], _∷_}
 use native.Mathlib.Omega.{arith}
 use native.Mathlib.Decide.{ℕ-discrete}
-use native.Mathlib.Numerals.{add-one}
-use lib.Dec.{eqb}
 use borrow.Author.Tests.{eq-eqb, ne-eqb}
 use Rattle.placing.specs.Item.{Item}
-use Rattle.placing.specs.Walk.{Waiting, lastColumn, nextFixed, upToFixed}
+use Rattle.placing.specs.Walk.{Waiting, lastColumn}
 use Rattle.placing.proofs.Rows.{nil-cons}
 use Rattle.placing.proofs.Update.{changed, changed-there, changed-else}
 

@@ -11,7 +11,7 @@ use native.Mathlib.Numerals.{add-one}
 use lib.ListN.{length, getD, drop}
 use lib.Seq.{drop-cons}
 use Rattle.placing.specs.Item.{Item, itemsOf, itemAt, noItem}
-use Rattle.placing.specs.Table.{itemFits, comesAfter, itemsFit, malformed, lengthsAgree, tableFits, boundsFit}
+use Rattle.placing.specs.Table.{mostItems, greatest, itemFits, comesAfter, itemsFit, malformed, lengthsAgree, tableFits, boundsFit}
 use Rattle.placing.proofs.AnswerLaws.{length-items}
 
 getD-rest : (xs : List ℕ) (i : ℕ) → getD (drop 1 xs) i 0 ≡ getD xs (suc i) 0
@@ -32,17 +32,17 @@ module _ (low high row time : ℕ) (rows times fixed floors : List ℕ) (i : ℕ
 
   pub fit-more : (ok : Bool) → (ok && itemsFit low high row time (drop i (itemsOf rows times fixed floors)))
       ≡ (ok && (itemFits low high (record { row = getD rows i 0; time = getD times i 0; fixed = getD fixed i 0; floor = getD floors i 0 })
-      && comesAfter row time (record { row = getD rows i 0; time = getD times i 0; fixed = getD fixed i 0; floor = getD floors i 0 }))
+      && comesAfter row time (getD rows i 0) (getD times i 0))
       && itemsFit low high (getD rows i 0) (getD times i 0) (drop (i + 1) (itemsOf rows times fixed floors)))
   unfolding item
   fit-more ok =
       let table = itemsOf rows times fixed floors in
       let split : drop i table ≡ item ∷ drop (i + 1) table = drop-cons table i noItem (rw (length-items rows times fixed floors) l) ∙ (λ k. items-at rows times fixed floors i l k ∷ drop (suc i) table) ∙ ap (λ (j : ℕ). item ∷ drop j table) (sym (add-one i)) in
-      rw split (sym (and-assoc ok (itemFits low high item && comesAfter row time item) (itemsFit low high (item .row) (item .time) (drop (i + 1) table))))
+      rw split (sym (and-assoc ok (itemFits low high item && comesAfter row time (item .row) (item .time)) (itemsFit low high (item .row) (item .time) (drop (i + 1) table))))
 
 -- Refusal 22 as the code tests it.
 pub malformed-is : (low high : ℕ) (rows times fixed floors : List ℕ)
-    → malformed low high rows times fixed floors ≡ not (lengthsAgree rows times fixed floors && (leb (length rows) 64 && (leb low high && leb high 1_000_000) && itemsFit low high 0 0 (itemsOf rows times fixed floors)))
+    → malformed low high rows times fixed floors ≡ not (lengthsAgree rows times fixed floors && (leb (length rows) mostItems && (leb low high && leb high greatest) && itemsFit low high 0 0 (itemsOf rows times fixed floors)))
 unfolding malformed tableFits boundsFit
 malformed-is low high rows times fixed floors = rw length-items
 

@@ -1,19 +1,20 @@
-pub mod Bools
-pub mod Update
-pub mod Rows
-pub mod Fits
-pub mod Choice
-pub mod Complete
-pub mod TableLaws
-pub mod Next
-pub mod Placings
-pub mod Sound
-pub mod AnswerLaws
-pub mod ItemsLaws
-pub mod PrepareLaws
-pub mod WalkLaws
-pub mod SearchLaws
-pub mod OfferLaws
-pub mod Turn
-pub mod Formed
+-- Another crate sees the promise only.
+mod Bools
+mod Update
+mod Rows
+mod Fits
+mod Choice
+mod Complete
+mod TableLaws
+mod Next
+mod Placings
+mod Sound
+mod AnswerLaws
+mod ItemsLaws
+mod PrepareLaws
+mod WalkLaws
+mod SearchLaws
+mod OfferLaws
+mod Turn
+mod Formed
 pub mod Promise

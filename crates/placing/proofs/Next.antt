@@ -1,21 +1,20 @@
 -- Each row's next place in the table: where it begins, and how it moves when the row's first item goes.
 use Prim.Native.Nat.{ℕ, zero, suc, _+_, _<_, _≤_}
 use mathlib.Core.Path.{_≡_, refl, sym, ap, _∙_}
-use mathlib.Core.Logic.{_≢_}
-use mathlib.Core.List.{List, [], _∷_}
+use mathlib.Core.List.{List, _∷_}
 use native.Mathlib.Omega.{arith}
 use native.Mathlib.Decide.{decLt, ℕ-discrete}
-use lib.ListN.{length, getD}
+use lib.ListN.{length}
 use Rattle.placing.specs.Item.{Item, itemAt}
 use Rattle.placing.specs.Walk.{Waiting}
 use Rattle.placing.proofs.Update.{changed, changed-there, changed-else}
-use Rattle.placing.specs.Places.{rowAt, from, Sorted, Low}
-use Rattle.placing.proofs.Rows.{from-head, from-skip, low-next}
+use Rattle.placing.specs.Places.{rowAt, rowFrom, RowsAtLeast}
+use Rattle.placing.proofs.Rows.{Sorted, from-head, from-skip, low-next}
 use Rattle.placing.proofs.Fits.{Rows, Takes}
 
 -- What waits where each row's next place is given.
 abbrev pub rows-at : List Item → (ℕ → ℕ) → Rows
-rows-at table next = λ r. from table r (next r)
+rows-at table next = λ r. rowFrom table r (next r)
 
 -- The next places once the item at place k is gone.
 abbrev pub gone : List Item → (ℕ → ℕ) → ℕ → ℕ → ℕ
@@ -27,11 +26,11 @@ gone-takes table next k l e =
     let a = rowAt table k in
     let w : Waiting = record { place = k; item = itemAt table k } in
     record {
-      first = ap (from table a) e ∙ from-head table a k l refl ∙ ap (λ (i : ℕ). w ∷ from table a i) (sym (changed-there next a (suc k) a refl));
-      rest = λ s h. ap (from table s) (changed-else next a (suc k) s h);
+      first = ap (rowFrom table a) e ∙ from-head table a k l refl ∙ ap (λ (i : ℕ). w ∷ rowFrom table a i) (sym (changed-there next a (suc k) a refl));
+      rest = λ s h. ap (rowFrom table s) (changed-else next a (suc k) s h);
     }
 
-pub gone-low : (table : List Item) → Sorted table → (next : ℕ → ℕ) (k : ℕ) → k < length table → ((r : ℕ) → Low table r (next r)) → (r : ℕ) → Low table r (gone table next k r)
+pub gone-low : (table : List Item) → Sorted table → (next : ℕ → ℕ) (k : ℕ) → k < length table → ((r : ℕ) → RowsAtLeast table r (next r)) → (r : ℕ) → RowsAtLeast table r (gone table next k r)
 gone-low table sorted next k l lows r =
     let a = rowAt table k in
     elim (ℕ-discrete r a) [
@@ -42,8 +41,8 @@ gone-low table sorted next k l lows r =
 -- Where row r begins.
 pub record Begins (table : List Item) (r i : ℕ) : Type 0 where
   pub place : ℕ
-  pub low : Low table r place
-  pub waits : from table r i ≡ from table r place
+  pub low : RowsAtLeast table r place
+  pub waits : rowFrom table r i ≡ rowFrom table r place
   pub first : (k : ℕ) → i ≤ k → k < length table → rowAt table k ≡ r → place ≤ k
 
 pub begins : (table : List Item) → Sorted table → (r m i : ℕ) → i + m ≡ length table → Begins table r i

@@ -1,29 +1,27 @@
 -- What a row offers a column, as the code finds it at the row's next place.
-use Prim.Native.Nat.{ℕ, zero, suc, _<_, _≤_}
+use Prim.Native.Nat.{ℕ, suc, _<_}
 use mathlib.Core.Path.{_≡_, refl, sym, ap, _∙_}
 use mathlib.Core.Logic.{_≢_}
-use mathlib.Core.Bool.{Bool, true, false, _&&_}
+use mathlib.Core.Bool.{Bool, true, false}
 use mathlib.Core.List.{List, [], _∷_}
 use native.Mathlib.Omega.{arith}
 use native.Mathlib.Decide.{decLt, ℕ-discrete}
 use lib.ListN.{length, getD}
-use lib.Dec.{ltb, eqb}
 use borrow.Author.Tests.{lt-ltb, le-ltb, eq-eqb, ne-eqb}
-use Rattle.placing.specs.Item.{Item, itemsOf, itemAt}
-use Rattle.placing.specs.Walk.{Waiting, lastColumn, fixedHere, freeHere}
-use Rattle.placing.specs.declared.Offer.{Offer}
+use Rattle.placing.specs.Item.{itemsOf, itemAt}
+use Rattle.placing.specs.Walk.{lastColumn, fixedHere, freeHere}
 use Rattle.placing.specs.declared.Offer.the-variants.{Fixed, Free, Nothing}
-use Rattle.placing.specs.Places.{rowAt, from, Low, Ordered, offerBy, offerAt}
+use Rattle.placing.specs.Places.{rowAt, rowFrom, RowsAtLeast, Ordered, offerBy, offerAt}
 use Rattle.placing.proofs.Rows.{from-head, from-none}
 use Rattle.placing.proofs.PrepareLaws.{row-is, fixed-is, floor-is, in-table, in-rows, sorted-table}
 
-module _ (high : ℕ) (rows times fixed floors lasts : List ℕ) (o : Ordered rows) (r i c : ℕ) (low : Low (itemsOf rows times fixed floors) r i)
-    (lasts-are : i < length rows → getD lasts i 0 ≡ lastColumn high (from (itemsOf rows times fixed floors) (rowAt (itemsOf rows times fixed floors) i) i)) where
-  nothing-there : (i < length rows → getD rows i 0 ≢ r) → from (itemsOf rows times fixed floors) r i ≡ []
+module _ (high : ℕ) (rows times fixed floors lasts : List ℕ) (o : Ordered rows) (r i c : ℕ) (low : RowsAtLeast (itemsOf rows times fixed floors) r i)
+    (lasts-are : i < length rows → getD lasts i 0 ≡ lastColumn high (rowFrom (itemsOf rows times fixed floors) (rowAt (itemsOf rows times fixed floors) i) i)) where
+  nothing-there : (i < length rows → getD rows i 0 ≢ r) → rowFrom (itemsOf rows times fixed floors) r i ≡ []
   nothing-there h = from-none (itemsOf rows times fixed floors) (sorted-table rows times fixed floors o) r i low (λ l e. h (in-rows rows times fixed floors l) (sym (row-is rows times fixed floors i (in-rows rows times fixed floors l)) ∙ e))
 
   pub offer-is : offerAt rows fixed floors lasts r i c
-      ≡ offerBy true (fixedHere c (from (itemsOf rows times fixed floors) r i)) (freeHere c (from (itemsOf rows times fixed floors) r i)) (lastColumn high (from (itemsOf rows times fixed floors) r i))
+      ≡ offerBy true (fixedHere c (rowFrom (itemsOf rows times fixed floors) r i)) (freeHere c (rowFrom (itemsOf rows times fixed floors) r i)) (lastColumn high (rowFrom (itemsOf rows times fixed floors) r i))
   unfolding offerAt
   offer-is =
       let table = itemsOf rows times fixed floors in
@@ -33,8 +31,8 @@ module _ (high : ℕ) (rows times fixed floors lasts : List ℕ) (o : Ordered ro
           | no h ↦ rw (lt-ltb i (length rows) l, ne-eqb (getD rows i 0) r h, nothing-there (λ _. h))
           | yes e ↦
               (let row : rowAt table i ≡ r = row-is rows times fixed floors i l ∙ e in
-              let last : getD lasts i 0 ≡ lastColumn high (from table r i) = lasts-are l ∙ ap (λ (s : ℕ). lastColumn high (from table s i)) row in
-              let head : from table r i ≡ record { place = i; item = itemAt table i } ∷ from table r (suc i) = from-head table r i (in-table rows times fixed floors l) row in
+              let last : getD lasts i 0 ≡ lastColumn high (rowFrom table r i) = lasts-are l ∙ ap (λ (s : ℕ). lastColumn high (rowFrom table s i)) row in
+              let head : rowFrom table r i ≡ record { place = i; item = itemAt table i } ∷ rowFrom table r (suc i) = from-head table r i (in-table rows times fixed floors l) row in
               rw (lt-ltb i (length rows) l, eq-eqb (getD rows i 0) r e, last, head, fixed-is rows times fixed floors i l, floor-is rows times fixed floors i l))
         ]
       ]

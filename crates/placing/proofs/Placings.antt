@@ -1,6 +1,6 @@
 -- A list of columns that keeps the rules is a completion of what waits at first.
 use Prim.Native.Nat.{ℕ, zero, suc, _+_, _<_, _≤_}
-use mathlib.Core.Path.{_≡_, refl, sym, ap, subst, _∙_}
+use mathlib.Core.Path.{_≡_, sym, ap, _∙_}
 use mathlib.Core.Logic.{_≢_, _⊎_, inl, inr, ⊎-elim}
 use mathlib.Core.List.{List, [], _∷_}
 use native.Mathlib.Omega.{arith}
@@ -9,8 +9,8 @@ use lib.ListN.{length, getD}
 use Rattle.placing.specs.Item.{Item, itemAt}
 use Rattle.placing.specs.Rules.{KeepsRules}
 use Rattle.placing.proofs.Update.{changed-there, changed-else}
-use Rattle.placing.specs.Places.{rowAt, from, Sorted, Low}
-use Rattle.placing.proofs.Rows.{from-none}
+use Rattle.placing.specs.Places.{rowAt, RowsAtLeast}
+use Rattle.placing.proofs.Rows.{Sorted, from-none}
 use Rattle.placing.proofs.Next.{rows-at, gone, gone-takes, gone-low}
 use Rattle.placing.proofs.Fits.{May, free, fixed, Fits, done, skip, put}
 
@@ -32,7 +32,7 @@ seek (x ∷ xs) c =
 
 -- The places from which on each row's items stand at column c or later.
 pub record Split (table : List Item) (columns : List ℕ) (c : ℕ) (next : ℕ → ℕ) : Type 0 where
-  pub lows : (r : ℕ) → Low table r (next r)
+  pub lows : (r : ℕ) → RowsAtLeast table r (next r)
   pub past : (k : ℕ) → k < length table → k < next (rowAt table k) → getD columns k 0 < c
   pub ahead : (k : ℕ) → k < length table → next (rowAt table k) ≤ k → c ≤ getD columns k 0
 

@@ -1,9 +1,9 @@
 -- One turn of `prepare`: the item at place k gets its last column from the one behind it, and its row begins there.
-use Prim.Native.Nat.{ℕ, zero, suc, _+_, _-_, _<_, _≤_}
+use Prim.Native.Nat.{ℕ, suc, _+_, _-_, _<_, _≤_}
 use mathlib.Core.Path.{_≡_, refl, sym, ap, subst, _∙_}
 use mathlib.Core.Logic.{_≢_}
-use mathlib.Core.Bool.{Bool, true, false, cond}
-use mathlib.Core.List.{List, [], _∷_}
+use mathlib.Core.Bool.{cond}
+use mathlib.Core.List.{List, _∷_}
 use native.Mathlib.Omega.{arith}
 use native.Mathlib.Decide.{decLt, ℕ-discrete}
 use lib.ListN.{length, getD, set}
@@ -12,8 +12,8 @@ use lib.Dec.{ltb, eqb}
 use borrow.Author.Tests.{lt-ltb, le-ltb, eq-eqb, ne-eqb}
 use Rattle.placing.specs.Item.{Item, itemsOf, itemAt}
 use Rattle.placing.specs.Walk.{Waiting, lastColumn}
-use Rattle.placing.specs.Places.{rowAt, from, Sorted, Low, Ordered, BeginsAt, Prepared, PrepareAsks}
-use Rattle.placing.proofs.Rows.{from-head, from-skip, from-end}
+use Rattle.placing.specs.Places.{rowAt, rowFrom, Ordered, BeginsAt, Prepared, PrepareAsks}
+use Rattle.placing.proofs.Rows.{Sorted, from-head, from-skip, from-end}
 use Rattle.placing.proofs.Fits.{last-fixed, last-free, last-none}
 use Rattle.placing.proofs.AnswerLaws.{length-items}
 use Rattle.placing.proofs.ItemsLaws.{items-at}
@@ -65,7 +65,7 @@ lastOf fixed behind = cond (eqb fixed 0) (behind - 1) fixed
 
 module _ (high : ℕ) (rows fixed lasts next : List ℕ) (o : Ordered rows) (k : ℕ) (l : k < length rows) (p : Prepared high (suc k) rows fixed lasts next) where
   module _ (times floors : List ℕ) where
-    behind-is : behindOf high rows lasts (getD next (getD rows k 0) 0) ≡ lastColumn high (from (itemsOf rows times fixed floors) (getD rows k 0) (suc k))
+    behind-is : behindOf high rows lasts (getD next (getD rows k 0) 0) ≡ lastColumn high (rowFrom (itemsOf rows times fixed floors) (getD rows k 0) (suc k))
     behind-is =
         let r = getD rows k 0 in
         let j = getD next r 0 in
@@ -74,20 +74,20 @@ module _ (high : ℕ) (rows fixed lasts next : List ℕ) (o : Ordered rows) (k :
         elim (decLt j (length rows)) [
           | yes m ↦
               (let same : rowAt table j ≡ r = b .there (in-table rows times fixed floors m) in
-              rw (lt-ltb j (length rows) m, b .waits) (p .lasts-are j (b .after) m times floors ∙ ap (λ (s : ℕ). lastColumn high (from table s j)) same))
+              rw (lt-ltb j (length rows) m, b .waits) (p .lasts-are j (b .after) m times floors ∙ ap (λ (s : ℕ). lastColumn high (rowFrom table s j)) same))
           | no h ↦ rw (le-ltb j (length rows) (omega arith), b .waits, from-end table r j (rw length-items (omega arith)), last-none) (omega arith)
         ]
 
-    last-is : lastOf (getD fixed k 0) (behindOf high rows lasts (getD next (getD rows k 0) 0)) ≡ lastColumn high (from (itemsOf rows times fixed floors) (getD rows k 0) k)
+    last-is : lastOf (getD fixed k 0) (behindOf high rows lasts (getD next (getD rows k 0) 0)) ≡ lastColumn high (rowFrom (itemsOf rows times fixed floors) (getD rows k 0) k)
     last-is =
         let r = getD rows k 0 in
         let table = itemsOf rows times fixed floors in
         let w : Waiting = record { place = k; item = itemAt table k } in
-        let head : from table r k ≡ w ∷ from table r (suc k) = from-head table r k (in-table rows times fixed floors l) (row-is rows times fixed floors k l) in
+        let head : rowFrom table r k ≡ w ∷ rowFrom table r (suc k) = from-head table r k (in-table rows times fixed floors l) (row-is rows times fixed floors k l) in
         let its = fixed-is rows times fixed floors k l in
         elim (ℕ-discrete (getD fixed k 0) 0) [
-          | yes e ↦ rw (eq-eqb (getD fixed k 0) 0 e, behind-is, head, last-free high w (from table r (suc k)) (its ∙ e))
-          | no h ↦ rw (ne-eqb (getD fixed k 0) 0 h, head, last-fixed high w (from table r (suc k)) (λ e. h (sym its ∙ e)), its)
+          | yes e ↦ rw (eq-eqb (getD fixed k 0) 0 e, behind-is, head, last-free high w (rowFrom table r (suc k)) (its ∙ e))
+          | no h ↦ rw (ne-eqb (getD fixed k 0) 0 h, head, last-fixed high w (rowFrom table r (suc k)) (λ e. h (sym its ∙ e)), its)
         ]
 
     begins-here : BeginsAt (itemsOf rows times fixed floors) (getD rows k 0) k k
@@ -116,8 +116,8 @@ module _ (high : ℕ) (rows fixed lasts next : List ℕ) (o : Ordered rows) (k :
   prepared-more long four =
       record {
         lasts-are = λ j q m times floors. elim (ℕ-discrete j k) [
-          | yes e ↦ subst (λ (i : ℕ). getD (set lasts k (lastOf (getD fixed k 0) (behindOf high rows lasts (getD next (getD rows k 0) 0)))) i 0 ≡ lastColumn high (from (itemsOf rows times fixed floors) (rowAt (itemsOf rows times fixed floors) i) i)) (sym e)
-              (getD-set-same lasts k _ 0 (omega arith) ∙ last-is times floors ∙ ap (λ (s : ℕ). lastColumn high (from (itemsOf rows times fixed floors) s k)) (sym (row-is rows times fixed floors k l)))
+          | yes e ↦ subst (λ (i : ℕ). getD (set lasts k (lastOf (getD fixed k 0) (behindOf high rows lasts (getD next (getD rows k 0) 0)))) i 0 ≡ lastColumn high (rowFrom (itemsOf rows times fixed floors) (rowAt (itemsOf rows times fixed floors) i) i)) (sym e)
+              (getD-set-same lasts k _ 0 (omega arith) ∙ last-is times floors ∙ ap (λ (s : ℕ). lastColumn high (rowFrom (itemsOf rows times fixed floors) s k)) (sym (row-is rows times fixed floors k l)))
           | no d ↦ getD-set-other lasts k j _ 0 d ∙ p .lasts-are j (omega arith) m times floors
         ];
         begins = λ s q times floors. elim (ℕ-discrete s (getD rows k 0)) [

@@ -1,51 +1,50 @@
--- The placing's promise. Accepted: the columns keep the rules. Refused with 24: no list of columns does.
+-- The placing's promise: `accepted` and `none-exists` of a table, `promise` of the slices lent. Accepted: the columns keep the rules. Refused with 24: no list of columns does.
 use Prim.Native.Nat.{ℕ, zero, suc, _+_, _-_, _<_, _≤_}
-use mathlib.Core.Path.{_≡_, refl, sym, ap, subst, fun-ext, _∙_}
-use mathlib.Core.Logic.{_↔_}
+use mathlib.Core.Path.{_≡_, refl, sym, subst, fun-ext, _∙_}
+use mathlib.Core.Logic.{_↔_, _≢_}
 use mathlib.Core.Bool.{Bool, true, false, not, _&&_, true≢false}
-use mathlib.Core.List.{List, [], _∷_}
+use mathlib.Core.List.{List, _++_}
 use native.Mathlib.Omega.{arith}
-use native.Mathlib.Nat.{sub-add-cancel}
-use lib.ListN.{length, getD, replicate, take, drop, length-replicate}
+use lib.ListN.{length, replicate, take, drop, length-replicate}
 use lib.Seq.{take-at}
-use lib.Dec.{leb, ltb, eqb}
-use borrow.Author.Tests.{leb-true, ltb-false, not-true, not-false, le-ltb}
-use Rattle.placing.specs.Item.{Item, itemsOf, itemAt}
-use Rattle.placing.specs.Table.{tableFits, boundsFit, itemsFit, malformed, lengthsAgree}
+use lib.Dec.{leb, ltb}
+use borrow.Author.Tests.{leb-true, ltb-true, ltb-false, not-true, not-false, lt-ltb, le-ltb}
+use Rattle.placing.specs.Item.{Item, itemsOf}
+use Rattle.placing.specs.Table.{mostItems, greatest, rowCount, tableFits, boundsFit, itemsFit, malformed, lengthsAgree}
 use Rattle.placing.specs.Rules.{KeepsRules}
-use Rattle.placing.specs.Walk.{Waiting, rowsOf, begun, walk, walked, noneWait}
-use Rattle.placing.specs.Answer.{unplaceable, chosenColumns, answer, columnsLeft}
+use Rattle.placing.specs.Walk.{rowsOf, begun, walked, noneWait}
+use Rattle.placing.specs.Answer.{unplaceable, chosenColumns, tooShort, answer, columnsLeft}
 use Rattle.placing.proofs.Bools.{both-true}
-use Rattle.placing.specs.Places.{rowAt, from, Sorted}
-use Rattle.placing.proofs.Rows.{inRow-none}
+use Rattle.placing.specs.Places.{rowAt, rowFrom}
+use Rattle.placing.proofs.Rows.{Sorted, inRow-none}
 use Rattle.placing.proofs.Next.{rows-at, Begins, begins}
 use Rattle.placing.proofs.Fits.{Rows, Fits}
 use Rattle.placing.proofs.Choice.{rowOf}
 use Rattle.placing.proofs.Complete.{walk-places}
 use Rattle.placing.proofs.TableLaws.{rows-rise, rows-four}
 use Rattle.placing.proofs.Placings.{Split, completion}
-use Rattle.placing.proofs.AnswerLaws.{first-none, first-zero, length-items, left-accepted}
+use Rattle.placing.proofs.AnswerLaws.{first-none, first-zero, first-form, first-short, length-items, left-accepted, left-refused}
 use Rattle.placing.proofs.Sound.{Good, walk-keeps}
 
 -- What the promise takes from a table's check.
 record Fit (low high : ℕ) (table : List Item) : Type 0 where
   bounds : low ≤ high
   sorted : Sorted table
-  four : (k : ℕ) → k < length table → rowAt table k ≤ 3
+  four : (k : ℕ) → k < length table → rowAt table k < rowCount
 
 fit : (low high : ℕ) (table : List Item) → tableFits low high table ≡ true → Fit low high table
 unfolding tableFits
 fit low high table e =
-    let t = both-true (leb (length table) 64 && boundsFit low high) (itemsFit low high 0 0 table) e in
+    let t = both-true (leb (length table) mostItems && boundsFit low high) (itemsFit low high 0 0 table) e in
     record {
-      bounds = leb-true low high (both-true (leb low high) (leb high 1_000_000) (both-true (leb (length table) 64) (boundsFit low high) (t .0) .1) .0);
+      bounds = leb-true low high (both-true (leb low high) (leb high greatest) (both-true (leb (length table) mostItems) (boundsFit low high) (t .0) .1) .0);
       sorted = rows-rise low high 0 0 table (t .1);
       four = rows-four low high 0 0 table (t .1);
     }
 
 module _ (low high : ℕ) (table : List Item) (f : Fit low high table) where
-  row-begun : (r : ℕ) → rowOf (rowsOf table) r ≡ from table r 0
-  unfolding rowsOf from
+  row-begun : (r : ℕ) → rowOf (rowsOf table) r ≡ rowFrom table r 0
+  unfolding rowsOf rowFrom
   row-begun zero = refl
   row-begun (suc zero) = refl
   row-begun (suc (suc zero)) = refl
@@ -120,10 +119,27 @@ none-exists low high table e = (
     waits false q never = refl
     waits true q never = absurd (never (walked low high table .columns) (sound low high table (fit low high table e) q))
 
+-- What a number and the columns left tell of the table and the columns lent: all that a caller goes by.
+pub record Outcome (low high : ℕ) (rows times fixed floors columns : List ℕ) (number : ℕ) (left : List ℕ) : Type 0 where
+  pub zero : (number ≡ 0) ↔ ((malformed low high rows times fixed floors ≡ false) × (length rows ≤ length columns) × (cs : List ℕ) × KeepsRules low high (itemsOf rows times fixed floors) cs)
+  pub chosen : number ≡ 0 → (left ≡ chosenColumns low high (itemsOf rows times fixed floors) ++ drop (length rows) columns) × KeepsRules low high (itemsOf rows times fixed floors) (take (length rows) left)
+  pub none : (number ≡ 24) ↔ ((malformed low high rows times fixed floors ≡ false) × (length rows ≤ length columns) × ((cs : List ℕ) → ¬ KeepsRules low high (itemsOf rows times fixed floors) cs))
+  pub short : (number ≡ 23) ↔ ((malformed low high rows times fixed floors ≡ false) × (length columns < length rows))
+  pub malformed : (number ≡ 22) ↔ (malformed low high rows times fixed floors ≡ true)
+  pub refused : number ≢ 0 → left ≡ columns
+
 module _ (low high : ℕ) (rows times fixed floors columns : List ℕ) where
   formed : malformed low high rows times fixed floors ≡ false → tableFits low high (itemsOf rows times fixed floors) ≡ true
   unfolding malformed
   formed e = both-true (lengthsAgree rows times fixed floors) (tableFits low high (itemsOf rows times fixed floors)) (not-false (lengthsAgree rows times fixed floors && tableFits low high (itemsOf rows times fixed floors)) e) .1
+
+  -- Some columns keep the rules.
+  placeable : malformed low high rows times fixed floors ≡ false → (cs : List ℕ) → KeepsRules low high (itemsOf rows times fixed floors) cs → unplaceable low high (itemsOf rows times fixed floors) ≡ false
+  placeable m cs keeps = told (unplaceable low high (itemsOf rows times fixed floors)) refl
+    where
+      told : (b : Bool) → unplaceable low high (itemsOf rows times fixed floors) ≡ b → b ≡ false
+      told false e = refl
+      told true e = absurd (none-exists low high (itemsOf rows times fixed floors) (formed m) .0 e cs keeps)
 
   -- The answer is 24 if and only if the table is well formed, the output long enough, and no list of columns keeps the rules.
   pub answers-none : (answer low high rows times fixed floors columns ≡ 24)
@@ -147,3 +163,26 @@ module _ (low high : ℕ) (rows times fixed floors columns : List ℕ) where
         take-at (chosenColumns low high (itemsOf rows times fixed floors)) (drop (length rows) columns) (length rows) (keeps .one-each ∙ length-items rows times fixed floors),
       )
       keeps
+
+  -- The promise: every answer of `placing_place`, and what it leaves, is such an outcome.
+  pub promise : Outcome low high rows times fixed floors columns (answer low high rows times fixed floors columns) (columnsLeft low high rows times fixed floors columns)
+  unfolding answer
+  promise =
+      let table = itemsOf rows times fixed floors in
+      let m = malformed low high rows times fixed floors in
+      let s = tooShort columns rows in
+      let u = unplaceable low high table in
+      record {
+        zero = (
+          λ e. (let t = first-zero m s u e in (t .0, ltb-false (length columns) (length rows) (t .1), chosenColumns low high table, accepted low high table (formed (t .0)) (t .2))),
+          λ h. rw (h .0, le-ltb (length columns) (length rows) (h .1), placeable (h .0) (h .2) (h .3)),
+        );
+        chosen = λ e. (left-accepted low high rows times fixed floors columns e, answers-zero e);
+        none = answers-none;
+        short = (
+          λ e. (let t = first-short m s u e in (t .0, ltb-true (length columns) (length rows) (t .1))),
+          λ h. rw (h .0, lt-ltb (length columns) (length rows) (h .1)),
+        );
+        malformed = (λ e. first-form m s u e, λ h. rw h);
+        refused = left-refused low high rows times fixed floors columns;
+      }

@@ -1,9 +1,9 @@
 -- The walk is sound: where it leaves nothing waiting, its columns keep the rules.
-use Prim.Native.Nat.{ℕ, zero, suc, _+_, _<_, _≤_}
+use Prim.Native.Nat.{ℕ, zero, suc, _+_, _<_}
 use mathlib.Core.Path.{_≡_, refl, sym, ap, subst, subst₂, _∙_}
 use mathlib.Core.Logic.{_≢_, _⊎_, inl, inr, ⊎-elim}
 use mathlib.Core.Bool.{true}
-use mathlib.Core.List.{List, [], _∷_}
+use mathlib.Core.List.{List, _∷_}
 use mathlib.Core.Option.{Option, none, some}
 use native.Mathlib.Omega.{arith}
 use native.Mathlib.Decide.{decLt, ℕ-discrete}
@@ -13,8 +13,8 @@ use Rattle.placing.specs.Item.{Item, itemAt}
 use Rattle.placing.specs.Rules.{KeepsRules}
 use Rattle.placing.specs.Walk.{Waiting, Walk, chosenRow, placeIn, walk, noneWait}
 use Rattle.placing.proofs.Update.{changed-there, changed-else}
-use Rattle.placing.specs.Places.{rowAt, from, Sorted, Low}
-use Rattle.placing.proofs.Rows.{from-head, from-some, from-waits}
+use Rattle.placing.specs.Places.{rowAt, rowFrom, RowsAtLeast}
+use Rattle.placing.proofs.Rows.{Sorted, from-head, from-some, from-waits}
 use Rattle.placing.proofs.Next.{rows-at, gone, gone-takes, gone-low}
 use Rattle.placing.proofs.Fits.{Rows, May, free, fixed, Takes, same-rows, cons-first}
 use Rattle.placing.proofs.Choice.{rowOf, ChoiceSays, choice-says}
@@ -23,7 +23,7 @@ use Rattle.placing.proofs.Complete.{fixed-next, free-next, set-takes, t
 -- The items that stand before their row's next place have columns before c that keep the rules among themselves.
 pub record Good (table : List Item) (low c : ℕ) (next : ℕ → ℕ) (columns : List ℕ) : Type 0 where
   pub one-each : length columns ≡ length table
-  pub lows : (r : ℕ) → Low table r (next r)
+  pub lows : (r : ℕ) → RowsAtLeast table r (next r)
   pub inside : (k : ℕ) → k < length table → k < next (rowAt table k) → (low < getD columns k 0) × (getD columns k 0 < c)
   pub may : (k : ℕ) → k < length table → k < next (rowAt table k) → May (itemAt table k) (getD columns k 0)
   pub distinct : (j k : ℕ) → j < k → k < length table → j < next (rowAt table j) → k < next (rowAt table k) → getD columns j 0 ≢ getD columns k 0
@@ -130,7 +130,7 @@ module _ (table : List Item) (low : ℕ) where
 
         placed : Next → (next′ : ℕ → ℕ) × (rowOf (placeIn c (some a) s .waiting) ≡ rows-at table next′) × Good table low (suc c) next′ (placeIn c (some a) s .columns)
         placed (w, ws, e, may) =
-            let there : from table a (next a) ≡ w ∷ ws = sym (ap (λ (R : Rows). R a) waits) ∙ e in
+            let there : rowFrom table a (next a) ≡ w ∷ ws = sym (ap (λ (R : Rows). R a) waits) ∙ e in
             let (l, same) = from-some table sorted a (next a) (g .lows a) there in
             let k : ℕ = next a in
             let its : next (rowAt table k) ≡ k = ap next same in

@@ -1,42 +1,41 @@
 -- The walk's two loops, turn by turn, as the code's variables hold them.
 use Prim.Native.Nat.{ℕ, zero, suc, _+_, _-_, _<_, _≤_}
-use mathlib.Core.Path.{_≡_, refl, sym, ap, subst, _∙_}
-use mathlib.Core.Logic.{_≢_, _⊎_, inl, inr}
-use mathlib.Core.Bool.{Bool, true, false, cond, _&&_, _||_, true≢false}
+use mathlib.Core.Path.{_≡_, refl, sym, ap, _∙_}
+use mathlib.Core.Logic.{_⊎_, inl, inr}
+use mathlib.Core.Bool.{true}
 use mathlib.Core.List.{List, [], _∷_}
 use mathlib.Core.Option.{Option, none, some}
 use native.Mathlib.Omega.{arith}
-use native.Mathlib.Decide.{ℕ-discrete}
 use native.Mathlib.Numerals.{add-one}
 use lib.ListN.{length, getD, set, take, replicate, length-set}
-use lib.Dec.{leb, ltb, eqb}
-use borrow.Author.Tests.{eqb-true, eqb-false, ltb-true, ltb-false, leb-false, eq-eqb, ne-eqb}
+use lib.Dec.{eqb}
+use borrow.Author.Tests.{eq-eqb}
 use Rattle.placing.specs.Item.{Item, itemsOf}
-use Rattle.placing.specs.Walk.{Waiting, Walk, lastColumn, fixedHere, freeHere, chosenRow, placeIn, walk, begun, walked, noneWait, rowsOf}
+use Rattle.placing.specs.Table.{mostItems, rowCount}
+use Rattle.placing.specs.Walk.{Waiting, Walk, lastColumn, fixedHere, freeHere, Candidate, sooner, orElse, chosenRow, placeIn, walk, begun, walked, noneWait, rowsOf}
 use Rattle.placing.specs.declared.Offer.{Offer}
 use Rattle.placing.specs.declared.Offer.the-variants.{Fixed, Free, Nothing}
-use Rattle.placing.specs.Places.{rowAt, from, Low, Ordered, offerBy, offerAt, WalkAsks, WalkGives}
+use Rattle.placing.specs.Places.{rowFrom, RowsAtLeast, offerBy, offerAt, WalkAsks, WalkGives}
 use Rattle.placing.proofs.AnswerLaws.{length-items}
 use Rattle.placing.proofs.PrepareLaws.{row-is, in-rows, sorted-table}
 use Rattle.placing.proofs.Choice.{rowOf}
 use Rattle.placing.proofs.OfferLaws.{offer-is, offer-fixed, offer-free, offer-nothing}
 use Rattle.placing.proofs.WalkLaws.{rowsNow, view, row-now, length-now, total, none-total, total-begun, walk-idle, walk-more, Step, step}
-use Rattle.placing.proofs.SearchLaws.{Searched, choiceOf, search-begun, search-fixed, search-nothing, search-keep, search-take, search-ended}
+use Rattle.placing.proofs.SearchLaws.{Searched, search-begun, search-fixed, search-nothing, search-free, search-ended}
 
 -- The rows before r are searched, whatever the times.
-pub record Searching (high : ℕ) (rows fixed floors next : List ℕ) (c chosen best r : ℕ) : Type 0 where
+pub record Searching (high : ℕ) (rows fixed floors next : List ℕ) (c : ℕ) (best : Option Candidate) (r : ℕ) : Type 0 where
   pub within : r ≤ 4
-  pub chosen-within : chosen ≤ 4
-  pub searched : (times : List ℕ) → Searched high c (rowsNow (itemsOf rows times fixed floors) next) r chosen best
+  pub searched : (times : List ℕ) → Searched high c (rowsNow (itemsOf rows times fixed floors) next) r best
 
 -- The columns before c are walked, whatever the times.
 pub record Walking (low high : ℕ) (rows fixed floors lasts next₀ work₀ next work : List ℕ) (left c : ℕ) : Type 0 where
   pub asks : WalkAsks low high rows fixed floors lasts next₀ work₀
   pub above : low < c
   pub within : c ≤ high + 1
-  pub next-long : length next ≡ 4
-  pub work-long : length work ≡ 64
-  pub lows : (times : List ℕ) (r : ℕ) → r < 4 → Low (itemsOf rows times fixed floors) r (getD next r 0)
+  pub next-long : length next ≡ rowCount
+  pub work-long : length work ≡ mostItems
+  pub lows : (times : List ℕ) (r : ℕ) → r < 4 → RowsAtLeast (itemsOf rows times fixed floors) r (getD next r 0)
   pub left-is : (times : List ℕ) → left ≡ total (rowsNow (itemsOf rows times fixed floors) next)
   pub same : (times : List ℕ) → walked low high (itemsOf rows times fixed floors) ≡ walk high (suc high - c) c (view (itemsOf rows times fixed floors) next work)
 
@@ -44,24 +43,16 @@ pub record Walking (low high : ℕ) (rows fixed floors lasts next₀ work₀ nex
 abbrev pub Chosen : ℕ → List ℕ → List ℕ → List ℕ → List ℕ → ℕ → Option ℕ → Type 0
 Chosen high rows fixed floors next c o = (times : List ℕ) → chosenRow high c (rowsNow (itemsOf rows times fixed floors) next) ≡ o
 
-either : (a b : Bool) → (a || b) ≡ true → (a ≡ true) ⊎ (b ≡ true)
-either true b e = inl refl
-either false b e = inr e
-
-neither : (a b : Bool) → (a || b) ≡ false → (a ≡ false) × (b ≡ false)
-neither false b e = (refl, e)
-neither true b e = absurd (true≢false e)
-
-pub searching-begun : (high : ℕ) (rows fixed floors next : List ℕ) (c : ℕ) → Searching high rows fixed floors next c 4 0 0
+pub searching-begun : (high : ℕ) (rows fixed floors next : List ℕ) (c : ℕ) → Searching high rows fixed floors next c none 0
 searching-begun high rows fixed floors next c =
-    record { within = omega arith; chosen-within = omega arith; searched = λ times. search-begun high c 0 (rowsNow (itemsOf rows times fixed floors) next) }
+    record { within = omega arith; searched = λ times. search-begun high c (rowsNow (itemsOf rows times fixed floors) next) }
 
-pub searching-ended : {high : ℕ} {rows fixed floors next : List ℕ} {c chosen best r : ℕ} → 4 ≤ r → Searching high rows fixed floors next c chosen best r → Chosen high rows fixed floors next c (choiceOf chosen)
-searching-ended {high} {rows} {fixed} {floors} {next} {c} {chosen} {best} {r} l s times =
-    search-ended high c (rowsNow (itemsOf rows times fixed floors) next) r chosen best (rw length-now l) (s .searched times)
+pub searching-ended : {high : ℕ} {rows fixed floors next : List ℕ} {c : ℕ} {best : Option Candidate} {r : ℕ} → 4 ≤ r → Searching high rows fixed floors next c best r → Chosen high rows fixed floors next c (orElse none best)
+searching-ended {high} {rows} {fixed} {floors} {next} {c} {best} {r} l s times =
+    search-ended high c (rowsNow (itemsOf rows times fixed floors) next) r best (rw length-now l) (s .searched times)
 
 module _ {low high : ℕ} {rows fixed floors lasts next₀ work₀ next work : List ℕ} {left c : ℕ} (w : Walking low high rows fixed floors lasts next₀ work₀ next work left c) where
-  module _ {chosen best r : ℕ} (s : Searching high rows fixed floors next c chosen best r) (l : r < 4) {o : Offer} (gives : o ≡ offerAt rows fixed floors lasts r (getD next r 0) c) where
+  module _ {best : Option Candidate} {r : ℕ} (s : Searching high rows fixed floors next c best r) (l : r < 4) {o : Offer} (gives : o ≡ offerAt rows fixed floors lasts r (getD next r 0) c) where
     rowNow : List ℕ → List Waiting
     rowNow times = rowOf (rowsNow (itemsOf rows times fixed floors) next) r
 
@@ -77,73 +68,52 @@ module _ {low high : ℕ} {rows fixed floors lasts next₀ work₀ next work : L
     pub turn-fixed : o ≡ Fixed → Chosen high rows fixed floors next c (some r)
     unfolding rowNow
     turn-fixed e times =
-        search-fixed high c (rowsNow (itemsOf rows times fixed floors) next) r chosen best (there times) (s .searched times)
+        search-fixed high c (rowsNow (itemsOf rows times fixed floors) next) r best (there times) (s .searched times)
         (offer-fixed (fixedHere c (rowNow times)) (freeHere c (rowNow times)) (lastColumn high (rowNow times)) (sym (offers times) ∙ e))
 
-    pub turn-nothing : o ≡ Nothing → Searching high rows fixed floors next c chosen best (r + 1)
+    pub turn-nothing : o ≡ Nothing → Searching high rows fixed floors next c best (r + 1)
     unfolding rowNow
     turn-nothing e =
         record {
           within = omega arith;
-          chosen-within = s .chosen-within;
           searched = λ times.
               (let t = offer-nothing (fixedHere c (rowNow times)) (freeHere c (rowNow times)) (lastColumn high (rowNow times)) (sym (offers times) ∙ e) in
-              search-nothing high c (rowsNow (itemsOf rows times fixed floors) next) r chosen best (there times) (s .searched times) (t .0) (t .1));
+              search-nothing high c (rowsNow (itemsOf rows times fixed floors) next) r best (there times) (s .searched times) (t .0) (t .1));
         }
 
-    module _ (last : ℕ) (e : o ≡ Free last) where
-      free-row : (times : List ℕ) → (fixedHere c (rowNow times) ≡ false) × (freeHere c (rowNow times) ≡ true) × (last ≡ lastColumn high (rowNow times))
-      free-row times = offer-free (fixedHere c (rowNow times)) (freeHere c (rowNow times)) (lastColumn high (rowNow times)) last (sym (offers times) ∙ e)
+    pub turn-free : (last : ℕ) → o ≡ Free last → Searching high rows fixed floors next c (sooner best (some (record { row = r; last = last }))) (r + 1)
+    unfolding rowNow
+    turn-free last e =
+        record {
+          within = omega arith;
+          searched = λ times.
+              (let t = offer-free (fixedHere c (rowNow times)) (freeHere c (rowNow times)) (lastColumn high (rowNow times)) last (sym (offers times) ∙ e) in
+              search-free high c (rowsNow (itemsOf rows times fixed floors) next) r best (there times) (s .searched times) (t .0) (t .1) last (t .2));
+        }
 
-      pub turn-take : (eqb chosen 4 || ltb last best) ≡ true → Searching high rows fixed floors next c r last (r + 1)
-      unfolding rowNow
-      turn-take t =
-          record {
-            within = omega arith;
-            chosen-within = omega arith;
-            searched = λ times.
-                (let f = free-row times in
-                search-take high c (rowsNow (itemsOf rows times fixed floors) next) r chosen best (there times) (s .searched times) (f .0) (f .1) last (f .2) (λ q. omega arith) (wins (either (eqb chosen 4) (ltb last best) t)));
-          }
-        where
-          wins : (eqb chosen 4 ≡ true) ⊎ (ltb last best ≡ true) → (chosen ≡ 4) ⊎ (last < best)
-          wins (inl q) = inl (eqb-true chosen 4 q)
-          wins (inr q) = inr (ltb-true last best q)
+  stepOf : (a : ℕ) → Chosen high rows fixed floors next c (some a) → (times : List ℕ) → Step (itemsOf rows times fixed floors) next work a c
+  stepOf a e times = step (itemsOf rows times fixed floors) (sorted-table rows times fixed floors (w .asks .ordered)) next work (w .next-long) (w .lows times) high c a (e times)
 
-      pub turn-keep : (eqb chosen 4 || ltb last best) ≡ false → Searching high rows fixed floors next c chosen best (r + 1)
-      unfolding rowNow
-      turn-keep t =
-          record {
-            within = omega arith;
-            chosen-within = s .chosen-within;
-            searched = λ times.
-                (let f = free-row times in
-                let n = neither (eqb chosen 4) (ltb last best) t in
-                search-keep high c (rowsNow (itemsOf rows times fixed floors) next) r chosen best (there times) (s .searched times) (f .0) (f .1) last (f .2) (eqb-false chosen 4 (n .0)) (ltb-false last best (n .1)));
-          }
-
-  stepOf : (a : ℕ) → a < 4 → Chosen high rows fixed floors next c (some a) → (times : List ℕ) → Step (itemsOf rows times fixed floors) next work a c
-  stepOf a l e times = step (itemsOf rows times fixed floors) (sorted-table rows times fixed floors (w .asks .ordered)) next work (w .next-long) (w .lows times) high c a l (e times)
-
-  pub place-inside : (a : ℕ) → a < 4 → Chosen high rows fixed floors next c (some a) → getD next a 0 < length rows
-  place-inside a l e = in-rows rows [] fixed floors (stepOf a l e [] .inside)
+  -- The chosen row is one of the four, and its next place is in the table.
+  pub chosen-inside : (a : ℕ) → Chosen high rows fixed floors next c (some a) → (a < 4) × (getD next a 0 < length rows)
+  chosen-inside a e = (stepOf a e [] .four, in-rows rows [] fixed floors (stepOf a e [] .inside))
 
   -- A column that takes row a's next item.
-  pub column-taken : (a : ℕ) → a < 4 → c ≤ high → Chosen high rows fixed floors next c (some a)
+  pub column-taken : (a : ℕ) → c ≤ high → Chosen high rows fixed floors next c (some a)
       → Walking low high rows fixed floors lasts next₀ work₀ (set next a (getD next a 0 + 1)) (set work (getD next a 0) c) (left - 1) (c + 1)
   unfolding view
-  column-taken a l q e =
+  column-taken a q e =
       record {
         asks = w .asks;
         above = omega (arith, w .above);
         within = omega arith;
         next-long = length-set next a (getD next a 0 + 1) ∙ w .next-long;
         work-long = length-set work (getD next a 0) c ∙ w .work-long;
-        lows = λ times. stepOf a l e times .lows;
-        left-is = λ times. omega (arith, w .left-is times, stepOf a l e times .fewer);
+        lows = λ times. stepOf a e times .lows;
+        left-is = λ times. omega (arith, w .left-is times, stepOf a e times .fewer);
         same = λ times.
             (let s = view (itemsOf rows times fixed floors) next work in
-            w .same times ∙ walk-more high c s q ∙ ap (λ (o : Option ℕ). walk high (suc high - (c + 1)) (c + 1) (placeIn c o s)) (e times) ∙ ap (walk high (suc high - (c + 1)) (c + 1)) (stepOf a l e times .placed));
+            w .same times ∙ walk-more high c s q ∙ ap (λ (o : Option ℕ). walk high (suc high - (c + 1)) (c + 1) (placeIn c o s)) (e times) ∙ ap (walk high (suc high - (c + 1)) (c + 1)) (stepOf a e times .placed));
       }
 
   -- A column left empty.
@@ -163,24 +133,15 @@ module _ {low high : ℕ} {rows fixed floors lasts next₀ work₀ next work : L
             w .same times ∙ walk-more high c s q ∙ ap (λ (o : Option ℕ). walk high (suc high - (c + 1)) (c + 1) (placeIn c o s)) (e times));
       }
 
-  finished : (leb c high && ltb 0 left) ≡ false → (times : List ℕ) → walked low high (itemsOf rows times fixed floors) ≡ view (itemsOf rows times fixed floors) next work
+  finished : (high < c) ⊎ (left ≡ 0) → (times : List ℕ) → walked low high (itemsOf rows times fixed floors) ≡ view (itemsOf rows times fixed floors) next work
   unfolding view
-  finished e times = w .same times ∙ ended (leb c high) refl
-    where
-      table : List Item
-      table = itemsOf rows times fixed floors
-
-      ended : (b : Bool) → leb c high ≡ b → walk high (suc high - c) c (view table next work) ≡ view table next work
-      ended false q = let z : suc high - c ≡ 0 = omega (arith, leb-false c high q) in rw z
-      ended true q =
-          let none-left : left ≡ 0 = omega (arith, ltb-false 0 left (rest q)) in
-          walk-idle high (suc high - c) c (view table next work) (sym (none-total (rowsNow table next)) ∙ eq-eqb (total (rowsNow table next)) 0 (sym (w .left-is times) ∙ none-left))
-        where
-          rest : leb c high ≡ true → ltb 0 left ≡ false
-          rest p = rw p at e
+  finished (inl past) times = let z : suc high - c ≡ 0 = omega arith in w .same times ∙ (rw z)
+  finished (inr none-left) times =
+      let table = itemsOf rows times fixed floors in
+      w .same times ∙ walk-idle high (suc high - c) c (view table next work) (sym (none-total (rowsNow table next)) ∙ eq-eqb (total (rowsNow table next)) 0 (sym (w .left-is times) ∙ none-left))
 
   -- The walk is over: past the last column, or with nothing left to place.
-  pub walking-done : (leb c high && ltb 0 left) ≡ false → WalkGives low high rows fixed floors (eqb left 0) work
+  pub walking-done : (high < c) ⊎ (left ≡ 0) → WalkGives low high rows fixed floors (eqb left 0) work
   unfolding view
   walking-done e =
       record {
@@ -188,8 +149,8 @@ module _ {low high : ℕ} {rows fixed floors lasts next₀ work₀ next work : L
         columns-are = λ times. ap (λ (n : ℕ). take n work) (sym (length-items rows times fixed floors)) ∙ ap (λ (s : Walk). s .columns) (sym (finished e times));
       }
 
-rows-begun : (table : List Item) (next : List ℕ) → ((r : ℕ) → r < 4 → from table r 0 ≡ from table r (getD next r 0)) → rowsOf table ≡ rowsNow table next
-unfolding rowsNow rowsOf from
+rows-begun : (table : List Item) (next : List ℕ) → ((r : ℕ) → r < 4 → rowFrom table r 0 ≡ rowFrom table r (getD next r 0)) → rowsOf table ≡ rowsNow table next
+unfolding rowsNow rowsOf rowFrom
 rows-begun table next h = λ k. h 0 (omega arith) k ∷ h 1 (omega arith) k ∷ h 2 (omega arith) k ∷ h 3 (omega arith) k ∷ []
 
 -- The walk begins.

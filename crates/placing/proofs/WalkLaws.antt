@@ -1,39 +1,47 @@
 -- The walk as the code's arrays hold it: each row's next place, and the columns so far.
 use Prim.Native.Nat.{ℕ, zero, suc, _+_, _-_, _<_, _≤_}
-use mathlib.Core.Path.{_≡_, refl, sym, ap, ap₂, subst, _∙_}
-use mathlib.Core.Logic.{_≢_, _⊎_, inl, inr, ⊎-elim}
-use mathlib.Core.Bool.{Bool, true, false, cond, _&&_, true≢false}
+use mathlib.Core.Path.{_≡_, refl, sym, ap, subst, _∙_}
+use mathlib.Core.Logic.{inl, inr}
+use mathlib.Core.Bool.{true}
 use mathlib.Core.List.{List, [], _∷_}
 use mathlib.Core.Option.{Option, none, some}
 use native.Mathlib.Omega.{arith}
 use native.Mathlib.Decide.{ℕ-discrete}
 use native.Mathlib.Numerals.{add-one}
-use lib.ListN.{length, getD, set, take, drop, replicate, length-set}
-use lib.Seq.{getD-set-same, getD-set-other, ext-getD, take-set-lt, drop-cons}
-use lib.Dec.{ltb, leb, eqb}
-use borrow.Author.Tests.{lt-ltb, le-ltb, eq-eqb, ne-eqb, ltb-true, ltb-false}
-use Rattle.placing.specs.Item.{Item, itemsOf, itemAt}
-use Rattle.placing.specs.Walk.{Waiting, Walk, inRow, consIf, rowsOf, lastColumn, fixedHere, freeHere, fixedRow, freeRow, Candidate, candidate, sooner, orElse, chosenRow, placeIn, walk, begun, walked, noneWait}
-use Rattle.placing.specs.Places.{rowAt, from, Sorted, Low}
-use Rattle.placing.proofs.Rows.{nil-cons, from-head, from-none, from-some, low-next}
+use lib.ListN.{length, getD, set, take, length-set}
+use lib.Seq.{getD-set-same, getD-set-other, ext-getD, take-set-lt}
+use lib.Dec.{eqb}
+use borrow.Author.Tests.{ne-eqb}
+use Rattle.placing.specs.Item.{Item, itemAt}
+use Rattle.placing.specs.Walk.{Waiting, Walk, inRow, consIf, rowsOf, chosenRow, placeIn, walk, noneWait}
+use Rattle.placing.specs.Places.{rowAt, rowFrom, RowsAtLeast}
+use Rattle.placing.proofs.Rows.{Sorted, nil-cons, from-head, from-some, low-next}
 use Rattle.placing.proofs.Fits.{cons-first, cons-rest}
 use Rattle.placing.proofs.Choice.{rowOf, ChoiceSays, choice-says}
 use Rattle.placing.proofs.Complete.{fixed-next, free-next, took, none-waits}
 
 -- The walk that the arrays stand for.
 unfoldable pub rowsNow : List Item → List ℕ → List (List Waiting)
-rowsNow table next = from table 0 (getD next 0 0) ∷ from table 1 (getD next 1 0) ∷ from table 2 (getD next 2 0) ∷ from table 3 (getD next 3 0) ∷ []
+rowsNow table next = rowFrom table 0 (getD next 0 0) ∷ rowFrom table 1 (getD next 1 0) ∷ rowFrom table 2 (getD next 2 0) ∷ rowFrom table 3 (getD next 3 0) ∷ []
 
 unfoldable pub view : List Item → List ℕ → List ℕ → Walk
 view table next work = record { waiting = rowsNow table next; columns = take (length table) work }
 
-pub row-now : (table : List Item) (next : List ℕ) (r : ℕ) → r < 4 → rowOf (rowsNow table next) r ≡ from table r (getD next r 0)
+pub row-now : (table : List Item) (next : List ℕ) (r : ℕ) → r < 4 → rowOf (rowsNow table next) r ≡ rowFrom table r (getD next r 0)
 unfolding rowsNow
 row-now table next zero l = refl
 row-now table next (suc zero) l = refl
 row-now table next (suc (suc zero)) l = refl
 row-now table next (suc (suc (suc zero))) l = refl
 row-now table next (suc (suc (suc (suc r)))) l = let no : ⊥ = omega arith in absurd no
+
+row-small : (table : List Item) (next : List ℕ) (r : ℕ) {w : Waiting} {ws : List Waiting} → rowOf (rowsNow table next) r ≡ w ∷ ws → r < 4
+unfolding rowsNow
+row-small table next zero e = omega arith
+row-small table next (suc zero) e = omega arith
+row-small table next (suc (suc zero)) e = omega arith
+row-small table next (suc (suc (suc zero))) e = omega arith
+row-small table next (suc (suc (suc (suc r)))) e = absurd (nil-cons e)
 
 pub length-now : (table : List Item) (next : List ℕ) → length (rowsNow table next) ≡ 4
 unfolding rowsNow
@@ -100,44 +108,47 @@ chosen-waits high c rows a (inr f) = let g = free-next c (rowOf rows a) (f .may)
 
 -- What the code's step does to the arrays where row a was chosen at column c.
 pub record Step (table : List Item) (next work : List ℕ) (a c : ℕ) : Type 0 where
+  pub four : a < 4
   pub inside : getD next a 0 < length table
   pub placed : placeIn c (some a) (view table next work) ≡ view table (set next a (getD next a 0 + 1)) (set work (getD next a 0) c)
   pub fewer : suc (total (rowsNow table (set next a (getD next a 0 + 1)))) ≡ total (rowsNow table next)
-  pub lows : (r : ℕ) → r < 4 → Low table r (getD (set next a (getD next a 0 + 1)) r 0)
+  pub lows : (r : ℕ) → r < 4 → RowsAtLeast table r (getD (set next a (getD next a 0 + 1)) r 0)
 
-module _ (table : List Item) (sorted : Sorted table) (next work : List ℕ) (long : length next ≡ 4) (lows : (r : ℕ) → r < 4 → Low table r (getD next r 0)) where
-  rows-set : (a v : ℕ) → a < 4 → rowsNow table (set next a v) ≡ set (rowsNow table next) a (from table a v)
+module _ (table : List Item) (sorted : Sorted table) (next work : List ℕ) (long : length next ≡ 4) (lows : (r : ℕ) → r < 4 → RowsAtLeast table r (getD next r 0)) where
+  rows-set : (a v : ℕ) → a < 4 → rowsNow table (set next a v) ≡ set (rowsNow table next) a (rowFrom table a v)
   rows-set a v l =
-      ext-getD [] (rowsNow table (set next a v)) (set (rowsNow table next) a (from table a v)) (length-now table (set next a v) ∙ sym (length-set (rowsNow table next) a (from table a v) ∙ length-now table next))
+      ext-getD [] (rowsNow table (set next a v)) (set (rowsNow table next) a (rowFrom table a v)) (length-now table (set next a v) ∙ sym (length-set (rowsNow table next) a (rowFrom table a v) ∙ length-now table next))
       λ r m. same r (rw length-now at m)
     where
-      same : (r : ℕ) → r < 4 → rowOf (rowsNow table (set next a v)) r ≡ rowOf (set (rowsNow table next) a (from table a v)) r
+      same : (r : ℕ) → r < 4 → rowOf (rowsNow table (set next a v)) r ≡ rowOf (set (rowsNow table next) a (rowFrom table a v)) r
       same r m =
           elim (ℕ-discrete r a) [
             | yes e ↦ row-now table (set next a v) r m
-                ∙ subst (λ (i : ℕ). from table i (getD (set next a v) i 0) ≡ rowOf (set (rowsNow table next) a (from table a v)) i) (sym e)
-                (ap (from table a) (getD-set-same next a v 0 (omega arith)) ∙ sym (getD-set-same (rowsNow table next) a (from table a v) [] (omega (arith, length-now table next))))
-            | no h ↦ row-now table (set next a v) r m ∙ ap (from table r) (getD-set-other next a r v 0 h) ∙ sym (row-now table next r m) ∙ sym (getD-set-other (rowsNow table next) a r (from table a v) [] h)
+                ∙ subst (λ (i : ℕ). rowFrom table i (getD (set next a v) i 0) ≡ rowOf (set (rowsNow table next) a (rowFrom table a v)) i) (sym e)
+                (ap (rowFrom table a) (getD-set-same next a v 0 (omega arith)) ∙ sym (getD-set-same (rowsNow table next) a (rowFrom table a v) [] (omega (arith, length-now table next))))
+            | no h ↦ row-now table (set next a v) r m ∙ ap (rowFrom table r) (getD-set-other next a r v 0 h) ∙ sym (row-now table next r m) ∙ sym (getD-set-other (rowsNow table next) a r (rowFrom table a v) [] h)
           ]
 
-  pub step : (high c a : ℕ) → a < 4 → chosenRow high c (rowsNow table next) ≡ some a → Step table next work a c
+  pub step : (high c a : ℕ) → chosenRow high c (rowsNow table next) ≡ some a → Step table next work a c
   unfolding view
-  step high c a l e =
+  step high c a e =
       let says : ChoiceSays high c (rowsNow table next) (some a) = rw e at (choice-says high c (rowsNow table next)) in
       let (w, ws, waits) = chosen-waits high c (rowsNow table next) a says in
+      let l : a < 4 = row-small table next a waits in
       let i : ℕ = getD next a 0 in
-      let there : from table a i ≡ w ∷ ws = sym (row-now table next a l) ∙ waits in
+      let there : rowFrom table a i ≡ w ∷ ws = sym (row-now table next a l) ∙ waits in
       let (m, row) = from-some table sorted a i (lows a l) there in
-      let head : w ∷ ws ≡ record { place = i; item = itemAt table i } ∷ from table a (suc i) = sym there ∙ from-head table a i m row in
+      let head : w ∷ ws ≡ record { place = i; item = itemAt table i } ∷ rowFrom table a (suc i) = sym there ∙ from-head table a i m row in
       let place : w .place ≡ i = ap (λ (x : Waiting). x .place) (cons-first head) in
-      let moved : rowsNow table (set next a (i + 1)) ≡ set (rowsNow table next) a ws = rows-set a (i + 1) l ∙ ap (λ (x : List Waiting). set (rowsNow table next) a x) (ap (from table a) (add-one i) ∙ sym (cons-rest head)) in
+      let moved : rowsNow table (set next a (i + 1)) ≡ set (rowsNow table next) a ws = rows-set a (i + 1) l ∙ ap (λ (x : List Waiting). set (rowsNow table next) a x) (ap (rowFrom table a) (add-one i) ∙ sym (cons-rest head)) in
       record {
+        four = l;
         inside = m;
         placed = took c a (view table next work) waits ∙ λ k. record { waiting = sym moved k; columns = (ap (λ (p : ℕ). set (take (length table) work) p c) place ∙ sym (take-set-lt (length table) work i c m)) k };
         fewer = ap (λ (x : List (List Waiting)). suc (total x)) moved ∙ total-taken (rowsNow table next) a waits;
         lows = λ r q. elim (ℕ-discrete r a) [
-          | yes same ↦ subst (λ (s : ℕ). Low table s (getD (set next a (i + 1)) s 0)) (sym same)
-              (subst (λ (v : ℕ). Low table a v) (sym (getD-set-same next a (i + 1) 0 (omega arith) ∙ add-one i)) (subst (λ (s : ℕ). Low table s (suc i)) row (low-next table sorted i m)))
+          | yes same ↦ subst (λ (s : ℕ). RowsAtLeast table s (getD (set next a (i + 1)) s 0)) (sym same)
+              (subst (λ (v : ℕ). RowsAtLeast table a v) (sym (getD-set-same next a (i + 1) 0 (omega arith) ∙ add-one i)) (subst (λ (s : ℕ). RowsAtLeast table s (suc i)) row (low-next table sorted i m)))
           | no h ↦ rw (getD-set-other next a r (i + 1) 0 h) (lows r q)
         ];
       }

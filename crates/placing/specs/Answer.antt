@@ -18,14 +18,18 @@ chosenColumns low high table = walked low high table .columns
 
 -- "each in rising order, and the first that applies is returned": 22, 23, 24; "0 is accepted".
 abbrev pub firstOf : Bool → Bool → Bool → ℕ
-firstOf true short none = 22
-firstOf false true none = 23
+firstOf true short unplaced = 22
+firstOf false true unplaced = 23
 firstOf false false true = 24
 firstOf false false false = 0
 
 -- 23: "output shorter than needed".
+abbrev pub tooShort : List ℕ → List ℕ → Bool
+tooShort columns rows = ltb (length columns) (length rows)
+
+-- The number answered.
 unfoldable pub answer : ℕ → ℕ → List ℕ → List ℕ → List ℕ → List ℕ → List ℕ → ℕ
-answer low high rows times fixed floors columns = firstOf (malformed low high rows times fixed floors) (ltb (length columns) (length rows)) (unplaceable low high (itemsOf rows times fixed floors))
+answer low high rows times fixed floors columns = firstOf (malformed low high rows times fixed floors) (tooShort columns rows) (unplaceable low high (itemsOf rows times fixed floors))
 
 -- Accepted, the chosen columns, "places past their result unchanged"; refused, the columns as they came.
 unfoldable pub columnsLeft : ℕ → ℕ → List ℕ → List ℕ → List ℕ → List ℕ → List ℕ → List ℕ

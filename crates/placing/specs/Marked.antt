@@ -1,4 +1,4 @@
--- The marked sheets P3 to P8 of document 01, one row each.
+-- The marked sheets P3 to P8 of document 01, one case each, and one of ours.
 use Prim.Native.Nat.{ℕ}
 use mathlib.Core.Path.{_≡_, refl}
 use mathlib.Core.List.{List, [], _∷_, map}
@@ -19,34 +19,46 @@ pub record Mark : Type 0 where
   pub number : ℕ
   pub columns : List ℕ
 
-pub record Row : Type 0 where
+pub record Case : Type 0 where
   pub sheet : Sheet
   pub mark : Mark
 
--- A free item and a fixed one.
+-- A free item: its row, row time and floor. A fixed one: its row, row time and column.
 abbrev free : ℕ → ℕ → ℕ → Item
 free row time floor = record { row = row; time = time; fixed = 0; floor = floor }
 
 abbrev at : ℕ → ℕ → ℕ → Item
 at row time column = record { row = row; time = time; fixed = column; floor = 0 }
 
-abbrev row : ℕ → ℕ → List Item → List ℕ → ℕ → List ℕ → Row
-row low high items lent number columns = record { sheet = record { low = low; high = high; items = items; lent = lent }; mark = record { number = number; columns = columns } }
+abbrev case : ℕ → ℕ → List Item → List ℕ → ℕ → List ℕ → Case
+case low high items lent number columns = record { sheet = record { low = low; high = high; items = items; lent = lent }; mark = record { number = number; columns = columns } }
 
--- P3 to P8; a lent place past the result is 9, and stays.
-unfoldable pub marked : List Row
+-- The places lent hold 9, so that one written by a refusal, or past the result, would show.
+unfoldable pub marked : List Case
 marked =
-    row 1 6 (free 1 1 3 ∷ at 1 2 5 ∷ free 2 1 1 ∷ at 2 2 6 ∷ []) (0 ∷ 0 ∷ 0 ∷ 0 ∷ 9 ∷ []) 0 (4 ∷ 5 ∷ 2 ∷ 6 ∷ 9 ∷ [])
-    ∷ row 1 6 (free 1 1 4 ∷ at 1 2 5 ∷ free 2 1 1 ∷ at 2 2 6 ∷ []) (0 ∷ 0 ∷ 0 ∷ 0 ∷ 9 ∷ []) 24 (0 ∷ 0 ∷ 0 ∷ 0 ∷ 9 ∷ [])
-    ∷ row 0 3 (free 0 1 0 ∷ free 1 1 0 ∷ at 1 2 2 ∷ []) (0 ∷ 0 ∷ 0 ∷ []) 0 (3 ∷ 1 ∷ 2 ∷ [])
-    ∷ row 0 2 (free 0 1 0 ∷ free 1 1 0 ∷ []) (0 ∷ 0 ∷ []) 0 (1 ∷ 2 ∷ [])
-    ∷ row 5 5 [] (9 ∷ []) 0 (9 ∷ [])
-    ∷ row 4 4 (free 0 1 0 ∷ []) (9 ∷ []) 24 (9 ∷ [])
+    -- P3
+    case 1 6 (free 1 1 3 ∷ at 1 2 5 ∷ free 2 1 1 ∷ at 2 2 6 ∷ []) (9 ∷ 9 ∷ 9 ∷ 9 ∷ 9 ∷ []) 0 (4 ∷ 5 ∷ 2 ∷ 6 ∷ 9 ∷ [])
+    -- P4
+    ∷ case 1 6 (free 1 1 4 ∷ at 1 2 5 ∷ free 2 1 1 ∷ at 2 2 6 ∷ []) (9 ∷ 9 ∷ 9 ∷ 9 ∷ 9 ∷ []) 24 (9 ∷ 9 ∷ 9 ∷ 9 ∷ 9 ∷ [])
+    -- P5
+    ∷ case 0 3 (free 0 1 0 ∷ free 1 1 0 ∷ at 1 2 2 ∷ []) (9 ∷ 9 ∷ 9 ∷ []) 0 (3 ∷ 1 ∷ 2 ∷ [])
+    -- P6
+    ∷ case 0 2 (free 0 1 0 ∷ free 1 1 0 ∷ []) (9 ∷ 9 ∷ []) 0 (1 ∷ 2 ∷ [])
+    -- P7
+    ∷ case 5 5 [] (9 ∷ []) 0 (9 ∷ [])
+    -- P8
+    ∷ case 4 4 (free 0 1 0 ∷ []) (9 ∷ []) 24 (9 ∷ [])
+    ∷ []
+
+-- Ours, not of the paper. With the fixed item counted, row 1's first item would have the last column 2 and go first.
+unfoldable pub ours : List Case
+ours =
+    case 0 4 (free 0 1 0 ∷ free 0 2 0 ∷ free 1 1 0 ∷ at 1 2 4 ∷ []) (9 ∷ 9 ∷ 9 ∷ 9 ∷ []) 0 (1 ∷ 3 ∷ 2 ∷ 4 ∷ [])
     ∷ []
 
 -- What the definitions give for a sheet.
 unfoldable pub markOf : Sheet → Mark
-unfolding answer columnsLeft
+unfolding answer columnsLeft chosenColumns malformed lengthsAgree tableFits boundsFit itemFits fixedFits comesAfter unplaceable walked begun rowsOf chosenRow lastColumn
 markOf s =
     let rows = map (λ (x : Item). x .row) (s .items) in
     let times = map (λ (x : Item). x .time) (s .items) in
@@ -54,7 +66,11 @@ markOf s =
     let floors = map (λ (x : Item). x .floor) (s .items) in
     record { number = answer (s .low) (s .high) rows times fixed floors (s .lent); columns = columnsLeft (s .low) (s .high) rows times fixed floors (s .lent) }
 
--- Every row holds.
-pub marks-hold : map (λ (r : Row). markOf (r .sheet)) marked ≡ map (λ (r : Row). r .mark) marked
-unfolding marked markOf chosenColumns malformed lengthsAgree tableFits boundsFit itemFits fixedFits comesAfter unplaceable walked begun rowsOf chosenRow lastColumn
+-- The definitions give every mark.
+pub marks-hold : map (λ (x : Case). markOf (x .sheet)) marked ≡ map (λ (x : Case). x .mark) marked
+unfolding marked markOf
 marks-hold = refl
+
+pub ours-hold : map (λ (x : Case). markOf (x .sheet)) ours ≡ map (λ (x : Case). x .mark) ours
+unfolding ours markOf
+ours-hold = refl

@@ -3,32 +3,32 @@ use Prim.Native.Nat.{ℕ, _<_, _≤_}
 use mathlib.Core.Path.{_≡_}
 use mathlib.Core.Bool.{Bool, true, false, _&&_}
 use mathlib.Core.List.{List}
+use mathlib.Core.Option.{Option, none, some}
 use lib.ListN.{length, getD, take, drop, replicate}
 use lib.Dec.{ltb, eqb}
 use Rattle.placing.specs.Item.{Item, itemsOf, itemAt}
-use Rattle.placing.specs.Walk.{Waiting, inRow, lastColumn, walked, noneWait}
+use Rattle.placing.specs.Table.{mostItems, greatest, rowCount}
+use Rattle.placing.specs.Walk.{Waiting, Candidate, inRow, lastColumn, walked, noneWait}
 use Rattle.placing.specs.declared.Offer.{Offer}
 use Rattle.placing.specs.declared.Offer.the-variants.{Fixed, Free, Nothing}
+use Rattle.placing.specs.declared.Pick.{Pick}
+use Rattle.placing.specs.declared.Pick.the-variants.{Row, Empty}
 
 abbrev pub rowAt : List Item → ℕ → ℕ
 rowAt table k = itemAt table k .row
 
 -- The items of row r from place i on.
-unfoldable pub from : List Item → ℕ → ℕ → List Waiting
-from table r i = inRow r i (drop i table)
+unfoldable pub rowFrom : List Item → ℕ → ℕ → List Waiting
+rowFrom table r i = inRow r i (drop i table)
 
--- Rows rise along the table.
-abbrev pub Sorted : List Item → Type 0
-Sorted table = (j k : ℕ) → j ≤ k → k < length table → rowAt table j ≤ rowAt table k
-
--- No item before row r stands from place i on.
-abbrev pub Low : List Item → ℕ → ℕ → Type 0
-Low table r i = (k : ℕ) → i ≤ k → k < length table → r ≤ rowAt table k
+-- From place i on, no item of a row below r.
+abbrev pub RowsAtLeast : List Item → ℕ → ℕ → Type 0
+RowsAtLeast table r i = (k : ℕ) → i ≤ k → k < length table → r ≤ rowAt table k
 
 -- The rows of a table that passed its check.
 pub record Ordered (rows : List ℕ) : Type 0 where
-  pub few : length rows ≤ 64
-  pub four : (k : ℕ) → k < length rows → getD rows k 0 < 4
+  pub few : length rows ≤ mostItems
+  pub four : (k : ℕ) → k < length rows → getD rows k 0 < rowCount
   pub rise : (j k : ℕ) → j ≤ k → k < length rows → getD rows j 0 ≤ getD rows k 0
 
 -- From place i on, row r's items begin at place j, or there are none and j is the table's length.
@@ -36,8 +36,8 @@ pub record BeginsAt (table : List Item) (r i j : ℕ) : Type 0 where
   pub after : i ≤ j
   pub within : j ≤ length table
   pub there : j < length table → rowAt table j ≡ r
-  pub low : Low table r j
-  pub waits : from table r i ≡ from table r j
+  pub low : RowsAtLeast table r j
+  pub waits : rowFrom table r i ≡ rowFrom table r j
 
 -- The tables with these rows and fixed columns, whatever their times and floors.
 abbrev pub Tables : List ℕ → List ℕ → (List Item → Type 0) → Type 0
@@ -45,24 +45,24 @@ Tables rows fixed P = (times floors : List ℕ) → P (itemsOf rows times fixed 
 
 -- The items from place i on have their last columns, and each row its next place.
 pub record Prepared (high i : ℕ) (rows fixed lasts next : List ℕ) : Type 0 where
-  pub lasts-are : (k : ℕ) → i ≤ k → k < length rows → Tables rows fixed λ table. getD lasts k 0 ≡ lastColumn high (from table (rowAt table k) k)
-  pub begins : (r : ℕ) → r < 4 → Tables rows fixed λ table. BeginsAt table r i (getD next r 0)
+  pub lasts-are : (k : ℕ) → i ≤ k → k < length rows → Tables rows fixed λ table. getD lasts k 0 ≡ lastColumn high (rowFrom table (rowAt table k) k)
+  pub begins : (r : ℕ) → r < rowCount → Tables rows fixed λ table. BeginsAt table r i (getD next r 0)
 
 -- What `prepare` asks: nothing prepared yet, each row's next place past the table.
 pub record PrepareAsks (high : ℕ) (rows fixed lasts next : List ℕ) : Type 0 where
   pub ordered : Ordered rows
-  pub high-fits : high ≤ 1_000_000
+  pub high-fits : high ≤ greatest
   pub fixed-long : length fixed ≡ length rows
-  pub lasts-long : length lasts ≡ 64
-  pub next-long : length next ≡ 4
-  pub next-past : (r : ℕ) → r < 4 → getD next r 0 ≡ length rows
+  pub lasts-long : length lasts ≡ mostItems
+  pub next-long : length next ≡ rowCount
+  pub next-past : (r : ℕ) → r < rowCount → getD next r 0 ≡ length rows
 
 -- The slices that the walk reads beside one another.
 pub record Aligned (rows fixed floors lasts : List ℕ) : Type 0 where
-  pub few : length rows ≤ 64
+  pub few : length rows ≤ mostItems
   pub fixed-long : length fixed ≡ length rows
   pub floors-long : length floors ≡ length rows
-  pub lasts-long : length lasts ≡ 64
+  pub lasts-long : length lasts ≡ mostItems
 
 -- What a row offers a column, by whether its next item is there, is fixed at the column, or is free with a floor below it.
 abbrev pub offerBy : Bool → Bool → Bool → ℕ → Offer
@@ -75,14 +75,19 @@ offerBy true false false last = Nothing
 unfoldable pub offerAt : List ℕ → List ℕ → List ℕ → List ℕ → ℕ → ℕ → ℕ → Offer
 offerAt rows fixed floors lasts r i c = offerBy (ltb i (length rows) && eqb (getD rows i 0) r) (eqb (getD fixed i 0) c) (eqb (getD fixed i 0) 0 && ltb (getD floors i 0) c) (getD lasts i 0)
 
+-- The candidate that the code's pick stands for.
+abbrev pub candidateOf : Pick → Option Candidate
+candidateOf (Row row last) = some (record { row = row; last = last })
+candidateOf Empty = none
+
 -- What `walk` asks: last columns and next places as `prepare` leaves them, and no column yet.
 pub record WalkAsks (low high : ℕ) (rows fixed floors lasts next work : List ℕ) : Type 0 where
   pub ordered : Ordered rows
   pub aligned : Aligned rows fixed floors lasts
   pub bounds : low ≤ high
-  pub high-fits : high ≤ 1_000_000
-  pub next-long : length next ≡ 4
-  pub work-long : length work ≡ 64
+  pub high-fits : high ≤ greatest
+  pub next-long : length next ≡ rowCount
+  pub work-long : length work ≡ mostItems
   pub work-clear : take (length rows) work ≡ replicate (length rows) 0
   pub prepared : Prepared high 0 rows fixed lasts next
 

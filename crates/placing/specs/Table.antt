@@ -1,6 +1,6 @@
 -- The limits and the order of a replay table: refusal 22 (document 01, "Placing" and "Numbers returned").
 use Prim.Native.Nat.{ℕ}
-use mathlib.Core.Bool.{Bool, true, false, not, _&&_, _||_}
+use mathlib.Core.Bool.{Bool, true, not, _&&_, _||_}
 use mathlib.Core.List.{List, [], _∷_}
 use lib.ListN.{length}
 use lib.Dec.{leb, ltb, eqb}
@@ -14,23 +14,27 @@ mostItems = 64
 abbrev pub greatest : ℕ
 greatest = 1_000_000
 
+-- Rows 0..3.
+abbrev pub rowCount : ℕ
+rowCount = 4
+
 -- "a fixed column outside low + 1..high, or a fixed item with a floor" is refused; 0 is free.
 unfoldable pub fixedFits : ℕ → ℕ → ℕ → ℕ → Bool
 fixedFits low high fixed floor = eqb fixed 0 || (ltb low fixed && leb fixed high && eqb floor 0)
 
--- Row 0..3, the row time, the floor and the fixed column within their limits.
+-- The row, the row time, the floor and the fixed column within their limits.
 unfoldable pub itemFits : ℕ → ℕ → Item → Bool
 unfolding fixedFits
-itemFits low high x = leb (x .row) 3 && leb 1 (x .time) && leb (x .time) greatest && leb (x .floor) greatest && fixedFits low high (x .fixed) (x .floor)
+itemFits low high x = ltb (x .row) rowCount && leb 1 (x .time) && leb (x .time) greatest && leb (x .floor) greatest && fixedFits low high (x .fixed) (x .floor)
 
--- "by row, then by row time, strictly rising": an item comes after a row and a row time.
-unfoldable pub comesAfter : ℕ → ℕ → Item → Bool
-comesAfter row time x = ltb row (x .row) || (eqb row (x .row) && ltb time (x .time))
+-- "by row (0..3, parents in rising number), then by row time, strictly rising": an item comes after another row and row time.
+unfoldable pub comesAfter : ℕ → ℕ → ℕ → ℕ → Bool
+comesAfter row time itsRow itsTime = ltb row itsRow || (eqb row itsRow && ltb time itsTime)
 
 -- Every item is within its limits and comes after the one before it, the first after row 0 and time 0.
 abbrev pub itemsFit : ℕ → ℕ → ℕ → ℕ → List Item → Bool
 itemsFit low high row time [] = true
-itemsFit low high row time (x ∷ xs) = itemFits low high x && comesAfter row time x && itemsFit low high (x .row) (x .time) xs
+itemsFit low high row time (x ∷ xs) = itemFits low high x && comesAfter row time (x .row) (x .time) && itemsFit low high (x .row) (x .time) xs
 
 -- "low ≤ high ≤ 1,000,000"
 unfoldable pub boundsFit : ℕ → ℕ → Bool

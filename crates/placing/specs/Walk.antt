@@ -1,4 +1,5 @@
 -- The chosen placing (document 01, "Placing": "The one chosen walks columns upwards").
+-- It is an earliest-deadline-first schedule: a column is a time slot, a floor a release time, a last column a deadline.
 use Prim.Native.Nat.{ℕ, zero, suc, _+_, _-_}
 use mathlib.Core.Bool.{Bool, true, false, cond, _&&_}
 use mathlib.Core.List.{List, [], _∷_}
@@ -39,7 +40,7 @@ upToFixed (w ∷ ws) = cond (eqb (w .item .fixed) 0) (suc (upToFixed ws)) 0
 unfoldable pub lastColumn : ℕ → List Waiting → ℕ
 lastColumn high ws = nextFixed high ws - upToFixed ws
 
--- A row whose next item is fixed at column c.
+-- A row whose next item is fixed at column c. Only the row's next item counts: a fixed one behind it waits (docs/DECISIONS.md).
 abbrev pub fixedHere : ℕ → List Waiting → Bool
 fixedHere c [] = false
 fixedHere c (w ∷ ws) = eqb (w .item .fixed) c

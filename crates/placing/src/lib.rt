@@ -1,27 +1,37 @@
 // The chosen placing of a replay table, on lent slices of numbers. It knows nothing of lines.
 ghost use mathlib.Core.Path.{_≡_};
-ghost use mathlib.Core.Bool.{not};
-ghost use Prim.Native.Nat.{ℕ, _+_, _-_, _≤_, _<_};
-ghost use mathlib.Core.List.{List, _++_};
+ghost use Prim.Native.Nat.{_+_, _-_, _≤_, _<_};
+ghost use mathlib.Core.List.{_++_};
 ghost use lib.ListN.{length, getD, take, drop};
 ghost use lib.Dec.{ltb, eqb};
 ghost use mathlib.Core.Bool.{cond};
-ghost use Rattle.placing.specs.Item.{Item, itemsOf};
-ghost use Rattle.placing.specs.Table.{itemFits, comesAfter, itemsFit, malformed};
+ghost use mathlib.Core.Option.{some};
+ghost use Rattle.placing.specs.Item.{itemsOf};
+ghost use Rattle.placing.specs.Table.{greatest, itemFits, comesAfter, itemsFit, malformed};
+ghost use Rattle.placing.specs.Walk.{sooner};
 ghost use Rattle.placing.specs.Answer.{answer, columnsLeft};
-ghost use Rattle.placing.specs.Places.{Prepared, PrepareAsks, Aligned, offerAt, WalkAsks, WalkGives};
+ghost use Rattle.placing.specs.Places.{Prepared, PrepareAsks, Aligned, offerAt, candidateOf, WalkAsks, WalkGives};
+
+// "at most 64 items"
+const MOST_ITEMS: usize = 64;
+
+// "high ≤ 1,000,000, row times 1..1,000,000, floors to 1,000,000"
+const GREATEST: u32 = 1_000_000;
+
+// Rows 0..3.
+const ROWS: usize = 4;
 
 // Whether an item is within its limits.
 fn item_fits(low: u32, high: u32, row: u32, time: u32, fixed: u32, floor: u32) -> bool
     ensures { λ r. ⌜ r ≡ itemFits low high (record { row = row; time = time; fixed = fixed; floor = floor }) ⌝ }
 {
-    let held = (low < fixed) & (fixed <= high) & (floor == 0);
-    (row <= 3) & (1 <= time) & (time <= 1_000_000) & (floor <= 1_000_000) & ((fixed == 0) | held)
+    let fixed_fits = (fixed == 0) | ((low < fixed) & (fixed <= high) & (floor == 0));
+    ((row as usize) < ROWS) & (1 <= time) & (time <= GREATEST) & (floor <= GREATEST) & fixed_fits
 }
 
 // Whether an item comes after a row and a row time.
-fn comes_after(row: u32, time: u32, its_row: u32, its_time: u32, fixed: u32, floor: u32) -> bool
-    ensures { λ r. ⌜ r ≡ comesAfter row time (record { row = «its_row»; time = «its_time»; fixed = fixed; floor = floor }) ⌝ }
+fn comes_after(row: u32, time: u32, its_row: u32, its_time: u32) -> bool
+    ensures { λ r. ⌜ r ≡ comesAfter row time «its_row» «its_time» ⌝ }
 {
     (row < its_row) | ((row == its_row) & (time < its_time))
 }
@@ -48,7 +58,7 @@ fn items_fit(
         let its_fixed = fixed[i];
         let its_floor = floors[i];
         let within = item_fits(low, high, its_row, its_time, its_fixed, its_floor);
-        let after = comes_after(row, time, its_row, its_time, its_fixed, its_floor);
+        let after = comes_after(row, time, its_row, its_time);
         ok = ok & (within & after);
         row = its_row;
         time = its_time;
@@ -73,13 +83,14 @@ fn is_malformed(
     if !agree {
         return true;
     }
-    let bounds = (n <= 64) & ((low <= high) & (high <= 1_000_000));
+    let bounds = (n <= MOST_ITEMS) & ((low <= high) & (high <= GREATEST));
     if !bounds {
         return true;
     }
     !items_fit(low, high, rows, times, fixed, floors)
 }
 
+// A row as an index. A function of its own, so that the parameter's type shows once that the cast loses nothing.
 fn row_number(row: u32) -> usize
     ensures { λ r. ⌜ r ≡ row ⌝ }
 {
@@ -88,7 +99,7 @@ fn row_number(row: u32) -> usize
 
 // The last column of the item behind in a row, or one past the highest where there is none.
 fn last_behind(high: u32, lasts: &[u32], place: usize, n: usize) -> u32
-    requires { ⌜ (n ≤ length (now lasts)) × (high ≤ 1_000_000) ⌝ }
+    requires { ⌜ (n ≤ length (now lasts)) × (high ≤ greatest) ⌝ }
     ensures { λ r. ⌜ r ≡ cond (ltb place n) (getD (now (lasts .entry)) place 0) (high + 1) ⌝ }
 {
     if place < n { lasts[place] } else { high + 1 }
@@ -120,8 +131,8 @@ fn prepare(high: u32, rows: &[u32], fixed: &[u32], lasts: &mut [u32], next: &mut
     }
 }
 
-// What a row offers a column.
-pub enum Offer {
+// What a row offers a column: its next item, fixed there or free with its last column, or nothing.
+enum Offer {
     Fixed,
     Free(u32),
     Nothing,
@@ -153,6 +164,26 @@ fn offered(
     Offer::Nothing
 }
 
+// What a column takes: a row's next item, with its last column; or it stays empty.
+enum Pick {
+    Row(usize, u32),
+    Empty,
+}
+
+// The item with the least last column, then the lowest row: the one found before unless this one's last column is less.
+fn sooner(best: Pick, row: usize, last: u32) -> Pick
+    ensures { λ r. ⌜ candidateOf r ≡ sooner (candidateOf best) (some (record { row = row; last = last })) ⌝ }
+{
+    match best {
+        Pick::Empty => Pick::Row(row, last),
+        Pick::Row(_, least) => if last < least {
+            Pick::Row(row, last)
+        } else {
+            best
+        },
+    }
+}
+
 // The walk over the columns. Whether every item has its column, which then stands in `work` at its place.
 fn walk(
     low: u32,
@@ -167,35 +198,36 @@ fn walk(
     requires { ⌜ WalkAsks low high (now rows) (now fixed) (now floors) (now lasts) (now next) (now work) ⌝ }
     ensures { λ r. ⌜ WalkGives low high (now (rows .entry)) (now (fixed .entry)) (now (floors .entry)) r (now (work .exit)) ⌝ }
 {
-    let n = rows.len();
-    let mut left = n;
+    let mut left = rows.len();
     let mut c = low + 1;
-    'columns: while (c <= high) & (0 < left) {
-        let mut chosen: usize = 4;
-        let mut best: u32 = 0;
+    while (0 < left) & (c <= high) {
+        // Left at once with an item fixed at the column, its last one; else, past all rows, with the best free item.
+        let mut best = Pick::Empty;
         let mut r: usize = 0;
-        'search: while r < 4 {
+        let chosen = 'search: loop {
+            if r == ROWS {
+                break 'search best;
+            }
             let o = offered(rows, fixed, floors, lasts, r, next[r], c);
             match o {
                 Offer::Fixed => {
-                    chosen = r;
-                    break 'search;
+                    break 'search Pick::Row(r, c);
                 }
                 Offer::Free(last) => {
-                    if (chosen == 4) | (last < best) {
-                        chosen = r;
-                        best = last;
-                    }
+                    best = sooner(best, r, last);
                 }
                 Offer::Nothing => {}
             }
             r += 1;
-        }
-        if chosen < 4 {
-            let i = next[chosen];
-            work[i] = c;
-            next[chosen] = i + 1;
-            left -= 1;
+        };
+        match chosen {
+            Pick::Row(row, _) => {
+                let i = next[row];
+                work[i] = c;
+                next[row] = i + 1;
+                left -= 1;
+            }
+            Pick::Empty => {}
         }
         c += 1;
     }
@@ -235,11 +267,12 @@ pub extern "C" fn placing_place(
     if columns.len() < n {
         return 23;
     }
-    let mut lasts = [0u32; 64];
-    let mut next = [n; 4];
+    let mut lasts = [0u32; MOST_ITEMS];
+    let mut next = [n; ROWS];
     prepare(high, rows, fixed, &mut lasts, &mut next);
-    let mut work = [0u32; 64];
+    let mut work = [0u32; MOST_ITEMS];
     let mut number: u32 = 24;
+    // A refusal copies nothing.
     let mut count: usize = 0;
     if walk(low, high, rows, fixed, floors, &lasts, &mut next, &mut work) {
         number = 0;

@@ -8,8 +8,6 @@ use borrow.Author.Needs.{needs}
 use lib.ListN.{length, getD, take, drop, set, length-set}
 use Rattle.placing.proofs.copy.Statement.{statement}
 use Rattle.placing.proofs.copy.Tie as tie
-use Rattle.placing.proofs.copy.Reads as reads
-use Rattle.placing.proofs.copy.Lts as lts
 
 -- The first i places are copied.
 record Copied (work : List ℕ) (n : ℕ) (columns₀ columns : List ℕ) (i : ℕ) : Type 0 where

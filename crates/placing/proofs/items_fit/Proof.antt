@@ -1,9 +1,8 @@
-use Prim.Native.Nat.{ℕ, _+_, _-_, _≤_}
+use Prim.Native.Nat.{_-_, _≤_}
 use mathlib.Core.Path.{_≡_, refl, _∙_}
 use mathlib.Core.Bool.{_&&_, and-true}
 use Rattle.placing.proofs.AnswerLaws.{length-items}
 use Rattle.placing.proofs.ItemsLaws.{fit-more}
-use mathlib.Core.List.{List}
 use native.Mathlib.Omega.{arith}
 use borrow.Author.Needs.{needs}
 use lib.ListN.{length, drop, drop-of-length-le}
@@ -11,10 +10,6 @@ use Rattle.placing.specs.Item.{itemsOf}
 use Rattle.placing.specs.Table.{itemsFit}
 use Rattle.placing.proofs.items_fit.Statement.{statement}
 use Rattle.placing.proofs.items_fit.Tie as tie
-use Rattle.placing.proofs.items_fit.Reads as reads
-use Rattle.placing.proofs.items_fit.Lts as lts
-use Rattle.placing.proofs.comes_after.Reads as comes-after-reads
-use Rattle.placing.proofs.item_fits.Reads as item-fits-reads
 
 abbrev Inv-loop : tie.InvT-loop
 Inv-loop low high rows times fixed floors ok₀ row₀ time₀ i₀ ok row time i = (i ≤ length rows) × (itemsFit low high 0 0 (itemsOf rows times fixed floors) ≡ (ok && itemsFit low high row time (drop i (itemsOf rows times fixed floors))))

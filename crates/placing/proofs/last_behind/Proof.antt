@@ -2,8 +2,6 @@ use native.Mathlib.Omega.{arith}
 use borrow.Author.Tests.{lt-ltb, le-ltb}
 use Rattle.placing.proofs.last_behind.Statement.{statement}
 use Rattle.placing.proofs.last_behind.Tie as tie
-use Rattle.placing.proofs.last_behind.Reads as reads
-use Rattle.placing.proofs.last_behind.Lts as lts
 
 mul-result : tie.Need-mul-result
 mul-result c = omega arith

@@ -1,14 +1,14 @@
 use native.Mathlib.Omega.{arith}
 use mathlib.Core.Path.{sym, _∙_}
 use lib.ListN.{length, getD}
-use borrow.Author.Tests.{lt-ltb, le-ltb, eq-eqb, ne-eqb}
+use Prim.Native.Nat.{_<_}
+use lib.Dec.{eqb}
+use borrow.Author.Tests.{lt-ltb, le-ltb, eq-eqb, ne-eqb, leb-true, ltb-true}
+use Rattle.placing.proofs.Bools.{both-true}
 use Rattle.placing.specs.Places.{offerAt}
 use borrow.Author.Needs.{needs}
 use Rattle.placing.proofs.offered.Statement.{statement}
 use Rattle.placing.proofs.offered.Tie as tie
-use Rattle.placing.proofs.offered.Reads as reads
-use Rattle.placing.proofs.offered.Lts as lts
-use Rattle.placing.proofs.row_number.Reads as row-number-reads
 
 mul-row-number : tie.Need-mul-row-number
 mul-row-number c = omega arith
@@ -53,7 +53,10 @@ returns-2 : tie.Need-returns-2
 unfolding offerAt
 returns-2 c =
     let a = c .before .before .before .before .before .before .before .before .before .before .before .before .before .before .args in
-    rw (lt-ltb (a .i) (length (a .rows .now)) (c .before .before .before .before .before .before .before .before .before .if1 .taken), eq-eqb (getD (a .rows .now) (a .i) 0) (a .r) (sym (c .before .before .before .before .before .before .before .row-number .ensures) ∙ c .before .before .before .before .before .before .if2 .taken), ne-eqb (getD (a .fixed .now) (a .i) 0) (a .c) (c .before .before .before .before .if3 .left), c .before .if4 .taken)
+    let t = both-true (eqb (getD (a .fixed .now) (a .i) 0) 0) _ (c .before .if4 .taken) in
+    let free = t .0 in
+    let below : getD (a .floors .now) (a .i) 0 < a .c = omega (arith, leb-true, ltb-true, t .1) in
+    rw (lt-ltb (a .i) (length (a .rows .now)) (c .before .before .before .before .before .before .before .before .before .if1 .taken), eq-eqb (getD (a .rows .now) (a .i) 0) (a .r) (sym (c .before .before .before .before .before .before .before .row-number .ensures) ∙ c .before .before .before .before .before .before .if2 .taken), ne-eqb (getD (a .fixed .now) (a .i) 0) (a .c) (c .before .before .before .before .if3 .left), free, lt-ltb (getD (a .floors .now) (a .i) 0) (a .c) below)
 
 returns-3 : tie.Need-returns-3
 unfolding offerAt

@@ -1,7 +1,8 @@
-use mathlib.Core.Path.{_≡_, refl, sym, _∙_}
+use mathlib.Core.Path.{refl, sym, _∙_}
 use mathlib.Core.Logic.{⊎-elim}
 use native.Mathlib.Omega.{arith}
 use lib.ListN.{length, getD-replicate}
+use Rattle.placing.specs.Table.{mostItems, rowCount}
 use Rattle.placing.proofs.AnswerLaws.{refuses-form, refuses-short, refuses-none, accepts}
 use Rattle.placing.proofs.Turn.{take-replicate}
 use Rattle.placing.proofs.Formed.{formed}
@@ -32,7 +33,7 @@ prepare-requires : tie.Need-prepare-requires
 prepare-requires c κs =
     let a = c .before .before .before .before .before .before .before .before .before .before .args in
     let f = formed (a .low) (a .high) (a .rows .now) (a .times .now) (a .fixed .now) (a .floors .now) (sym (c .before .before .before .before .is-malformed .ensures) ∙ c .before .before .before .if1 .left) in
-    record { ordered = f .ordered; high-fits = f .high-fits; fixed-long = f .fixed-long; lasts-long = refl; next-long = refl; next-past = λ r l. getD-replicate 4 r (length (a .rows .now)) 0 l }
+    record { ordered = f .ordered; high-fits = f .high-fits; fixed-long = f .fixed-long; lasts-long = refl; next-long = refl; next-past = λ r l. getD-replicate rowCount r (length (a .rows .now)) 0 l }
 
 slice-aggregate-walk : tie.Need-slice-aggregate-walk
 slice-aggregate-walk c = search needs
@@ -54,7 +55,7 @@ walk-requires c κs =
       high-fits = f .high-fits;
       next-long = c .before .before .before .before .before .prepare .kept .1 .1 .1 .1 .0;
       work-long = refl;
-      work-clear = take-replicate (length (a .rows .now)) 64 0 (f .ordered .few);
+      work-clear = take-replicate (length (a .rows .now)) mostItems 0 (f .ordered .few);
       prepared = c .before .before .before .before .before .prepare .ensures;
     }
 

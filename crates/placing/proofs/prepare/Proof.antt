@@ -1,25 +1,21 @@
-use Prim.Native.Nat.{ℕ, suc, _+_, _-_, _≤_, _<_}
+use Prim.Native.Nat.{ℕ, suc, _-_, _≤_, _<_}
 use mathlib.Core.Path.{_≡_, _∙_}
 use mathlib.Core.List.{List}
 use native.Mathlib.Omega.{arith}
-use lib.ListN.{length, getD, set, length-set}
+use lib.ListN.{length, length-set}
+use Rattle.placing.specs.Table.{mostItems, rowCount}
 use Rattle.placing.specs.Places.{Prepared, PrepareAsks}
 use Rattle.placing.proofs.PrepareLaws.{prepared-start, prepared-more}
 use borrow.Author.Needs.{needs}
 use Rattle.placing.proofs.prepare.Statement.{statement}
 use Rattle.placing.proofs.prepare.Tie as tie
-use Rattle.placing.proofs.prepare.Reads as reads
-use Rattle.placing.proofs.prepare.Lts as lts
-use Rattle.placing.proofs.last_behind.Reads as last-behind-reads
-use Rattle.placing.proofs.last_from.Reads as last-from-reads
-use Rattle.placing.proofs.row_number.Reads as row-number-reads
 
 -- What holds where the items from place i on are prepared.
 record Turn (high : ℕ) (rows fixed lasts₀ next₀ lasts next : List ℕ) (i : ℕ) : Type 0 where
   asks : PrepareAsks high rows fixed lasts₀ next₀
   within : i ≤ length rows
-  lasts-long : length lasts ≡ 64
-  next-long : length next ≡ 4
+  lasts-long : length lasts ≡ mostItems
+  next-long : length next ≡ rowCount
   prepared : Prepared high i rows fixed lasts next
 
 abbrev Inv-loop : tie.InvT-loop
