@@ -120,7 +120,7 @@ got-append b (e ∷ es) fs = ap (λ (x : List Message). gotOne b e ++ x) (got-ap
 abbrev pub later : Ghost → ℕ → Event → Ghost
 later g n e = changed g n (g n ++ e ∷ [])
 
-later-there : (g : Ghost) (n m : ℕ) (e : Event) → m ≡ n → later g n e m ≡ g m ++ e ∷ []
+pub later-there : (g : Ghost) (n m : ℕ) (e : Event) → m ≡ n → later g n e m ≡ g m ++ e ∷ []
 later-there g n m e q = changed-there g n (g n ++ e ∷ []) m q ∙ ap (λ (k : ℕ). g k ++ e ∷ []) (sym q)
 
 module _ (p : Plan) (g : Ghost) (n b : ℕ) (e : Event) where

@@ -47,18 +47,23 @@ pub record Nodes (l : Line) (g : Ghost) (fed : List Act) (receipts : List Receip
   pub received : (n : ℕ) → nodeAt l n .crashed ≡ false → receivedBy n receipts ≡ receiptsIn (l .plan) n (map inputOf (g n))
   pub logged : (n : ℕ) → nodeAt l n .crashed ≡ false → nodeAt l n .log ≡ map (entryOf (l .plan) n) (g n)
 
--- A channel whose sender is up: no time on it is past the sender's, the log holds all that is still to come, and the queue what lies between the receiver's entry and the mark.
-pub record SenderUp (l : Line) (g : Ghost) (cut : ℕ → ℕ) (b : ℕ) : Type 0 where
-  pub within : Within timeOf (nodeAt l (channelAt (l .plan) b .sender) .time) (put (l .plan) g b)
-  pub cut-within : cut b ≤ nodeAt l (channelAt (l .plan) b .sender) .time
-  pub taken-within : laneAt l b .taken ≤ nodeAt l (channelAt (l .plan) b .sender) .time
-  pub to-come : past timeOf (laneAt l b .taken) (logPut l b) ≡ past timeOf (laneAt l b .taken) (put (l .plan) g b)
-  pub queue : nodeAt l (channelAt (l .plan) b .receiver) .status ≢ down
-      → (laneAt l b .taken ≤ laneAt l b .mark) × (laneAt l b .mark ≤ nodeAt l (channelAt (l .plan) b .sender) .time) × (laneAt l b .queue ≡ until timeOf (laneAt l b .mark) (past timeOf (laneAt l b .taken) (logPut l b)))
+-- A channel whose sender is up, by the sender's time, the lane, the messages of the log that it takes, those put on it, the cut and whether the receiver is not down:
+-- no time on it is past the sender's, the log holds all that is still to come, and the queue what lies between the receiver's entry and the mark.
+pub record SenderUp (time : ℕ) (lane : Lane) (log puts : List Message) (cut : ℕ) (receiving : Type 0) : Type 0 where
+  pub within : Within timeOf time puts
+  pub cut-within : cut ≤ time
+  pub taken-within : lane .taken ≤ time
+  pub to-come : past timeOf (lane .taken) log ≡ past timeOf (lane .taken) puts
+  pub queue : receiving → (lane .taken ≤ lane .mark) × (lane .mark ≤ time) × (lane .queue ≡ until timeOf (lane .mark) (past timeOf (lane .taken) log))
 
 -- A channel: what was put on it rises; what was got of it is what lies up to a time, the receiver's clock entry while the receiver is up.
 pub record Channels (l : Line) (g : Ghost) (cut : ℕ → ℕ) (b : ℕ) : Type 0 where
   pub rises : Rises timeOf 0 (put (l .plan) g b)
   pub cut-is : got (l .plan) g b ≡ until timeOf (cut b) (put (l .plan) g b)
   pub cut-up : isUp l (channelAt (l .plan) b .receiver) → cut b ≡ laneAt l b .taken
-  pub sender-up : isUp l (channelAt (l .plan) b .sender) → SenderUp l g cut b
+  pub sender-up : isUp l (channelAt (l .plan) b .sender) → SenderUp (nodeAt l (channelAt (l .plan) b .sender) .time) (laneAt l b) (logPut l b) (put (l .plan) g b) (cut b) (nodeAt l (channelAt (l .plan) b .receiver) .status ≢ down)
+
+-- The lists of nodes and lanes are as long as the plan says.
+pub record Shape (l : Line) : Type 0 where
+  pub nodes-long : length (l .nodes) ≡ nodeCount (l .plan)
+  pub lanes-long : length (l .lanes) ≡ channelCount (l .plan)

@@ -7,3 +7,7 @@ pub mod Ghost
 pub mod LineLaws
 pub mod Inv
 pub mod Conclusion
+pub mod Grow
+pub mod Logging
+pub mod FeedKeeps
+pub mod SendKeeps

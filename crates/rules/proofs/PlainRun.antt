@@ -133,7 +133,7 @@ goes-on p h n b i qs long l given held here e =
           ∙ ap (λ (x : List Record). given ++ x) (sym (join-at n r (p .channels) qs b long l ∙ ap (λ (t : Bool). joinIf (t && takes (channelAt p b) r) r (getD qs b [])) (ne-eqb (channelAt p b .sender) n d) ∙ here)))
     ]
 
-receipts-append : (p : Plan) (n : ℕ) (is js : List Input) → receiptsIn p n (is ++ js) ≡ receiptsIn p n is ++ receiptsIn p n js
+pub receipts-append : (p : Plan) (n : ℕ) (is js : List Input) → receiptsIn p n (is ++ js) ≡ receiptsIn p n is ++ receiptsIn p n js
 receipts-append p n [] js = refl
 receipts-append p n (i ∷ is) js = ap (λ (x : List Receipt). receiptIn p n i ++ x) (receipts-append p n is js) ∙ sym (append-assoc (receiptIn p n i) (receiptsIn p n is) (receiptsIn p n js))
 

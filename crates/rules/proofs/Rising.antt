@@ -85,7 +85,7 @@ module _ {A : Type 0} (time : A → ℕ) where
     split-next : xs ≡ until k xs ++ x ∷ rest
     split-next = cut-at k r ∙ ap (λ (ys : List A). until k xs ++ ys) e
 
-    next-rises : (k < time x) × Rises (time x) rest
+    pub next-rises : (k < time x) × Rises (time x) rest
     next-rises = first-of (rw e at (rises-past k r))
 
     -- The next one past k ends what lies up to its own time, and the rest lies past that.
@@ -117,3 +117,23 @@ module _ {A : Type 0} (time : A → ℕ) where
 
   pub past-snoc : {j : ℕ} (xs : List A) (x : A) → j < time x → past j (xs ++ x ∷ []) ≡ past j xs ++ x ∷ []
   past-snoc {j} xs x l = keep-append (λ (y : A). ltb j (time y)) xs (x ∷ []) ∙ ap (λ (t : Bool). past j xs ++ keepOne t x []) (lt-ltb j (time x) l)
+
+  -- A later cut forgets an earlier one.
+  pub past-past : (j k : ℕ) → j ≤ k → (xs : List A) → past k (past j xs) ≡ past k xs
+  past-past j k l [] = refl
+  past-past j k l (x ∷ xs) =
+      elim (decLe (time x) j) [
+        | yes h ↦ rw (le-ltb j (time x) h, le-ltb k (time x) (omega arith)) (past-past j k l xs)
+        | no h ↦ rw (lt-ltb j (time x) (omega arith)) (ap (λ (ys : List A). keepOne (ltb k (time x)) x ys) (past-past j k l xs))
+      ]
+
+  pub within-first : {k : ℕ} {x : A} {xs : List A} → Within k (x ∷ xs) → (time x ≤ k) × Within k xs
+  within-first (more-in h w) = (h, w)
+
+  pub within-past : (k : ℕ) {j : ℕ} {xs : List A} → Within j xs → Within j (past k xs)
+  within-past k none-in = none-in
+  within-past k {j} (more-in {x = x} {xs = xs} h w) = one (ltb k (time x)) (within-past k w)
+    where
+      one : (b : Bool) → Within j (past k xs) → Within j (keepOne b x (past k xs))
+      one true v = more-in h v
+      one false v = v
