@@ -57,7 +57,7 @@ sender-grows t m {time} {lane} {log} {puts} late s =
 -- The receiver takes the queue's first message, which is the next to come.
 pub sender-taken : {time : ℕ} {lane : Lane} {log puts : List Message} {cut : ℕ} {receiving : Type 0} (m : Message) (rest : List Message) (heard : List ℕ)
     → receiving → Rises timeOf 0 puts → lane .queue ≡ m ∷ rest → cut ≡ lane .taken → SenderUp time lane log puts cut receiving
-    → SenderUp time (record { mark = lane .mark; taken = m .time; heard = heard; queue = rest }) log puts (m .time) receiving × (until timeOf (m .time) puts ≡ until timeOf cut puts ++ m ∷ [])
+    → SenderUp time (record { mark = lane .mark; taken = m .time; heard = heard; queue = rest }) log puts (m .time) receiving × (until timeOf (m .time) puts ≡ until timeOf cut puts ++ m ∷ []) × (lane .taken < m .time)
 sender-taken {time} {lane} {log} {puts} {cut} m rest heard r rises q at s =
     let t : ℕ = lane .taken in
     let k : ℕ = lane .mark in
@@ -85,6 +85,7 @@ sender-taken {time} {lane} {log} {puts} {cut} m rest heard r rises q at s =
         );
       },
       next-until timeOf t m (rest ++ past timeOf k P) rises next ∙ ap (λ (c : ℕ). until timeOf c puts ++ m ∷ []) (sym at),
+      above,
     )
 
 -- The sender sends the next message past the mark.

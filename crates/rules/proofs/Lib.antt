@@ -11,3 +11,4 @@ pub mod Grow
 pub mod Logging
 pub mod FeedKeeps
 pub mod SendKeeps
+pub mod TakeKeeps

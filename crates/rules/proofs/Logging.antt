@@ -59,7 +59,7 @@ module _ (l : Line) (n : ℕ) (e : Event) (there : n < length (l .nodes)) where
         ∙ keep-append (takesMessage (l .plan) b) (map messageOf (nodeAt l n .log)) (sentOf (l .plan) n e ∷ [])
         ∙ ap (λ (x : ℕ). keep (takesMessage (l .plan) b) (map messageOf (nodeAt l x .log)) ++ keepOne (takesMessage (l .plan) b (sentOf (l .plan) n e)) (sentOf (l .plan) n e) []) (sym q)
 
-    log-put-else : (b : ℕ) → channelAt (l .plan) b .sender ≢ n → logPut (withNode n (nodeLogs l n e) l) b ≡ logPut l b
+    pub log-put-else : (b : ℕ) → channelAt (l .plan) b .sender ≢ n → logPut (withNode n (nodeLogs l n e) l) b ≡ logPut l b
     unfolding logPut withNode
     log-put-else b d = ap (λ (x : Node). keep (takesMessage (l .plan) b) (map messageOf (x .log))) (node-else n (nodeLogs l n e) l (channelAt (l .plan) b .sender) d)
 

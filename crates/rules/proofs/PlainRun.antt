@@ -156,7 +156,7 @@ follows-feed p h l n r f =
       ];
     }
 
-taken-receipt : (p : Plan) (h : History) (l : PlainLine) (b : ℕ) (r : Record) (k : ℕ) → receivedBy k (l .received) ≡ receiptsIn p k (h k)
+pub taken-receipt : (p : Plan) (h : History) (l : PlainLine) (b : ℕ) (r : Record) (k : ℕ) → receivedBy k (l .received) ≡ receiptsIn p k (h k)
     → receivedBy k (l .received ++ record { receiver = channelAt p b .receiver; what = r; sender = channelAt p b .sender } ∷ []) ≡ receiptsIn p k (grown h (channelAt p b .receiver) (tookIn b r) k)
 taken-receipt p h l b r k e =
     let n : ℕ = channelAt p b .receiver in
