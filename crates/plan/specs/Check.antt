@@ -61,16 +61,22 @@ badDegrees s = not (fourAtMost (planOf s) (planNodes s))
 unfoldable pub planRefusal : List ℕ → ℕ
 unfolding badLength badVersion badCounts badSize badRules badChannels badDegrees
 planRefusal s =
-    elim (badLength s)
-    [ true ↦ 1
-    | false ↦ elim (badVersion s)
-    [ true ↦ 2
-    | false ↦ elim (badCounts s)
-    [ true ↦ 3
-    | false ↦ elim (badSize s)
-    [ true ↦ 4
-    | false ↦ elim (badRules s)
-    [ true ↦ 5
-    | false ↦ elim (badChannels s)
-    [ true ↦ 6
-    | false ↦ elim (badDegrees s) [ true ↦ 7 | false ↦ 0 ] ] ] ] ] ] ]
+    elim (badLength s) [
+      | true ↦ 1
+      | false ↦ elim (badVersion s) [
+        | true ↦ 2
+        | false ↦ elim (badCounts s) [
+          | true ↦ 3
+          | false ↦ elim (badSize s) [
+            | true ↦ 4
+            | false ↦ elim (badRules s) [
+              | true ↦ 5
+              | false ↦ elim (badChannels s) [
+                | true ↦ 6
+                | false ↦ elim (badDegrees s) [ true ↦ 7 | false ↦ 0 ]
+              ]
+            ]
+          ]
+        ]
+      ]
+    ]

@@ -92,7 +92,7 @@ planChannels s = getD (headLayout .read s) 3 0
 unfoldable pub planOf : List ℕ → Plan
 unfolding ruleLayout channelLayout planNodes planChannels
 planOf s =
-    record
-    { rules = readSlots ruleLayout (planNodes s) (drop 5 s)
-    ; channels = readSlots channelLayout (planChannels s) (drop (5 + 4 * planNodes s) s)
+    record {
+      rules = readSlots ruleLayout (planNodes s) (drop 5 s);
+      channels = readSlots channelLayout (planChannels s) (drop (5 + 4 * planNodes s) s);
     }

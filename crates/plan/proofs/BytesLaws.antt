@@ -1,0 +1,40 @@
+-- Lists of bytes: their parts and joins are bytes.
+use Prim.Native.Nat.{ℕ, zero, suc, _-_, _+_, _≤_, _<_}
+use mathlib.Core.Path.{_≡_, refl, sym, ap, _∙_}
+use mathlib.Core.List.{List, [], _∷_, _++_}
+use native.Mathlib.Nat.{zero-sub, sub-zero, suc-sub-suc}
+use native.Mathlib.Omega.{arith}
+use lib.ListN.{length, getD, take, drop}
+use lib.Seq.{take-nil}
+use Rattle.plan.specs.Lawful.{Bytes}
+
+pub bytes-take : (n : ℕ) (s : List ℕ) → Bytes s → Bytes (take n s)
+bytes-take zero s h = tt
+bytes-take (suc n) [] h = tt
+bytes-take (suc n) (b ∷ s) h = (h .0, bytes-take n s (h .1))
+
+pub bytes-drop : (n : ℕ) (s : List ℕ) → Bytes s → Bytes (drop n s)
+bytes-drop zero s h = h
+bytes-drop (suc n) [] h = tt
+bytes-drop (suc n) (b ∷ s) h = bytes-drop n s (h .1)
+
+pub bytes-append : (s t : List ℕ) → Bytes s → Bytes t → Bytes (s ++ t)
+bytes-append [] t h k = k
+bytes-append (b ∷ s) t h k = (h .0, bytes-append s t (h .1) k)
+
+pub bytes-known : (s : List ℕ) → ((i : ℕ) → getD s i 0 < 256) → Bytes s
+bytes-known [] h = tt
+bytes-known (b ∷ s) h = (h zero, bytes-known s (λ i. h (suc i)))
+
+pub bytes-at : (s : List ℕ) → Bytes s → (i : ℕ) → getD s i 0 < 256
+bytes-at [] h i = omega arith
+bytes-at (b ∷ s) h zero = h .0
+bytes-at (b ∷ s) h (suc i) = bytes-at s (h .1) i
+
+-- What is left of the front of a list.
+pub drop-take : {A : Type 0} (m n : ℕ) (s : List A) → drop m (take n s) ≡ take (n - m) (drop m s)
+drop-take zero n s = rw sub-zero
+drop-take (suc m) zero [] = rw zero-sub
+drop-take (suc m) zero (x ∷ s) = rw zero-sub
+drop-take (suc m) (suc n) [] = sym (take-nil (suc n - suc m))
+drop-take (suc m) (suc n) (x ∷ s) = rw suc-sub-suc (drop-take m n s)

@@ -1,0 +1,13 @@
+pub mod NumberLaws
+pub mod BytesLaws
+pub mod LayoutLaws
+pub mod Bools
+pub mod ValueLaws
+pub mod ChannelLaws
+pub mod ReadLaws
+pub mod CheckLaws
+pub mod PlanLaws
+pub mod MaskLaws
+pub mod LoopLaws
+pub mod AcceptedLaws
+pub mod TakingLaws

@@ -1,0 +1,94 @@
+-- What a plan's bytes give in place, for all bytes.
+use Prim.Native.Nat.{ℕ, zero, suc, _+_, _-_, _*_, _≤_, _<_}
+use mathlib.Core.Path.{_≡_, refl, sym, ap, _∙_}
+use mathlib.Core.List.{List, [], _∷_, _++_}
+use native.Mathlib.Nat.{add-comm, add-assoc, mul-comm, add-zero, add-sub-cancel-left}
+use native.Mathlib.Omega.{arith}
+use lib.ListN.{length, getD, take, drop, length-drop, List·getD-eq-default}
+use lib.Seq.{take-take, drop-drop, getD-drop}
+use Rattle.plan.specs.declared.Rule.{Rule}
+use Rattle.plan.specs.declared.Rule.the-variants.{Keep}
+use Rattle.plan.specs.declared.Channel.{Channel}
+use Rattle.plan.specs.Layout.{Layout, spelled, sumOf, readFields, readSlots}
+use Rattle.plan.specs.Rule.{ruleFields, ruleLayout, ruleOf, ruleOfKind}
+use Rattle.plan.specs.Channel.{channelFields, channelLayout, channelOf}
+use Rattle.plan.specs.Plan.{Plan, planOf, planLength, planVersion, planNodes, planChannels, ruleAt, channelAt, noChannel, headLayout}
+use Rattle.plan.proofs.BytesLaws.{drop-take}
+use Rattle.plan.proofs.LayoutLaws.{slot-at, length-readSlots}
+
+-- Fields read no more than their size.
+pub fields-front : (ws s : List ℕ) → readFields ws (take (sumOf ws) s) ≡ readFields ws s
+fields-front [] s = refl
+fields-front (w ∷ ws) s =
+    rw (take-take w (w + sumOf ws) s (omega arith), drop-take w (w + sumOf ws) s, add-sub-cancel-left, fields-front ws (drop w s))
+
+first-spelled : (s : List ℕ) → spelled 0 (take 1 s) ≡ getD s 0 0
+first-spelled [] = refl
+first-spelled (b ∷ s) = omega arith
+
+pub byte-field : (i : ℕ) (s : List ℕ) → spelled 0 (take 1 (drop i s)) ≡ getD s i 0
+byte-field i s = rw (first-spelled (drop i s), getD-drop, add-zero)
+
+two-spelled : (s : List ℕ) → 1 < length s → spelled 0 (take 2 s) ≡ getD s 0 0 * 256 + getD s 1 0
+two-spelled [] h = let no : ⊥ = omega arith in absurd no
+two-spelled (a ∷ []) h = let no : ⊥ = omega arith in absurd no
+two-spelled (a ∷ b ∷ s) h = omega arith
+
+two-short : (s : List ℕ) → length s ≤ 1 → spelled 0 (take 2 s) ≡ getD s 0 0
+two-short [] h = refl
+two-short (a ∷ []) h = omega arith
+two-short (a ∷ b ∷ s) h = let no : ⊥ = omega arith in absurd no
+
+pub word-field : (i : ℕ) (s : List ℕ) → i + 1 < length s → spelled 0 (take 2 (drop i s)) ≡ getD s i 0 * 256 + getD s (i + 1) 0
+word-field i s h = two-spelled (drop i s) (simp length-drop (omega arith)) ∙ simp (getD-drop, add-zero)
+
+pub word-short : (i : ℕ) (s : List ℕ) → length s ≤ i + 1 → spelled 0 (take 2 (drop i s)) ≡ getD s i 0
+word-short i s h = two-short (drop i s) (simp length-drop (omega arith)) ∙ simp (getD-drop, add-zero)
+
+pub nodes-byte : (s : List ℕ) → planNodes s ≡ getD s 3 0
+unfolding planNodes
+nodes-byte s = rw (drop-drop, byte-field)
+
+pub channels-byte : (s : List ℕ) → planChannels s ≡ getD s 4 0
+unfolding planChannels
+channels-byte s = rw (drop-drop, drop-drop, byte-field)
+
+pub version-byte : (s : List ℕ) → planVersion s ≡ getD s 2 0
+unfolding planVersion
+version-byte s = byte-field 2 s
+
+rule-fields : (a : ℕ) (s : List ℕ) → ruleFields .read (take 4 (drop a s)) ≡ getD s a 0 ∷ getD s (a + 1) 0 ∷ spelled 0 (take 2 (drop (a + 2) s)) ∷ []
+unfolding ruleFields
+rule-fields a s = fields-front (1 ∷ 1 ∷ 2 ∷ []) (drop a s) ∙ simp (drop-drop, add-assoc, byte-field)
+
+channel-fields : (a : ℕ) (s : List ℕ) → channelFields .read (take 6 (drop a s)) ≡ getD s a 0 ∷ getD s (a + 1) 0 ∷ spelled 0 (take 2 (drop (a + 2) s)) ∷ getD s (a + 4) 0 ∷ getD s (a + 5) 0 ∷ []
+unfolding channelFields
+channel-fields a s = fields-front (1 ∷ 1 ∷ 2 ∷ 1 ∷ 1 ∷ []) (drop a s) ∙ simp (drop-drop, add-assoc, byte-field)
+
+-- The rules and the channels, by number.
+pub rule-past : (s : List ℕ) (n : ℕ) → planNodes s ≤ n → ruleAt (planOf s) n ≡ Keep
+unfolding planOf
+rule-past s n h = List·getD-eq-default (readSlots ruleLayout (planNodes s) (drop 5 s)) Keep (rw length-readSlots h)
+
+pub rule-numbers-at : (s : List ℕ) (n : ℕ) (d : List ℕ) → n < planNodes s
+    → getD (readSlots ruleFields (planNodes s) (drop 5 s)) n d ≡ getD s (5 + 4 * n) 0 ∷ getD s (5 + 4 * n + 1) 0 ∷ spelled 0 (take 2 (drop (5 + 4 * n + 2) s)) ∷ []
+unfolding ruleFields
+rule-numbers-at s n d h = slot-at ruleFields (planNodes s) (drop 5 s) n d h ∙ rw (drop-drop, mul-comm n 4) (rule-fields (5 + 4 * n) s)
+
+pub rule-at : (s : List ℕ) (n : ℕ) → n < planNodes s
+    → ruleAt (planOf s) n ≡ ruleOfKind (getD s (5 + 4 * n) 0) (getD s (5 + 4 * n + 1) 0) (spelled 0 (take 2 (drop (5 + 4 * n + 2) s)))
+unfolding planOf ruleLayout
+rule-at s n h = slot-at ruleLayout (planNodes s) (drop 5 s) n Keep h ∙ rw (drop-drop, mul-comm n 4) (ap ruleOf (rule-fields (5 + 4 * n) s))
+
+pub channel-past : (s : List ℕ) (b : ℕ) → planChannels s ≤ b → channelAt (planOf s) b ≡ noChannel
+unfolding planOf
+channel-past s b h = List·getD-eq-default (readSlots channelLayout (planChannels s) (drop (5 + 4 * planNodes s) s)) noChannel (rw length-readSlots h)
+
+pub channel-at : (s : List ℕ) (b : ℕ) → b < planChannels s
+    → (let a : ℕ = 5 + 4 * planNodes s + 6 * b in
+    channelAt (planOf s) b
+    ≡ record { sender = getD s a 0; receiver = getD s (a + 1) 0; mask = spelled 0 (take 2 (drop (a + 2) s)); modulus = getD s (a + 4) 0; remainder = getD s (a + 5) 0 })
+unfolding planOf channelLayout
+channel-at s b h =
+    slot-at channelLayout (planChannels s) (drop (5 + 4 * planNodes s) s) b noChannel h
+    ∙ rw (drop-drop, mul-comm b 6) (ap channelOf (channel-fields (5 + 4 * planNodes s + 6 * b) s))

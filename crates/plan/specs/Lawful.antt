@@ -1,0 +1,36 @@
+-- What it means that the two directions of a layout are inverse.
+use Prim.Native.Nat.{ℕ, zero, suc, _^_, _<_}
+use mathlib.Core.Path.{_≡_}
+use mathlib.Core.List.{List, [], _∷_}
+use lib.ListN.{length, take, drop}
+use Rattle.plan.specs.Layout.{Layout}
+
+-- Numbers that are bytes.
+abbrev pub Bytes : List ℕ → Type 0
+Bytes [] = Unit {0}
+Bytes (b ∷ s) = (b < 256) × Bytes s
+
+-- What holds of everything in a list.
+abbrev pub Each : {A : Type 0} → (A → Type 0) → List A → Type 0
+Each P [] = Unit {0}
+Each P (x ∷ xs) = P x × Each P xs
+
+-- One number for each width, each below what its bytes can spell.
+abbrev pub FieldsFit : List ℕ → List ℕ → Type 0
+FieldsFit [] [] = Unit {0}
+FieldsFit [] (v ∷ vs) = ⊥
+FieldsFit (w ∷ ws) [] = ⊥
+FieldsFit (w ∷ ws) (v ∷ vs) = (v < 256 ^ w) × FieldsFit ws vs
+
+-- What holds of each of so many slots of one size.
+abbrev pub EachSlot : (List ℕ → Type 0) → ℕ → ℕ → List ℕ → Type 0
+EachSlot P size zero s = Unit {0}
+EachSlot P size (suc n) s = P (take size s) × EachSlot P size n (drop size s)
+
+-- A layout whose values that fit are read back, and whose bytes that are right are written back.
+pub record Lawful {A : Type 0} (l : Layout A) (Fits : A → Type 0) (Right : List ℕ → Type 0) : Type 0 where
+  pub sized : (a : A) → length (l .write a) ≡ l .size
+  pub bytes : (a : A) → Bytes (l .write a)
+  pub fits : (s : List ℕ) → Bytes s → Fits (l .read s)
+  pub readBack : (a : A) → Fits a → l .read (l .write a) ≡ a
+  pub writeBack : (s : List ℕ) → length s ≡ l .size → Bytes s → Right s → l .write (l .read s) ≡ s
