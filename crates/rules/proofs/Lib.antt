@@ -12,3 +12,4 @@ pub mod Logging
 pub mod FeedKeeps
 pub mod SendKeeps
 pub mod TakeKeeps
+pub mod LanesLaws
