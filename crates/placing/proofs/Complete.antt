@@ -12,7 +12,7 @@ use lib.Seq.{getD-set-same, getD-set-other}
 use lib.Dec.{ltb, eqb}
 use borrow.Author.Tests.{ltb-true, eqb-true, eq-eqb, lt-ltb}
 use Rattle.placing.specs.Walk.{Waiting, Walk, fixedHere, freeHere, chosenRow, placeIn, walk, noneWait}
-use Rattle.placing.proofs.Bools.{both-true}
+use Rattle.basics.specs.Bools.{both-true}
 use Rattle.placing.proofs.Rows.{nil-cons}
 use Rattle.placing.proofs.Fits.{Rows, free, fixed, Takes, Fits, done, skip, put, due, fill, swap, same-rows, last-fixed}
 use Rattle.placing.proofs.Choice.{rowOf, FreeChosen, ChoiceSays, choice-says}

@@ -9,7 +9,7 @@ use borrow.Author.Tests.{eq-eqb, ne-eqb}
 use Rattle.placing.specs.Item.{Item}
 use Rattle.placing.specs.Walk.{Waiting, lastColumn}
 use Rattle.placing.proofs.Rows.{nil-cons}
-use Rattle.placing.proofs.Update.{changed, changed-there, changed-else}
+use Rattle.basics.specs.Update.{changed, changed-there, changed-else}
 
 -- What waits in each row.
 abbrev pub Rows : Type 0

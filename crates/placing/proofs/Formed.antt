@@ -10,7 +10,7 @@ use borrow.Author.Tests.{not-false, leb-true}
 use Rattle.placing.specs.Item.{itemsOf}
 use Rattle.placing.specs.Table.{mostItems, greatest, malformed, lengthsAgree, itemsFit}
 use Rattle.placing.specs.Places.{Ordered}
-use Rattle.placing.proofs.Bools.{both-true}
+use Rattle.basics.specs.Bools.{both-true}
 use Rattle.placing.proofs.TableLaws.{rows-rise, rows-four}
 use Rattle.placing.proofs.ItemsLaws.{malformed-is, lengths-are}
 use Rattle.placing.proofs.PrepareLaws.{row-is, in-table}

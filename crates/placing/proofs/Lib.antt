@@ -1,6 +1,4 @@
 -- Another crate sees the promise only.
-mod Bools
-mod Update
 mod Rows
 mod Fits
 mod Choice

@@ -7,7 +7,7 @@ use native.Mathlib.Decide.{decLt, ℕ-discrete}
 use lib.ListN.{length}
 use Rattle.placing.specs.Item.{Item, itemAt}
 use Rattle.placing.specs.Walk.{Waiting}
-use Rattle.placing.proofs.Update.{changed, changed-there, changed-else}
+use Rattle.basics.specs.Update.{changed, changed-there, changed-else}
 use Rattle.placing.specs.Places.{rowAt, rowFrom, RowsAtLeast}
 use Rattle.placing.proofs.Rows.{Sorted, from-head, from-skip, low-next}
 use Rattle.placing.proofs.Fits.{Rows, Takes}

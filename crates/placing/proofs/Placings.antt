@@ -8,7 +8,7 @@ use native.Mathlib.Decide.{decLt, ℕ-discrete}
 use lib.ListN.{length, getD}
 use Rattle.placing.specs.Item.{Item, itemAt}
 use Rattle.placing.specs.Rules.{KeepsRules}
-use Rattle.placing.proofs.Update.{changed-there, changed-else}
+use Rattle.basics.specs.Update.{changed-there, changed-else}
 use Rattle.placing.specs.Places.{rowAt, RowsAtLeast}
 use Rattle.placing.proofs.Rows.{Sorted, from-none}
 use Rattle.placing.proofs.Next.{rows-at, gone, gone-takes, gone-low}

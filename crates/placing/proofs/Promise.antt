@@ -14,7 +14,7 @@ use Rattle.placing.specs.Table.{mostItems, greatest, rowCount, tableFits
 use Rattle.placing.specs.Rules.{KeepsRules}
 use Rattle.placing.specs.Walk.{rowsOf, begun, walked, noneWait}
 use Rattle.placing.specs.Answer.{unplaceable, chosenColumns, tooShort, answer, columnsLeft}
-use Rattle.placing.proofs.Bools.{both-true}
+use Rattle.basics.specs.Bools.{both-true}
 use Rattle.placing.specs.Places.{rowAt, rowFrom}
 use Rattle.placing.proofs.Rows.{Sorted, inRow-none}
 use Rattle.placing.proofs.Next.{rows-at, Begins, begins}

@@ -12,7 +12,7 @@ use lib.Seq.{getD-set-same, getD-set-other}
 use Rattle.placing.specs.Item.{Item, itemAt}
 use Rattle.placing.specs.Rules.{KeepsRules}
 use Rattle.placing.specs.Walk.{Waiting, Walk, chosenRow, placeIn, walk, noneWait}
-use Rattle.placing.proofs.Update.{changed-there, changed-else}
+use Rattle.basics.specs.Update.{changed-there, changed-else}
 use Rattle.placing.specs.Places.{rowAt, rowFrom, RowsAtLeast}
 use Rattle.placing.proofs.Rows.{Sorted, from-head, from-some, from-waits}
 use Rattle.placing.proofs.Next.{rows-at, gone, gone-takes, gone-low}

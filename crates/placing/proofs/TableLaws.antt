@@ -11,7 +11,7 @@ use Rattle.placing.specs.Item.{Item}
 use Rattle.placing.specs.Table.{rowCount, itemFits, comesAfter, itemsFit}
 use Rattle.placing.specs.Places.{rowAt}
 use Rattle.placing.proofs.Rows.{Sorted}
-use Rattle.placing.proofs.Bools.{both-true, and-left}
+use Rattle.basics.specs.Bools.{both-true, and-left}
 
 first-fits : (low high row time : ℕ) (x : Item) (xs : List Item) → itemsFit low high row time (x ∷ xs) ≡ true → (itemFits low high x ≡ true) × (comesAfter row time (x .row) (x .time) ≡ true) × (itemsFit low high (x .row) (x .time) xs ≡ true)
 first-fits low high row time x xs e =

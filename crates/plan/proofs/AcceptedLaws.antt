@@ -17,7 +17,7 @@ use Rattle.plan.specs.Channel.{channelFits, channelAfter}
 use Rattle.plan.specs.Plan.{Plan, planOf, planNodes, planChannels, ruleAt, channelAt, noChannel, channelCount, entering, leaving}
 use Rattle.plan.specs.Check.{rulesFit, channelsFit, fourAtMost, planRefusal}
 use Rattle.plan.specs.Narrow.{narrowed}
-use Rattle.plan.proofs.Bools.{both-true, below-or-not}
+use Rattle.basics.specs.Bools.{both-true, below-or-not}
 use Rattle.plan.proofs.LayoutLaws.{length-readSlots}
 use Rattle.plan.proofs.ReadLaws.{rule-numbers-at, rule-at, rule-past}
 use Rattle.plan.proofs.CheckLaws.{Accepted, accepted}

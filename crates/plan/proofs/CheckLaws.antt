@@ -11,7 +11,7 @@ use Rattle.plan.specs.Layout.{Layout, readSlots}
 use Rattle.plan.specs.Rule.{ruleFields, ruleFits}
 use Rattle.plan.specs.Plan.{Plan, planOf, planLength, planVersion, planNodes, planChannels, planSize}
 use Rattle.plan.specs.Check.{badLength, badVersion, badCounts, badSize, rulesFit, badRules, channelsFit, badChannels, fourAtMost, badDegrees, planRefusal}
-use Rattle.plan.proofs.Bools.{both-true, neither-true}
+use Rattle.basics.specs.Bools.{both-true, neither-true}
 
 -- The first that applies, 0 where none does.
 unfoldable pub firstOf : Bool → Bool → Bool → Bool → Bool → Bool → Bool → ℕ

@@ -1,7 +1,6 @@
 pub mod NumberLaws
 pub mod BytesLaws
 pub mod LayoutLaws
-pub mod Bools
 pub mod ValueLaws
 pub mod ChannelLaws
 pub mod ReadLaws

@@ -21,7 +21,7 @@ use Rattle.plan.proofs.LayoutLaws.{length-fields, bytes-fields, fields-
 use Rattle.plan.proofs.ValueLaws.{rule-lawful, channel-lawful}
 use Rattle.plan.proofs.BytesLaws.{bytes-take, bytes-drop, bytes-append, bytes-at}
 use Rattle.plan.proofs.CheckLaws.{Accepted, accepted}
-use Rattle.plan.proofs.Bools.{both-true}
+use Rattle.basics.specs.Bools.{both-true}
 
 -- The parts of a plan's bytes.
 abbrev headNumbers : Plan → List ℕ

@@ -18,7 +18,7 @@ use Rattle.plan.specs.Rule.{ruleNumbers, ruleOf, ruleOfKind, ruleFields,
 use Rattle.plan.specs.Channel.{channelNumbers, channelOf, channelFields, channelLayout}
 use Rattle.plan.specs.Fits.{RecordFits, RuleFits, ChannelFits}
 use Rattle.plan.proofs.LayoutLaws.{fields-lawful, via-lawful}
-use Rattle.plan.proofs.Bools.{both-true}
+use Rattle.basics.specs.Bools.{both-true}
 
 -- ---- records
 

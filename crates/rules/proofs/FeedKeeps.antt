@@ -13,7 +13,7 @@ use Rattle.rules.specs.Line.{Entry, Node, Line, nodeAt, laneAt, withNode
 use Rattle.rules.specs.Clock.{logged}
 use Rattle.rules.specs.Plain.{Act, feeds, Receipt}
 use Rattle.rules.specs.Claim.{receivedBy}
-use Rattle.rules.proofs.Update.{changed, changed-there, changed-else}
+use Rattle.basics.specs.Update.{changed, changed-there, changed-else}
 use Rattle.rules.proofs.ListLaws.{map-append, nil-right}
 use Rattle.rules.proofs.LineLaws.{node-there, node-else}
 use Rattle.rules.proofs.PlainRun.{Input, fedIn, History, grown, receiptsIn, receipts-append}

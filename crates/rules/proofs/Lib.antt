@@ -1,4 +1,3 @@
-pub mod Update
 pub mod ListLaws
 pub mod Rising
 pub mod PlainRun

@@ -18,7 +18,7 @@ use Rattle.plan.specs.Plan.{Plan, ruleAt, channelAt, noChannel}
 use Rattle.rules.specs.Lists.{keep, keepOne}
 use Rattle.rules.specs.Plain.{Act, feeds, takesFrom, Receipt, PlainLine, joinIf, joinEach, passOn, takeFirst, act, runFrom}
 use Rattle.rules.specs.Claim.{receivedBy}
-use Rattle.rules.proofs.Update.{changed, changed-there, changed-else}
+use Rattle.basics.specs.Update.{changed, changed-there, changed-else}
 use Rattle.rules.proofs.ListLaws.{keep-append, map-append, append-cancel, nil-right}
 
 -- What a node took in: a record fed, or a record taken from a channel.

@@ -16,7 +16,7 @@ use Rattle.rules.specs.Plain.{Act, Receipt}
 use Rattle.rules.specs.Lists.{keepOne}
 use Rattle.rules.specs.Line.{Message, Entry, Status, up, down, Node, Lane, Line, nodeAt, laneAt, withNode, withLane}
 use Rattle.rules.specs.Clock.{logged, takenFrom}
-use Rattle.rules.proofs.Update.{changed, changed-there, changed-else}
+use Rattle.basics.specs.Update.{changed, changed-there, changed-else}
 use Rattle.rules.proofs.ListLaws.{nil-right, map-append}
 use Rattle.rules.proofs.PlainRun.{Input, tookIn, grown, receiptsIn, taken-receipt}
 use Rattle.rules.proofs.Witness.{Taken, none, more}

@@ -14,7 +14,7 @@ use Rattle.plan.specs.declared.Channel.{Channel}
 use Rattle.plan.specs.Plan.{Plan, channelAt}
 use Rattle.rules.specs.Lists.{keep, keepOne}
 use Rattle.rules.specs.Plain.{Act, feeds, takesFrom, PlainLine, act, runFrom, plainStart, plainRun, isFeed, runFeeds}
-use Rattle.rules.proofs.Update.{changed, changed-there, changed-else}
+use Rattle.basics.specs.Update.{changed, changed-there, changed-else}
 use Rattle.rules.proofs.ListLaws.{keep-append, map-append, append-cancel, nil-right}
 use Rattle.rules.proofs.PlainRun.{Input, fedIn, tookIn, whatIn, fromChannel, History, ins, outs, grown, Follows, follows-feed, follows-take}
 

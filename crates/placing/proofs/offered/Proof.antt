@@ -4,7 +4,7 @@ use lib.ListN.{length, getD}
 use Prim.Native.Nat.{_<_}
 use lib.Dec.{eqb}
 use borrow.Author.Tests.{lt-ltb, le-ltb, eq-eqb, ne-eqb, leb-true, ltb-true}
-use Rattle.placing.proofs.Bools.{both-true}
+use Rattle.basics.specs.Bools.{both-true}
 use Rattle.placing.specs.Places.{offerAt}
 use borrow.Author.Needs.{needs}
 use Rattle.placing.proofs.offered.Statement.{statement}

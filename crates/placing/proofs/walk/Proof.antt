@@ -11,7 +11,7 @@ use Rattle.placing.specs.Table.{mostItems, rowCount}
 use Rattle.placing.specs.Walk.{orElse}
 use Rattle.placing.specs.declared.Pick.the-variants.{Row}
 use Rattle.placing.specs.Places.{candidateOf}
-use Rattle.placing.proofs.Bools.{both-true, one-false}
+use Rattle.basics.specs.Bools.{both-true, one-false}
 use Rattle.placing.proofs.Turn.{Chosen, Searching, Walking, searching-begun, searching-ended, turn-fixed, turn-free, turn-nothing, chosen-inside, column-taken, column-empty, walking-begun, walking-done}
 use Rattle.placing.proofs.walk.Statement.{statement}
 use Rattle.placing.proofs.walk.Tie as tie

@@ -1,0 +1,3 @@
+-- Laws that several crates cite.
+pub mod Bools
+pub mod Update

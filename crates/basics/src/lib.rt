@@ -1,0 +1,1 @@
+// Laws that several crates cite. No code.
