@@ -1,5 +1,14 @@
 //! A model of document 01, written from the paper alone. The engine is
 //! executed and matched against it.
 
+pub mod answer;
+pub mod clock;
+pub mod line;
+pub mod order;
 pub mod placing;
+pub mod plain;
+pub mod plan;
 pub mod random;
+pub mod record;
+pub mod rule;
+pub mod sheet;

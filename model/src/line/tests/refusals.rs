@@ -1,0 +1,141 @@
+//! Refusals 9 to 21 that frames alone can lead to, in rising order.
+
+use super::*;
+
+fn feed_bytes(node: u8, record: [u8; 8]) -> Vec<u8> {
+    Frame::Feed { node, record }.write()
+}
+
+const UNSOUND: [u8; 8] = [0, 0, 0, 1, 16, 0, 0, 1];
+const NONZERO: [u8; 8] = [0, 0, 0, 1, 15, 1, 0, 1];
+
+#[test]
+fn frames() {
+    let line = ninth_line();
+    for frame in [
+        &[][..],
+        &[0, 5, 1, 2],
+        &[0, 4, 1, 2],
+        &[0, 6, 1, 2, 0],
+        &[1, 5, 1, 2, 0],
+        &[0, 5, 0, 9, 9, 9],
+    ] {
+        assert_eq!(refuse(&line, frame), 9);
+    }
+    assert_eq!(refuse(&line, &[0, 5, 0, 2, 0]), 10);
+    assert_eq!(refuse(&line, &[0, 6, 2, 2, 0, 0]), 10);
+    assert_eq!(refuse(&line, &[0, 5, 1, 0, 0]), 11);
+    assert_eq!(refuse(&line, &[0, 5, 1, 6, 0]), 11);
+    assert_eq!(refuse(&line, &[0, 5, 1, 1, 0]), 11);
+    assert_eq!(refuse(&line, &[0, 6, 1, 2, 0, 0]), 11);
+    let mut long_send = feed(0, 1, 1);
+    long_send[3] = 2;
+    assert_eq!(refuse(&line, &long_send), 11);
+}
+
+#[test]
+fn steps_used_up() {
+    let mut line = ninth_line();
+    line.steps = Line::MOST_STEPS - 1;
+    accept(&mut line, &[feed(0, 1, 1)]);
+    assert_eq!(line.steps, Line::MOST_STEPS);
+    for frame in [feed(0, 1, 1), feed(9, 1, 1), send(0), send(24), crash(2)] {
+        assert_eq!(refuse(&line, &frame), 12);
+    }
+    assert_eq!(refuse(&line, &[0, 5, 1, 6, 0]), 11);
+}
+
+/// A replaying node at the last step is no damage.
+#[test]
+fn last_step_while_replaying() {
+    let mut line = ninth_replaying();
+    line.steps = Line::MOST_STEPS - 1;
+    accept(&mut line, &[send(0)]);
+    assert_eq!(refuse(&line, &take(0)), 12);
+}
+
+#[test]
+fn places() {
+    let line = ninth_line();
+    for frame in [
+        feed(5, 1, 1),
+        feed_bytes(5, UNSOUND),
+        send(4),
+        take(4),
+        take(255),
+        crash(5),
+        recover(255),
+    ] {
+        assert_eq!(refuse(&line, &frame), 13);
+    }
+    for frame in [feed(2, 1, 1), feed(3, 1, 1), feed_bytes(4, UNSOUND)] {
+        assert_eq!(refuse(&line, &frame), 14);
+    }
+    for node in [0, 1, 3, 4] {
+        assert_eq!(refuse(&line, &crash(node)), 14);
+        assert_eq!(refuse(&line, &recover(node)), 14);
+    }
+}
+
+#[test]
+fn down_and_not_down() {
+    let mut line = ninth_line();
+    assert_eq!(refuse(&line, &recover(2)), 15);
+    accept(&mut line, &[feed(0, 1, 1), send(0), take(0), crash(2)]);
+    assert_eq!(refuse(&line, &crash(2)), 15);
+    for channel in 0..4 {
+        assert_eq!(refuse(&line, &send(channel)), 15);
+        assert_eq!(refuse(&line, &take(channel)), 15);
+    }
+    accept(&mut line, &[feed(0, 2, 1), recover(2)]);
+    assert_eq!(line.nodes[2].status, Status::Up);
+    assert_eq!(refuse(&line, &recover(2)), 15);
+    assert_eq!(refuse(&ninth_replaying(), &recover(2)), 15);
+}
+
+#[test]
+fn crashed_neighbours() {
+    let mut line = line_of(5, &[(0, 1, 1), (1, 2, 1), (2, 3, 1), (3, 4, 1)]);
+    accept(&mut line, &[crash(2)]);
+    assert_eq!(refuse(&line, &crash(1)), 16);
+    assert_eq!(refuse(&line, &crash(3)), 16);
+    accept(&mut line, &[recover(2)]);
+    assert_eq!(refuse(&line, &crash(1)), 16);
+    assert_eq!(refuse(&line, &crash(3)), 16);
+    accept(&mut line, &[crash(2)]);
+    assert_eq!(refuse(&line, &crash(2)), 15);
+}
+
+#[test]
+fn records() {
+    let mut line = ninth_line();
+    assert_eq!(refuse(&line, &feed_bytes(0, UNSOUND)), 17);
+    assert_eq!(refuse(&line, &feed_bytes(0, NONZERO)), 17);
+    for piece in 0..64 {
+        accept(&mut line, &[feed(0, piece, 1)]);
+    }
+    assert_eq!(refuse(&line, &feed(0, 64, 1)), 21);
+    assert_eq!(refuse(&line, &feed_bytes(0, UNSOUND)), 17);
+}
+
+#[test]
+fn full_channel_and_full_log() {
+    let mut line = ninth_line();
+    for piece in 0..8 {
+        accept(&mut line, &[feed(0, piece, 1), send(0)]);
+    }
+    assert_eq!(refuse(&line, &send(0)), 18);
+    accept(&mut line, &[feed(0, 8, 1)]);
+    assert_eq!(refuse(&line, &send(0)), 19);
+    assert_eq!(refuse(&line, &take(1)), 18);
+    for piece in 9..64 {
+        accept(&mut line, &[feed(0, piece, 1), take(0), send(0)]);
+    }
+    while line.nodes[2].log.len() < Line::MOST_ENTRIES {
+        accept(&mut line, &[take(0)]);
+        let _ = step(&mut line, &send(0));
+    }
+    assert_eq!(refuse(&line, &take(0)), 18);
+    accept(&mut line, &[feed(1, 1, 1), send(1)]);
+    assert_eq!(refuse(&line, &take(1)), 21);
+}

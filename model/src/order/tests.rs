@@ -1,0 +1,75 @@
+use super::*;
+use crate::answer::{ACCEPTED, NO_REPLAY};
+use crate::line::practice::{any_plan, Practice};
+use crate::line::{damaged, step};
+use crate::random::Random;
+
+/// Passes a frame; tells the order of an accepted one.
+fn pass(line: &mut Line, order: &mut Order, frame: &[u8]) -> u32 {
+    let before = line.clone();
+    let answer = step(line, frame);
+    if answer == ACCEPTED {
+        order.follow(&before, frame, line);
+    }
+    answer
+}
+
+/// Recovers, sends and takes until nothing more is accepted.
+fn drain(line: &mut Line, order: &mut Order) {
+    loop {
+        let nodes = 0..line.nodes.len() as u8;
+        let channels = 0..line.queues.len() as u8;
+        let frames: Vec<Frame> = nodes
+            .map(|node| Frame::Recover { node })
+            .chain(channels.clone().map(|channel| Frame::Send { channel }))
+            .chain(channels.map(|channel| Frame::Take { channel }))
+            .collect();
+        let mut moved = false;
+        for frame in frames {
+            moved |= pass(line, order, &frame.write()) == ACCEPTED;
+        }
+        if !moved {
+            return;
+        }
+    }
+}
+
+#[test]
+fn order_of_received_records() {
+    let mut random = Random::new(11);
+    let mut quiet_ends = 0;
+    let mut ended_replays = 0;
+    let mut crashes_while_replaying = 0;
+    for _ in 0..600 {
+        let mut line = Line::of(any_plan(&mut random));
+        let mut order = Order::new(&line.plan);
+        let mut practice = Practice::new(&mut random);
+        for _ in 0..random.between(20, 250) {
+            let frame = practice.frame(&mut random, &line);
+            let before = line.clone();
+            let answer = pass(&mut line, &mut order, &frame);
+            assert_ne!(answer, NO_REPLAY, "no run of frames leads there");
+            let replaying = |line: &Line, node: usize| line.nodes[node].status == Status::Replaying;
+            for node in 0..line.nodes.len() {
+                if replaying(&before, node) && !replaying(&line, node) {
+                    match line.nodes[node].status {
+                        Status::Up => ended_replays += 1,
+                        _ => crashes_while_replaying += 1,
+                    }
+                }
+            }
+            if random.one_in(8) {
+                assert!(order.holds(&line), "{:?}", line.plan);
+            }
+        }
+        assert!(order.holds(&line), "{:?}", line.plan);
+        drain(&mut line, &mut order);
+        assert!(order.holds(&line), "{:?}", line.plan);
+        assert!(!damaged(&line));
+        quiet_ends += usize::from(is_quiet(&line));
+    }
+    println!("{quiet_ends} quiet, {ended_replays} ended, {crashes_while_replaying} crashed");
+    assert!(quiet_ends > 100, "{quiet_ends}");
+    assert!(ended_replays > 400, "{ended_replays}");
+    assert!(crashes_while_replaying > 100, "{crashes_while_replaying}");
+}
