@@ -10,9 +10,11 @@ fn main() {
     let package = env::var("CARGO_MANIFEST_DIR").expect("set by cargo");
     let libraries = Path::new(&package).join(given);
     println!("cargo:rerun-if-env-changed=CEMENTLEDGE_LIB");
-    println!(
-        "cargo:rerun-if-changed={}",
-        libraries.join("libplacing.a").display()
-    );
+    for library in ["libplacing.a", "libplan.a"] {
+        println!(
+            "cargo:rerun-if-changed={}",
+            libraries.join(library).display()
+        );
+    }
     println!("cargo:rustc-link-search=native={}", libraries.display());
 }

@@ -69,7 +69,7 @@ fn order_of_received_records() {
         quiet_ends += usize::from(is_quiet(&line));
     }
     println!("{quiet_ends} quiet, {ended_replays} ended, {crashes_while_replaying} crashed");
-    assert!(quiet_ends > 100, "{quiet_ends}");
-    assert!(ended_replays > 400, "{ended_replays}");
-    assert!(crashes_while_replaying > 100, "{crashes_while_replaying}");
+    assert!(quiet_ends > 200, "{quiet_ends}");
+    assert!(ended_replays > 200, "{ended_replays}");
+    assert!(crashes_while_replaying > 50, "{crashes_while_replaying}");
 }

@@ -49,12 +49,32 @@ fn give_message(line: &mut Line, channel: usize, time: u32, record: Record) {
     line.queues[channel].mark = time;
 }
 
+/// Node 2 with the time and targets that the children's logs tell, whether or
+/// not Recover is accepted.
+fn replaying_anyway(line: &Line) -> Line {
+    let told = restart(line, 2);
+    let mut replaying = line.clone();
+    let node = &mut replaying.nodes[2];
+    node.status = Status::Replaying;
+    node.clock.time = told.low;
+    node.targets = told.targets;
+    for channel in [2, 3] {
+        let child = line.plan.channels[channel].receiver;
+        replaying.queues[channel].mark = line.nodes[child].clock.taken(2);
+    }
+    replaying
+}
+
 #[test]
 fn targets_that_conflict() {
-    let one_time = ninth_down(&[(2, 0, 1), (2, 1, 1)], &[(1, 0, 1)]);
+    let sound = ninth_down(&[(2, 0, 1), (3, 1, 1)], &[]);
+    assert!(!damaged(&replaying_anyway(&sound)));
+    let one_time = ninth_down(&[(2, 0, 1), (2, 1, 1)], &[]);
     assert_eq!(refuse(&one_time, &recover(2)), 24);
+    assert!(damaged(&replaying_anyway(&one_time)));
     let one_input = ninth_down(&[(1, 0, 1), (2, 0, 1)], &[]);
     assert_eq!(refuse(&one_input, &recover(2)), 24);
+    assert!(damaged(&replaying_anyway(&one_input)));
     let one_input_at_low = ninth_down(&[(1, 0, 1), (2, 0, 2)], &[(1, 0, 2)]);
     // At or below low nothing conflicts; the row is complete at once: 24 still.
     assert_eq!(refuse(&one_input_at_low, &recover(2)), 24);
@@ -70,16 +90,7 @@ fn complete_at_once() {
     assert_eq!(told.restored[0].time, 5);
     assert_eq!(told.targets.len(), 1);
     assert_eq!(refuse(&line, &recover(2)), 24);
-    // So no undamaged node replays there.
-    let mut replaying = line.clone();
-    replaying.nodes[2].status = Status::Replaying;
-    replaying.nodes[2].clock.time = told.low;
-    replaying.nodes[2].targets = told.targets;
-    for channel in [2, 3] {
-        let child = line.plan.channels[channel].receiver;
-        replaying.queues[channel].mark = line.nodes[child].clock.taken(2);
-    }
-    assert!(damaged(&replaying));
+    assert!(damaged(&replaying_anyway(&line)));
 }
 
 #[test]
