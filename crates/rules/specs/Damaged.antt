@@ -1,4 +1,4 @@
--- What makes a line damaged (document 01, "Damaged"), each condition by itself. Unused bytes are the layout's matter.
+-- What makes a line damaged (document 01, "Damaged"), each condition by itself. What a line cannot spell is the layout's matter: unused bytes, and in the stored plan its version, its length and rule bytes that no rule has.
 use Prim.Native.Nat.{ℕ, zero, suc, _^_}
 use mathlib.Core.Bool.{Bool, true, false, not, _&&_, _||_}
 use mathlib.Core.List.{List, [], _∷_, _++_, map}

@@ -1,1 +1,3 @@
 pub mod Sheets
+pub mod DamagedLines
+pub mod ReplayRefusals

@@ -1,1 +1,1 @@
-// Sheets held to the definitions.
+// Sheets and lines held to the definitions.

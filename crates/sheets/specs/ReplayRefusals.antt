@@ -1,0 +1,166 @@
+-- Refusals 21 and 24 of a replay, on undamaged lines that no sheet leads to: each row has damaged before, the answer, damaged after, and node 2's status, time and logged times.
+use Prim.Native.Nat.{ℕ, zero, suc}
+use mathlib.Core.Path.{_≡_, refl}
+use mathlib.Core.Bool.{Bool, true, false}
+use mathlib.Core.List.{List, [], _∷_, _++_, map}
+use Rattle.plan.specs.declared.Record.{Record}
+use Rattle.plan.specs.declared.Rule.{Rule}
+use Rattle.plan.specs.declared.Rule.the-variants.{Keep, Relabel}
+use Rattle.plan.specs.declared.Channel.{Channel}
+use Rattle.plan.specs.Plan.{Plan}
+use Rattle.rules.specs.Lists.{upTo, joined}
+use Rattle.rules.specs.Line.{fed, made, Message, Entry, Held, Target, Status, up, down, replay, Node, Lane, Line, nodeAt, laneAt}
+use Rattle.rules.specs.Step.{step}
+use Rattle.rules.specs.Damaged.{damaged}
+
+abbrev channel : ℕ → ℕ → ℕ → Channel
+channel sender receiver mask = record { sender = sender; receiver = receiver; mask = mask; modulus = 1; remainder = 0 }
+
+-- 0 and 1 to 2; 2 to 3, 4, 5
+abbrev plan : Rule → Plan
+plan r = record { rules = Keep ∷ Keep ∷ r ∷ Keep ∷ Keep ∷ Keep ∷ []; channels = channel 0 2 65535 ∷ channel 1 2 65535 ∷ channel 2 3 2 ∷ channel 2 4 6 ∷ channel 2 5 4 ∷ [] }
+
+abbrev piece : ℕ → ℕ → Record
+piece k m = record { piece = k; material = m; mass = 0 }
+
+abbrev lane : ℕ → ℕ → List ℕ → List Message → Lane
+lane m t h q = record { mark = m; taken = t; heard = h; queue = q }
+
+abbrev upNode : ℕ → List Entry → Node
+upNode t es = record { status = up; crashed = false; time = t; log = es; held = []; targets = [] }
+
+abbrev downNode : Node
+downNode = record { status = down; crashed = true; time = 0; log = []; held = []; targets = [] }
+
+abbrev replays : ℕ → List Held → List Target → Node
+replays t hs ts = record { status = replay; crashed = true; time = t; log = []; held = hs; targets = ts }
+
+-- an entry of a child of 2
+abbrev entry : ℕ → ℕ → ℕ → ℕ → Entry
+entry t b a u = record { what = piece 1 1; time = t; origin = made 2 b; before = made a u }
+
+abbrev line : Rule → List Node → List Lane → Line
+line r ns ls = record { plan = plan r; steps = 500; nodes = ns; lanes = ls }
+
+-- sources that are up with nothing logged; node 2; its children
+abbrev around : Node → Node → Node → Node → List Node
+around b c d e = upNode 0 [] ∷ upNode 0 [] ∷ b ∷ c ∷ d ∷ e ∷ []
+
+abbrev frame : ℕ → ℕ → List ℕ
+frame k n = 0 ∷ 5 ∷ 1 ∷ k ∷ n ∷ []
+
+abbrev none : Lane
+none = lane 0 0 [] []
+
+-- one time two inputs; one input two times; complete at once; complete in one row only
+abbrev sameTime : Line
+sameTime = line Keep (around downNode (upNode 2 (entry 1 2 0 1 ∷ entry 2 2 0 2 ∷ [])) (upNode 0 []) (upNode 0 [])) (none ∷ none ∷ lane 0 2 (2 ∷ 0 ∷ []) [] ∷ lane 0 0 (0 ∷ 0 ∷ []) [] ∷ lane 0 0 (0 ∷ 0 ∷ []) [] ∷ [])
+
+abbrev sameInput : Line
+sameInput = line Keep (around downNode (upNode 2 (entry 1 1 0 1 ∷ entry 2 2 0 1 ∷ [])) (upNode 0 []) (upNode 0 [])) (none ∷ none ∷ lane 0 2 (1 ∷ 0 ∷ []) [] ∷ lane 0 0 (0 ∷ 0 ∷ []) [] ∷ lane 0 0 (0 ∷ 0 ∷ []) [] ∷ [])
+
+-- the same time of different parents is no conflict
+abbrev twoParents : Line
+twoParents = line Keep (around downNode (upNode 2 (entry 1 1 0 1 ∷ entry 2 2 1 1 ∷ [])) (upNode 0 []) (upNode 0 [])) (none ∷ none ∷ lane 0 2 (1 ∷ 1 ∷ []) [] ∷ lane 0 0 (0 ∷ 0 ∷ []) [] ∷ lane 0 0 (0 ∷ 0 ∷ []) [] ∷ [])
+
+abbrev atOnce : Line
+atOnce = line Keep (around downNode (upNode 1 (entry 1 2 0 3 ∷ [])) (upNode 1 (entry 1 1 0 5 ∷ [])) (upNode 0 [])) (none ∷ none ∷ lane 0 2 (3 ∷ 0 ∷ []) [] ∷ lane 0 1 (5 ∷ 0 ∷ []) [] ∷ lane 0 1 (0 ∷ 0 ∷ []) [] ∷ [])
+
+-- a child's entry above low and no target: up at low
+abbrev noTarget : Line
+noTarget = line Keep (around downNode (upNode 1 (entry 1 1 0 3 ∷ [])) (upNode 1 (entry 1 1 0 5 ∷ [])) (upNode 0 [])) (none ∷ none ∷ lane 0 7 (3 ∷ 0 ∷ []) [] ∷ lane 0 1 (5 ∷ 0 ∷ []) [] ∷ lane 0 2 (0 ∷ 0 ∷ []) [] ∷ [])
+
+abbrev goals : List Target
+goals = record { time = 2; parent = 0; parentTime = 1 } ∷ []
+
+-- node 2 replays for the target (2, 0, 1); what comes first on the channel from 0
+abbrev waits : Rule → List Held → Message → Line
+waits r hs m = line r (around (replays 0 hs goals) (upNode 1 (entry 1 2 0 1 ∷ [])) (upNode 0 []) (upNode 0 [])) (lane 9 0 [] (m ∷ []) ∷ none ∷ lane 2 2 (1 ∷ 0 ∷ []) [] ∷ lane 0 0 (0 ∷ 0 ∷ []) [] ∷ lane 0 0 (0 ∷ 0 ∷ []) [] ∷ [])
+
+abbrev message : ℕ → ℕ → Message
+message material t = record { what = piece 1 material; time = t; origin = fed }
+
+-- no placing: time 1 free before time 2 at column 1
+abbrev tight : Line
+tight = line Keep (around (replays 0 (record { what = piece 5 2; sender = 0; time = 1; before = fed } ∷ []) (record { time = 1; parent = 0; parentTime = 2 } ∷ [])) (upNode 1 (entry 1 1 0 2 ∷ [])) (upNode 0 []) (upNode 0 [])) (lane 9 1 [] (message 1 2 ∷ []) ∷ none ∷ lane 1 1 (2 ∷ 0 ∷ []) [] ∷ lane 0 0 (0 ∷ 0 ∷ []) [] ∷ lane 0 0 (0 ∷ 0 ∷ []) [] ∷ [])
+
+-- floors: a free record of material 2 is taken by 4 (entry 1) and 5 (entry 0), not by 3 (entry 3): columns 2 for it, 3 for the target
+abbrev floors : Line
+floors = line Keep (around (replays 0 (record { what = piece 5 2; sender = 0; time = 1; before = fed } ∷ []) (record { time = 1; parent = 1; parentTime = 1 } ∷ record { time = 3; parent = 0; parentTime = 2 } ∷ [])) (upNode 1 (entry 1 3 0 2 ∷ [])) (upNode 1 (record { what = piece 7 1; time = 1; origin = made 2 1; before = made 1 1 } ∷ [])) (upNode 0 [])) (lane 9 1 [] (message 1 2 ∷ []) ∷ lane 1 0 [] (message 1 1 ∷ []) ∷ lane 3 3 (2 ∷ 0 ∷ []) [] ∷ lane 1 1 (0 ∷ 1 ∷ []) [] ∷ lane 0 0 (0 ∷ 0 ∷ []) [] ∷ [])
+
+-- so many targets over children 3 and 4
+abbrev entriesFrom : ℕ → ℕ → ℕ → List Entry
+entriesFrom zero t b = []
+entriesFrom (suc n) t b = entry (suc t) b 0 b ∷ entriesFrom n (suc t) (suc b)
+
+abbrev many : ℕ → Line
+many n = line Keep (around downNode (upNode 40 (entriesFrom 40 0 1)) (upNode n (entriesFrom n 0 41)) (upNode 0 [])) (none ∷ none ∷ lane 0 100 (100 ∷ 0 ∷ []) [] ∷ lane 0 100 (100 ∷ 0 ∷ []) [] ∷ lane 0 0 (0 ∷ 0 ∷ []) [] ∷ [])
+
+-- over 64 and in conflict
+abbrev manyMixed : Line
+manyMixed = line Keep (around downNode (upNode 40 (entriesFrom 40 0 1)) (upNode 25 (entriesFrom 24 0 41 ++ entry 25 41 0 7 ∷ [])) (upNode 0 [])) (none ∷ none ∷ lane 0 100 (100 ∷ 0 ∷ []) [] ∷ lane 0 100 (100 ∷ 0 ∷ []) [] ∷ lane 0 0 (0 ∷ 0 ∷ []) [] ∷ [])
+
+-- node 2 holds 64 from node 1, and waits for time 70 from node 0 (and 66 from node 1)
+abbrev heldFrom : ℕ → ℕ → List Held
+heldFrom zero t = []
+heldFrom (suc n) t = record { what = piece 1 1; sender = 1; time = suc t; before = fed } ∷ heldFrom n (suc t)
+
+abbrev full : ℕ → Line
+full material = line Keep (around (replays 0 (heldFrom 64 0) (record { time = 9; parent = 0; parentTime = 70 } ∷ record { time = 10; parent = 1; parentTime = 66 } ∷ [])) (upNode 2 (entry 1 9 0 70 ∷ entry 2 10 1 66 ∷ [])) (upNode 0 []) (upNode 0 [])) (lane 70 0 [] (message material 4 ∷ []) ∷ lane 64 64 [] [] ∷ lane 10 10 (70 ∷ 66 ∷ []) [] ∷ lane 0 0 (0 ∷ 0 ∷ []) [] ∷ lane 0 0 (0 ∷ 0 ∷ []) [] ∷ [])
+
+-- an up router with a full log
+abbrev ownFrom : ℕ → ℕ → List Entry
+ownFrom zero t = []
+ownFrom (suc n) t = record { what = piece 1 1; time = suc t; origin = made 0 (suc t); before = fed } ∷ ownFrom n (suc t)
+
+abbrev fullLog : Line
+fullLog = line Keep (around (upNode 64 (ownFrom 64 0)) (upNode 0 []) (upNode 0 []) (upNode 0 [])) (lane 65 64 [] (message 3 65 ∷ []) ∷ none ∷ lane 0 0 (0 ∷ 0 ∷ []) [] ∷ lane 0 0 (0 ∷ 0 ∷ []) [] ∷ lane 0 0 (0 ∷ 0 ∷ []) [] ∷ [])
+
+abbrev bit : Bool → ℕ
+bit true = 1
+bit false = 0
+
+abbrev statusNumber : Status → ℕ
+statusNumber up = 0
+statusNumber down = 1
+statusNumber replay = 2
+
+unfoldable pub gives : Line → List ℕ → List ℕ
+unfolding step damaged
+gives l f =
+    let a = step l f in
+    bit (damaged l) ∷ a .number ∷ bit (damaged (a .line)) ∷ statusNumber (nodeAt (a .line) 2 .status) ∷ nodeAt (a .line) 2 .time ∷ map (λ (e : Entry). e .time) (nodeAt (a .line) 2 .log)
+
+recover-answers : map (λ (l : Line). gives l (frame 5 2)) (sameTime ∷ sameInput ∷ twoParents ∷ atOnce ∷ noTarget ∷ many 24 ∷ many 25 ∷ manyMixed ∷ [])
+    ≡ (0 ∷ 24 ∷ 0 ∷ 1 ∷ 0 ∷ []) ∷ (0 ∷ 24 ∷ 0 ∷ 1 ∷ 0 ∷ []) ∷ (0 ∷ 0 ∷ 0 ∷ 2 ∷ 0 ∷ []) ∷ (0 ∷ 24 ∷ 0 ∷ 1 ∷ 0 ∷ []) ∷ (0 ∷ 0 ∷ 0 ∷ 0 ∷ 1 ∷ []) ∷ (0 ∷ 0 ∷ 0 ∷ 2 ∷ 0 ∷ []) ∷ (0 ∷ 21 ∷ 0 ∷ 1 ∷ 0 ∷ []) ∷ (0 ∷ 21 ∷ 0 ∷ 1 ∷ 0 ∷ []) ∷ []
+unfolding gives
+recover-answers = refl
+
+-- time skipped; target dropped; rule keeps it from being dropped (relabel 3 to 1); no placing; held list full: 21; dropped needs no space; log full
+take-answers : map (λ (l : Line). gives l (frame 3 0)) (waits Keep [] (message 1 5) ∷ waits Keep [] (message 3 1) ∷ waits (Relabel 3 1) [] (message 3 1) ∷ waits (Relabel 1 1) [] (message 1 1) ∷ tight ∷ full 1 ∷ full 3 ∷ fullLog ∷ floors ∷ [])
+    ≡ (0 ∷ 24 ∷ 0 ∷ 2 ∷ 0 ∷ []) ∷ (0 ∷ 24 ∷ 0 ∷ 2 ∷ 0 ∷ []) ∷ (0 ∷ 0 ∷ 0 ∷ 0 ∷ 2 ∷ 2 ∷ []) ∷ (0 ∷ 0 ∷ 0 ∷ 0 ∷ 2 ∷ 2 ∷ []) ∷ (0 ∷ 24 ∷ 0 ∷ 2 ∷ 0 ∷ []) ∷ (0 ∷ 21 ∷ 0 ∷ 2 ∷ 0 ∷ []) ∷ (0 ∷ 0 ∷ 0 ∷ 2 ∷ 0 ∷ []) ∷ (0 ∷ 21 ∷ 0 ∷ 0 ∷ 64 ∷ upTo 1 64) ∷ (0 ∷ 0 ∷ 0 ∷ 2 ∷ 0 ∷ []) ∷ []
+unfolding gives
+take-answers = refl
+
+-- floors: the take from 0 and then the take from 1 ends the replay: columns 1 (target of 1), 2 (free), 3
+unfoldable pub floorsEnd : List ℕ
+unfolding step
+floorsEnd =
+    let a = step floors (frame 3 0) in
+    let b = step (a .line) (frame 3 1) in
+    b .number ∷ nodeAt (b .line) 2 .time ∷ joined (map (λ (e : Entry). e .time ∷ e .what .piece ∷ []) (nodeAt (b .line) 2 .log))
+
+floors-end : floorsEnd ≡ 0 ∷ 3 ∷ 1 ∷ 1 ∷ 2 ∷ 5 ∷ 3 ∷ 1 ∷ []
+unfolding floorsEnd
+floors-end = refl
+
+-- a crash of the replaying node
+unfoldable pub again : List ℕ
+unfolding step damaged
+again =
+    let a = step (full 1) (frame 4 2) in
+    a .number ∷ bit (damaged (a .line)) ∷ statusNumber (nodeAt (a .line) 2 .status) ∷ nodeAt (a .line) 2 .time ∷ laneAt (a .line) 0 .mark ∷ laneAt (a .line) 1 .taken ∷ laneAt (a .line) 2 .mark ∷ laneAt (a .line) 2 .taken ∷ laneAt (a .line) 2 .heard
+
+replaying-node-crashes : again ≡ 0 ∷ 0 ∷ 1 ∷ 0 ∷ 0 ∷ 0 ∷ 0 ∷ 10 ∷ 70 ∷ 66 ∷ []
+unfolding again
+replaying-node-crashes = refl
