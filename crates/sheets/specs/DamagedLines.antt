@@ -100,13 +100,14 @@ lines =
     ∷ lane 3 (moved 1 0) fallen
     ∷ lane 0 (moved 0 1) fallen
     ∷ lane 2 (moved 0 2) fallen
+    ∷ lane 0 (λ (s : Lane). record { mark = s .mark; taken = s .taken; heard = 0 ∷ s .heard; queue = s .queue }) begun
     ∷ record { plan = record { rules = begun .plan .rules; channels = map (λ (c : Channel). record { sender = c .sender; receiver = c .receiver; mask = c .mask; modulus = 0; remainder = 0 }) (begun .plan .channels) }; steps = begun .steps; nodes = begun .nodes; lanes = begun .lanes }
     ∷ []
 
-each-condition : map met lines ≡ [] ∷ [] ∷ [] ∷ [] ∷ (3 ∷ []) ∷ (5 ∷ []) ∷ (3 ∷ []) ∷ (6 ∷ []) ∷ (4 ∷ []) ∷ (7 ∷ []) ∷ (8 ∷ []) ∷ (9 ∷ []) ∷ (9 ∷ []) ∷ [] ∷ (9 ∷ []) ∷ (10 ∷ []) ∷ (11 ∷ []) ∷ (12 ∷ []) ∷ (12 ∷ []) ∷ (13 ∷ []) ∷ (13 ∷ []) ∷ (14 ∷ []) ∷ (14 ∷ []) ∷ (15 ∷ []) ∷ (15 ∷ []) ∷ (15 ∷ []) ∷ (15 ∷ []) ∷ [] ∷ (1 ∷ []) ∷ []
+each-condition : map met lines ≡ [] ∷ [] ∷ [] ∷ [] ∷ (3 ∷ []) ∷ (5 ∷ []) ∷ (3 ∷ []) ∷ (6 ∷ []) ∷ (4 ∷ []) ∷ (7 ∷ []) ∷ (8 ∷ []) ∷ (9 ∷ []) ∷ (9 ∷ []) ∷ [] ∷ (9 ∷ []) ∷ (10 ∷ []) ∷ (11 ∷ []) ∷ (12 ∷ []) ∷ (12 ∷ []) ∷ (13 ∷ []) ∷ (13 ∷ []) ∷ (14 ∷ []) ∷ (14 ∷ []) ∷ (15 ∷ []) ∷ (15 ∷ []) ∷ (15 ∷ []) ∷ (15 ∷ []) ∷ [] ∷ (2 ∷ []) ∷ (1 ∷ []) ∷ []
 unfolding lines met
 each-condition = refl
 
-any-of-them : map damaged lines ≡ false ∷ false ∷ false ∷ false ∷ true ∷ true ∷ true ∷ true ∷ true ∷ true ∷ true ∷ true ∷ true ∷ false ∷ true ∷ true ∷ true ∷ true ∷ true ∷ true ∷ true ∷ true ∷ true ∷ true ∷ true ∷ true ∷ true ∷ false ∷ true ∷ []
+any-of-them : map damaged lines ≡ false ∷ false ∷ false ∷ false ∷ true ∷ true ∷ true ∷ true ∷ true ∷ true ∷ true ∷ true ∷ true ∷ false ∷ true ∷ true ∷ true ∷ true ∷ true ∷ true ∷ true ∷ true ∷ true ∷ true ∷ true ∷ true ∷ true ∷ false ∷ true ∷ true ∷ []
 unfolding lines damaged
 any-of-them = refl
