@@ -54,14 +54,15 @@ abbrev pub addTarget : Target → List Target → List Target
 addTarget t [] = t ∷ []
 addTarget t (u ∷ us) = elim (targetBefore t u) [ true ↦ t ∷ u ∷ us | false ↦ elim (sameTarget t u) [ true ↦ u ∷ us | false ↦ u ∷ addTarget t us ] ]
 
-abbrev pub sortTargets : List Target → List Target
-sortTargets [] = []
-sortTargets (t ∷ ts) = addTarget t (sortTargets ts)
+-- Each of some targets added to those there are.
+abbrev pub sortTargets : List Target → List Target → List Target
+sortTargets sorted [] = sorted
+sortTargets sorted (t ∷ ts) = sortTargets (addTarget t sorted) ts
 
 -- "Targets are the distinct triples (B-time, A, A-time) with B-time above low, over all children."
 unfoldable pub targetsOf : Line → ℕ → List Target
 unfolding childTriples lowOf
-targetsOf l b = sortTargets (keep (λ (t : Target). ltb (lowOf l b) (t .time)) (childTriples l b))
+targetsOf l b = sortTargets [] (keep (λ (t : Target). ltb (lowOf l b) (t .time)) (childTriples l b))
 
 -- "targets give one time two inputs or one input two times"
 abbrev pub clash : Target → Target → Bool

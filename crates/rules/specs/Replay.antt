@@ -7,19 +7,20 @@ use lib.ListN.{length, getD}
 use lib.Dec.{leb, ltb, eqb}
 use Rattle.plan.specs.declared.Record.{Record}
 use Rattle.plan.specs.Channel.{takes}
-use Rattle.plan.specs.Plan.{Plan, channelAt, entering, leaving}
+use Rattle.plan.specs.Plan.{Plan, channelAt, entering, isNone}
+use Rattle.plan.specs.Mask.{taking}
 use Rattle.placing.specs.Item.{Item}
 use Rattle.placing.specs.Table.{tableFits, boundsFit, itemFits, fixedFits, comesAfter}
 use Rattle.placing.specs.Walk.{walked, begun, rowsOf, chosenRow, lastColumn}
 use Rattle.placing.specs.Answer.{unplaceable, chosenColumns}
-use Rattle.rules.specs.Lists.{keep, allOf, anyOf, greatestOf}
+use Rattle.rules.specs.Lists.{keep, allOf, anyOf, joined, greatestOf}
 use Rattle.rules.specs.Line.{Origin, made, Entry, Held, Target, Status, up, Node, Line, nodeAt, laneAt, withNode}
 use Rattle.rules.specs.Recover.{highOf, rowsComplete}
 
 -- Whether some channel that leaves node n takes a record (else it is dropped in a replay).
 unfoldable pub passedOn : Plan → ℕ → Record → Bool
-unfolding leaving takes
-passedOn p n r = anyOf (λ (c : ℕ). takes (channelAt p c) r) (leaving p n)
+unfolding taking takes
+passedOn p n r = not (isNone (taking p n r))
 
 -- One more held record.
 unfoldable pub holding : Held → Node → Node
@@ -31,8 +32,8 @@ fixedAt ts h = greatestOf (map (λ (t : Target). t .time) (keep (λ (t : Target)
 
 -- "A free record's floor is the greatest entry for B among children whose belts take it."
 unfoldable pub floorOf : Line → ℕ → Record → ℕ
-unfolding leaving takes
-floorOf l b r = greatestOf (map (λ (c : ℕ). laneAt l c .taken) (keep (λ (c : ℕ). takes (channelAt (l .plan) c) r) (leaving (l .plan) b)))
+unfolding taking takes
+floorOf l b r = greatestOf (map (λ (c : ℕ). laneAt l c .taken) (taking (l .plan) b r))
 
 -- A held record as an item of the replay table: "fixed at its B-time with floor 0", or free above its floor.
 unfoldable pub itemOf : Line → ℕ → ℕ → Held → Item
@@ -45,10 +46,6 @@ itemOf l b row h =
 abbrev pub heldByRow : List Held → Line → List ℕ → List (List Held)
 heldByRow hs l [] = []
 heldByRow hs l (c ∷ cs) = keep (λ (h : Held). eqb (h .sender) (channelAt (l .plan) c .sender)) hs ∷ heldByRow hs l cs
-
-abbrev pub inTableOrder : List (List Held) → List Held
-inTableOrder [] = []
-inTableOrder (hs ∷ rest) = hs ++ inTableOrder rest
 
 abbrev pub itemsByRow : Line → ℕ → ℕ → List (List Held) → List Item
 itemsByRow l b row [] = []
@@ -91,7 +88,7 @@ replayEnd b l =
       | false ↦ none
       | true ↦ elim (placing (nodeAt l b .time) (highOf l b) (itemsByRow l b 0 rows)) [
         | none ↦ none
-        | some columns ↦ some (withNode b (nodePlaced l b (inTableOrder rows) columns) l)
+        | some columns ↦ some (withNode b (nodePlaced l b (joined rows) columns) l)
       ]
     ]
 
