@@ -24,6 +24,7 @@ timeOf m = m .time
 pub record Ordered (p : Plan) : Type 0 where
   pub forward : (b : ℕ) → b < channelCount p → channelAt p b .sender < channelAt p b .receiver
   pub inside : (b : ℕ) → b < channelCount p → channelAt p b .receiver < nodeCount p
+  pub alone : (b c : ℕ) → b < channelCount p → c < channelCount p → channelAt p b .sender ≡ channelAt p c .sender → channelAt p b .receiver ≡ channelAt p c .receiver → b ≡ c
 
 abbrev pub isUp : Line → ℕ → Type 0
 isUp l n = nodeAt l n .status ≡ up

@@ -9,16 +9,13 @@ use native.Mathlib.Nat.{add-zero}
 use lib.ListN.{length, getD}
 use Rattle.plan.specs.Plan.{numbersFrom, keepIf}
 use Rattle.rules.specs.Line.{Node, Lane, Line, nodeAt, laneAt, withLane, withLanes}
+use Rattle.rules.proofs.Members.{In, here, there}
 use Rattle.rules.proofs.LineLaws.{lane-there, lane-else, node-kept, plan-same, lanes-long}
 
 -- Numbers that rise from above a bound: each stands once.
 pub data Rising : ℕ → List ℕ → Type 0 where
   none : {k : ℕ} → Rising k []
   more : {k b : ℕ} {bs : List ℕ} → k ≤ b → Rising (suc b) bs → Rising k (b ∷ bs)
-
-pub data In (b : ℕ) : List ℕ → Type 0 where
-  here : {bs : List ℕ} → In b (b ∷ bs)
-  there : {c : ℕ} {bs : List ℕ} → In b bs → In b (c ∷ bs)
 
 in-above : {k b : ℕ} {bs : List ℕ} → Rising k bs → In b bs → k ≤ b
 in-above (more l r) here = l

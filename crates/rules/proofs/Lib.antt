@@ -1,8 +1,10 @@
 pub mod ListLaws
 pub mod Rising
+pub mod Members
 pub mod PlainRun
 pub mod Witness
 pub mod Ghost
+pub mod Passing
 pub mod LineLaws
 pub mod Inv
 pub mod Conclusion
