@@ -1,5 +1,5 @@
 -- What holds of a line, its ghost history and what was done, after every list of frames.
-use Prim.Native.Nat.{ℕ, zero, suc, _+_, _<_, _≤_}
+use Prim.Native.Nat.{ℕ, zero, suc, max, _+_, _<_, _≤_}
 use mathlib.Core.Path.{_≡_, refl, sym, ap, subst, _∙_}
 use mathlib.Core.Logic.{_≢_}
 use mathlib.Core.Bool.{Bool, true, false}
@@ -7,15 +7,20 @@ use mathlib.Core.List.{List, [], _∷_, _++_, map}
 use lib.ListN.{length, getD}
 use lib.Dec.{eqb}
 use Rattle.plan.specs.declared.Record.{Record}
-use Rattle.plan.specs.Plan.{Plan, channelAt, nodeCount, channelCount, isSource, isSink}
-use Rattle.rules.specs.Lists.{anyOf}
-use Rattle.rules.specs.Line.{Message, Entry, Status, up, down, replay, Node, Lane, Line, nodeAt, laneAt}
+use Rattle.plan.specs.Plan.{Plan, ruleAt, channelAt, nodeCount, channelCount, isSource, isSink}
+use Rattle.plan.specs.Rule.{applied}
+use Rattle.plan.specs.Channel.{takes}
+use Rattle.rules.specs.Lists.{keep, anyOf, greatestOf}
+use Rattle.rules.specs.Line.{Message, Entry, Held, Target, Status, up, down, replay, Node, Lane, Line, nodeAt, laneAt}
+use Rattle.rules.specs.Recover.{rowGoal}
 use Rattle.rules.specs.Plain.{Act, Receipt}
 use Rattle.rules.specs.Claim.{receivedBy}
 use Rattle.rules.proofs.Rising.{until, past, Rises, Within}
 use Rattle.rules.proofs.PlainRun.{Input, receiptsIn}
 use Rattle.rules.proofs.Witness.{fedOnto, noInputs, Feeds, Taken}
-use Rattle.rules.proofs.Ghost.{Event, Ghost, entryOf, inputOf, put, got, logPut}
+use Rattle.rules.proofs.Ghost.{Event, tookAt, Ghost, entryOf, inputOf, put, got, logPut}
+use Rattle.rules.proofs.Members.{In}
+use Rattle.rules.proofs.Passing.{passing, goesOn, heldOf}
 
 abbrev pub timeOf : Message → ℕ
 timeOf m = m .time
@@ -68,3 +73,56 @@ pub record Channels (l : Line) (g : Ghost) (cut : ℕ → ℕ) (b : ℕ) : Type 
 pub record Shape (l : Line) : Type 0 where
   pub nodes-long : length (l .nodes) ≡ nodeCount (l .plan)
   pub lanes-long : length (l .lanes) ≡ channelCount (l .plan)
+
+-- A node's events: the times of what it passes on rise, and while it is up none is past its own time.
+pub record Events (l : Line) (g : Ghost) (n : ℕ) : Type 0 where
+  pub rise : Rises timeOf 0 (passing (l .plan) n (g n))
+  pub within : isUp l n → Within timeOf (nodeAt l n .time) (passing (l .plan) n (g n))
+
+-- A channel's ends: the entry of a receiver that never crashed is the last time that it got; a sender that is not up has nothing on the channel, and in a replay its mark is the receiver's entry.
+pub record Ends (l : Line) (g : Ghost) (b : ℕ) : Type 0 where
+  pub exact : nodeAt l (channelAt (l .plan) b .receiver) .crashed ≡ false → laneAt l b .taken ≡ greatestOf (map timeOf (got (l .plan) g b))
+  pub stopped : nodeAt l (channelAt (l .plan) b .sender) .status ≢ up → laneAt l b .queue ≡ []
+  pub waiting : nodeAt l (channelAt (l .plan) b .sender) .status ≡ replay → laneAt l b .mark ≡ laneAt l b .taken
+
+-- A target, as an event of the node gives it.
+abbrev pub targetFrom : Plan → ℕ → Message → ℕ → Target
+targetFrom p b m t = record { time = t; parent = channelAt p b .sender; parentTime = m .time }
+
+-- Channel c leaves node n, or enters it.
+abbrev pub Leaves : Plan → ℕ → ℕ → Type 0
+Leaves p n c = (c < channelCount p) × (channelAt p c .sender ≡ n)
+
+abbrev pub Enters : Plan → ℕ → ℕ → Type 0
+Enters p n b = (b < channelCount p) × (channelAt p b .receiver ≡ n)
+
+-- What node n made of message m at time t has reached a child: a channel takes it, and the child's entry is not below t.
+abbrev pub Reached : Line → ℕ → Message → ℕ → Type 0
+Reached l n m t = (c : ℕ) × Leaves (l .plan) n c × (takes (channelAt (l .plan) c) (applied (ruleAt (l .plan) n) (m .what)) ≡ true) × (t ≤ laneAt l c .taken)
+
+-- A row of a replay, by what was put on its channel: the entry lies between the restored one and the row's goal, and what is held is what goes on of the messages between the restored entry and the entry.
+pub record Row (l : Line) (g : Ghost) (cut base : ℕ) (n b : ℕ) : Type 0 where
+  pub base-got : base ≤ cut
+  pub base-taken : base ≤ laneAt l b .taken
+  pub to-goal : laneAt l b .taken ≤ max base (rowGoal (nodeAt l n .targets) (channelAt (l .plan) b .sender))
+  pub held : keep (λ (h : Held). eqb (h .sender) (channelAt (l .plan) b .sender)) (nodeAt l n .held) ≡ map (heldOf (l .plan) n b) (keep (goesOn (l .plan) n) (past timeOf base (until timeOf (laneAt l b .taken) (put (l .plan) g b))))
+
+-- A node that replays: its time is low; its targets are the events past low that have reached a child; up to low, what it passed on came of messages up to the restored entries.
+pub record Replays (l : Line) (g : Ghost) (cut base : ℕ → ℕ) (n : ℕ) : Type 0 where
+  pub log-none : nodeAt l n .log ≡ []
+  pub low : (c : ℕ) → Leaves (l .plan) n c → nodeAt l n .time ≤ laneAt l c .taken
+  pub target-from : (u : Target) → In u (nodeAt l n .targets) → (b : ℕ) × (m : Message) × (t : ℕ) × In (tookAt b m t) (g n) × (u ≡ targetFrom (l .plan) b m t) × (nodeAt l n .time < t) × Reached l n m t
+  pub target-of : (b : ℕ) (m : Message) (t : ℕ) → In (tookAt b m t) (g n) → nodeAt l n .time < t → Reached l n m t → In (targetFrom (l .plan) b m t) (nodeAt l n .targets)
+  pub base-cuts : (b : ℕ) (m : Message) (t : ℕ) → In (tookAt b m t) (g n) → goesOn (l .plan) n m ≡ true → (m .time ≤ base b → t ≤ nodeAt l n .time) × (t ≤ nodeAt l n .time → m .time ≤ base b)
+  pub rows : (b : ℕ) → Enters (l .plan) n b → Row l g (cut b) (base b) n b
+
+-- All of it.
+pub record Inv (l : Line) (g : Ghost) (cut base : ℕ → ℕ) (fed : List Act) (receipts : List Receipt) (crashes : List ℕ) : Type 0 where
+  pub shape : Shape l
+  pub ordered : Ordered (l .plan)
+  pub marks : Marks l crashes
+  pub nodes : Nodes l g fed receipts
+  pub events : (n : ℕ) → Events l g n
+  pub channels : (b : ℕ) → b < channelCount (l .plan) → Channels l g cut b
+  pub ends : (b : ℕ) → b < channelCount (l .plan) → Ends l g b
+  pub replays : (n : ℕ) → nodeAt l n .status ≡ replay → Replays l g cut base n

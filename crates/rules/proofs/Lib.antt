@@ -9,7 +9,10 @@ pub mod LineLaws
 pub mod Inv
 pub mod Conclusion
 pub mod Grow
+pub mod Stays
+pub mod InvLaws
 pub mod Logging
+pub mod LoggingMore
 pub mod FeedKeeps
 pub mod SendKeeps
 pub mod TakeKeeps

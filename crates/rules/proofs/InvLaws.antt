@@ -1,0 +1,63 @@
+-- What follows from the invariant at once: who is up, and where a node's events came from.
+use Prim.Native.Nat.{ℕ, zero, suc, _+_, _<_, _≤_}
+use mathlib.Core.Path.{_≡_, refl, sym, ap, subst, _∙_}
+use mathlib.Core.Logic.{_≢_, _⊎_, inl, inr}
+use mathlib.Core.Bool.{Bool, true, false, true≢false}
+use mathlib.Core.List.{List, [], _∷_, _++_, map}
+use native.Mathlib.Omega.{arith}
+use lib.ListN.{length}
+use Rattle.plan.specs.declared.Record.{Record}
+use Rattle.plan.specs.Plan.{Plan, channelAt, channelCount, isSource, isSink}
+use Rattle.rules.specs.Line.{Message, Status, up, down, replay, Line, nodeAt, laneAt}
+use Rattle.rules.specs.Plain.{Act, Receipt}
+use Rattle.rules.proofs.Members.{In, in-none, in-first}
+use Rattle.rules.proofs.PlainRun.{Input, fedIn, tookIn}
+use Rattle.rules.proofs.Witness.{Taken, none, more}
+use Rattle.rules.proofs.Ghost.{Event, fedAt, tookAt, Ghost, inputOf}
+use Rattle.rules.proofs.Inv.{isUp, Enters, Marks, Nodes, Channels, Inv}
+
+pub up-not-replay : up ≡ replay → ⊥
+up-not-replay e = let z : _≡_ {A = ℕ} 0 1 = cc in omega arith
+
+pub up-not-down : up ≡ down → ⊥
+up-not-down e = let z : _≡_ {A = ℕ} 0 1 = cc in omega arith
+
+pub replay-not-down : replay ≡ down → ⊥
+replay-not-down e = let z : _≡_ {A = ℕ} 0 1 = cc in omega arith
+
+-- A mark is there or not.
+pub if-marked : {A : Type 0} (b : Bool) → (b ≡ true → A) → (b ≡ false → A) → A
+if-marked true f g = f refl
+if-marked false f g = g refl
+
+-- Inputs taken by node n came from channels that enter it.
+fed-first : {p : Plan} {n : ℕ} {r : Record} {is : List Input} → Taken p n (fedIn r ∷ is) → ⊥
+fed-first = elim [ ]
+
+took-first : {p : Plan} {n b : ℕ} {r : Record} {is : List Input} → Taken p n (tookIn b r ∷ is) → Enters p n b × Taken p n is
+took-first (more h q s r) = ((h, q), r)
+
+same-channel : {b c : ℕ} {m x : Message} {t u : ℕ} → tookAt b m t ≡ tookAt c x u → c ≡ b
+same-channel e = cc
+
+not-fed : {b : ℕ} {m : Message} {t : ℕ} {r : Record} {u : ℕ} → tookAt b m t ≡ fedAt r u → ⊥
+not-fed e = let z : _≡_ {A = ℕ} 0 1 = cc in omega arith
+
+pub took-enters : {p : Plan} {n : ℕ} (es : List Event) (b : ℕ) (m : Message) (t : ℕ) → Taken p n (map inputOf es) → In (tookAt b m t) es → Enters p n b
+took-enters [] b m t r i = absurd (in-none i)
+took-enters (fedAt x u ∷ es) b m t r i = absurd (fed-first r)
+took-enters {p} {n} (tookAt c x u ∷ es) b m t r i = elim (in-first i) [ inl q ↦ subst (Enters p n) (same-channel q) (took-first r .0) | inr j ↦ took-enters es b m t (took-first r .1) j ]
+
+module _ {l : Line} {crashes : List ℕ} (marks : Marks l crashes) (n : ℕ) where
+  pub marked-unless-up : nodeAt l n .status ≢ up → nodeAt l n .crashed ≡ true
+  marked-unless-up d = if-marked (nodeAt l n .crashed) (λ e. e) (λ e. absurd (d (marks .stopped n e)))
+
+  pub replay-marked : nodeAt l n .status ≡ replay → nodeAt l n .crashed ≡ true
+  replay-marked e = marked-unless-up (λ z. up-not-replay (sym z ∙ e))
+
+  pub source-up : isSource (l .plan) n ≡ true → isUp l n
+  source-up e = marks .stopped n (if-marked (nodeAt l n .crashed) (λ z. absurd (true≢false (sym e ∙ marks .between n z .0))) (λ z. z))
+
+-- A marked node's events were taken.
+pub marked-took : {l : Line} {g : Ghost} {fed : List Act} {receipts : List Receipt} {crashes : List ℕ} → Marks l crashes → Nodes l g fed receipts → (n : ℕ) → nodeAt l n .crashed ≡ true → Taken (l .plan) n (map inputOf (g n))
+marked-took marks nodes n e = nodes .others n (marks .between n e .0) .1
