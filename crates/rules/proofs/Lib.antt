@@ -17,3 +17,6 @@ pub mod FeedKeeps
 pub mod SendKeeps
 pub mod TakeKeeps
 pub mod LanesLaws
+pub mod FeedInv
+pub mod SendInv
+pub mod TakeInv

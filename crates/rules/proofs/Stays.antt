@@ -112,3 +112,15 @@ marks-stay l steps nodes lanes crashes status mark m =
       between = λ n h. m .between n (sym (mark n) ∙ h);
       stopped = λ n h. status n ∙ m .stopped n (sym (mark n) ∙ h);
     }
+
+-- A replay whose rows' cuts are not lowered.
+pub replays-cut : (l : Line) (g : Ghost) (cut cut′ base : ℕ → ℕ) (n : ℕ) → ((b : ℕ) → Enters (l .plan) n b → cut b ≤ cut′ b) → Replays l g cut base n → Replays l g cut′ base n
+replays-cut l g cut cut′ base n cuts r =
+    record {
+      log-none = r .log-none;
+      low = r .low;
+      target-from = r .target-from;
+      target-of = r .target-of;
+      base-cuts = r .base-cuts;
+      rows = λ b h. (let row = r .rows b h in record { base-got = omega (arith, row .base-got, cuts b h); base-taken = row .base-taken; to-goal = row .to-goal; held = row .held });
+    }

@@ -1,0 +1,72 @@
+-- Send keeps the invariant.
+use Prim.Native.Nat.{ℕ, suc, _<_, _≤_}
+use mathlib.Core.Path.{_≡_, refl, sym, ap, subst, _∙_}
+use mathlib.Core.Logic.{_≢_}
+use mathlib.Core.Bool.{Bool, true, false}
+use mathlib.Core.List.{List, [], _∷_, _++_, map}
+use mathlib.Core.Option.{Option, none, some}
+use native.Mathlib.Omega.{arith}
+use native.Mathlib.Decide.{ℕ-discrete}
+use lib.ListN.{length, length-set}
+use Rattle.plan.specs.Plan.{Plan, channelAt, channelCount}
+use Rattle.rules.specs.Line.{Message, Entry, Status, up, down, replay, Node, Lane, Line, nodeAt, laneAt, withLane}
+use Rattle.rules.specs.Clock.{sentOn}
+use Rattle.rules.specs.Step.{sendable}
+use Rattle.rules.specs.Plain.{Act, Receipt}
+use Rattle.rules.proofs.LineLaws.{lane-there, lane-else}
+use Rattle.rules.proofs.Ghost.{Ghost}
+use Rattle.rules.proofs.Inv.{Inv, Shape, isUp, Ends, Enters, Leaves, Nodes}
+use Rattle.rules.proofs.InvLaws.{replay-marked, marked-took, took-enters, up-not-replay}
+use Rattle.rules.proofs.Stays.{marks-stay, events-stay, ends-stay, replays-stay, row-stays}
+use Rattle.rules.proofs.SendKeeps.{send-channels}
+
+-- The nodes' part knows nothing of lanes.
+pub nodes-beside : {l : Line} {g : Ghost} {fed : List Act} {receipts : List Receipt} (b : ℕ) (x : Lane) → Nodes l g fed receipts → Nodes (withLane b x l) g fed receipts
+unfolding withLane
+nodes-beside b x n = record { only-feeds = n .only-feeds; sources = n .sources; others = n .others; beyond = n .beyond; received = n .received; logged = n .logged }
+
+pub shape-beside : {l : Line} (b : ℕ) (x : Lane) → Shape l → Shape (withLane b x l)
+unfolding withLane
+shape-beside {l} b x s = record { nodes-long = s .nodes-long; lanes-long = length-set (l .lanes) b x ∙ s .lanes-long }
+
+module _ (l : Line) (g : Ghost) (cut base : ℕ → ℕ) (fed : List Act) (receipts : List Receipt) (crashes : List ℕ) (inv : Inv l g cut base fed receipts crashes) where
+  pub send-inv : (b : ℕ) (e : Entry) → b < channelCount (l .plan) → sendable l b ≡ some e → isUp l (channelAt (l .plan) b .sender) → nodeAt l (channelAt (l .plan) b .receiver) .status ≢ down
+      → Inv (withLane b (sentOn e (laneAt l b)) l) g cut base fed receipts crashes
+  unfolding withLane sentOn
+  send-inv b e here first sender receiver =
+      record {
+        shape = shape-beside b x (inv .shape);
+        ordered = inv .ordered;
+        marks = marks-stay l (l .steps) (l .nodes) lanes crashes (λ n. refl) (λ n. refl) (inv .marks);
+        nodes = nodes-beside b x (inv .nodes);
+        events = λ n. events-stay l (l .steps) (l .nodes) lanes g g n refl refl (inv .events n);
+        channels = λ c h. send-channels l (inv .shape) g cut b here e first sender receiver c (inv .channels c h);
+        ends = λ c h. elim (ℕ-discrete c b) [
+          | yes q ↦ subst (Ends (withLane b x l) g) (sym q)
+              (record {
+                exact = λ m. ap (λ (y : Lane). y .taken) now ∙ inv .ends b here .exact m;
+                stopped = λ d. absurd (d sender);
+                waiting = λ d. absurd (up-not-replay (sym sender ∙ d));
+              })
+          | no d ↦ ends-stay l (l .steps) (l .nodes) lanes g g c refl refl (lane-else b x l c d) refl refl (inv .ends c h)
+        ];
+        replays = λ n q.
+            replays-stay l (l .steps) (l .nodes) lanes g g n refl refl (λ c h. taken-same c) cut cut base base
+            (λ c h row. row-stays l (l .steps) (l .nodes) lanes g g (cut c) (cut c) (base c) (base c) n c refl (taken-same c) (omega arith) refl refl row) (λ c h. refl)
+            (λ c y t i. took-enters (g n) c y t (marked-took (inv .marks) (inv .nodes) n (replay-marked (inv .marks) n q)) i .1) (inv .replays n q);
+      }
+    where
+      x : Lane
+      x = sentOn e (laneAt l b)
+
+      lanes : List Lane
+      lanes = withLane b (sentOn e (laneAt l b)) l .lanes
+
+      now : laneAt (withLane b (sentOn e (laneAt l b)) l) b ≡ sentOn e (laneAt l b)
+      now = lane-there b (sentOn e (laneAt l b)) l (rw (inv .shape .lanes-long) here)
+
+      taken-same : (c : ℕ) → laneAt (withLane b (sentOn e (laneAt l b)) l) c .taken ≡ laneAt l c .taken
+      taken-same c = elim (ℕ-discrete c b) [
+        | yes q ↦ ap (λ (z : ℕ). laneAt (withLane b (sentOn e (laneAt l b)) l) z .taken) q ∙ ap (λ (y : Lane). y .taken) now ∙ ap (λ (z : ℕ). laneAt l z .taken) (sym q)
+        | no d ↦ ap (λ (y : Lane). y .taken) (lane-else b (sentOn e (laneAt l b)) l c d)
+      ]
