@@ -17,6 +17,7 @@ pub mod FeedKeeps
 pub mod SendKeeps
 pub mod TakeKeeps
 pub mod LanesLaws
+pub mod Swept
 pub mod FeedInv
 pub mod SendInv
 pub mod TakeInv
