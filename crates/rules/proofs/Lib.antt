@@ -14,3 +14,5 @@ pub mod FeedKeeps
 pub mod SendKeeps
 pub mod TakeKeeps
 pub mod LanesLaws
+pub mod TableRows
+pub mod PlacedEvents
