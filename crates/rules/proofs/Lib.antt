@@ -21,3 +21,5 @@ pub mod Swept
 pub mod FeedInv
 pub mod SendInv
 pub mod TakeInv
+pub mod TableRows
+pub mod PlacedEvents
