@@ -76,7 +76,7 @@ logPut l b = keep (takesMessage (l .plan) b) (map messageOf (nodeAt l (channelAt
 abbrev pub historyOf : Ghost → History
 historyOf g = λ n. map inputOf (g n)
 
-map-map : {A B C : Type 0} (f : A → B) (g : B → C) (xs : List A) → map g (map f xs) ≡ map (λ (x : A). g (f x)) xs
+pub map-map : {A B C : Type 0} (f : A → B) (g : B → C) (xs : List A) → map g (map f xs) ≡ map (λ (x : A). g (f x)) xs
 map-map f g [] = refl
 map-map f g (x ∷ xs) = ap (λ (ys : List _). g (f x) ∷ ys) (map-map f g xs)
 
@@ -84,7 +84,7 @@ keep-one-map : {A B : Type 0} (f : A → B) (b : Bool) (x : A) (xs : List A) (ys
 keep-one-map f true x xs ys e = ap (λ (zs : List _). f x ∷ zs) e
 keep-one-map f false x xs ys e = e
 
-keep-map : {A B : Type 0} (f : A → B) (t : B → Bool) (xs : List A) → keep t (map f xs) ≡ map f (keep (λ (x : A). t (f x)) xs)
+pub keep-map : {A B : Type 0} (f : A → B) (t : B → Bool) (xs : List A) → keep t (map f xs) ≡ map f (keep (λ (x : A). t (f x)) xs)
 keep-map f t [] = refl
 keep-map f t (x ∷ xs) = keep-one-map f (t (f x)) x (keep (λ (y : _). t (f y)) xs) (keep t (map f xs)) (keep-map f t xs)
 

@@ -21,5 +21,6 @@ pub mod Swept
 pub mod FeedInv
 pub mod SendInv
 pub mod TakeInv
+pub mod CrashInv
 pub mod TableRows
 pub mod PlacedEvents
