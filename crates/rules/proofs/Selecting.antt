@@ -40,6 +40,10 @@ module _ {A : Type 0} (time : A → ℕ) where
   rises-rest true x xs (more h r) = rises-lower time (omega arith) r
   rises-rest false x xs r = r
 
+  pub rises-after : {a : ℕ} (t : Bool) (x : A) (xs : List A) → t ≡ true → Rises time a (keepOne t x xs) → Rises time (time x) xs
+  rises-after true x xs e (more h r) = r
+  rises-after false x xs e r = absurd (true≢false (sym e))
+
   module _ (f : A → Bool) where
     pub rises-keep : {a : ℕ} {xs : List A} → Rises time a xs → Rises time a (keep f xs)
     rises-keep none = none
