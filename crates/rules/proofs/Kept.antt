@@ -1,22 +1,20 @@
 -- The events of a history that a recovered node keeps: for each channel the messages up to a time.
-use Prim.Native.Nat.{ℕ, zero, suc, _<_, _≤_}
-use mathlib.Core.Path.{_≡_, refl, sym, ap, subst, _∙_}
-use mathlib.Core.Logic.{_⊎_, inl, inr, _≢_}
+use Prim.Native.Nat.{ℕ, _<_, _≤_}
+use mathlib.Core.Path.{_≡_, refl, sym, ap, _∙_}
+use mathlib.Core.Logic.{_⊎_, inl, inr}
 use mathlib.Core.Bool.{Bool, true, false}
 use mathlib.Core.List.{List, [], _∷_, _++_, map}
 use native.Mathlib.Omega.{arith}
 use native.Mathlib.Decide.{ℕ-discrete, decLe}
-use lib.ListN.{length}
 use lib.Dec.{leb, eqb}
 use borrow.Author.Tests.{eq-eqb, ne-eqb, le-leb, lt-leb}
 use Rattle.plan.specs.Plan.{Plan, channelAt, channelCount}
 use Rattle.rules.specs.Lists.{keep, keepOne}
 use Rattle.rules.specs.Line.{Message}
 use Rattle.rules.specs.Replay.{passedOn}
-use Rattle.rules.proofs.Rising.{until, Rises, more}
+use Rattle.rules.proofs.Rising.{until, Rises}
 use Rattle.rules.proofs.Members.{In, here, there, in-keep, in-map, in-right, rises-in}
 use Rattle.rules.proofs.Selecting.{rises-rest, rises-after}
-use Rattle.rules.proofs.PlainRun.{Input}
 use Rattle.rules.proofs.Witness.{Taken, none, more}
 use Rattle.rules.proofs.Ghost.{Event, fedAt, tookAt, inputOf, sentOf, gotOne, gotOf}
 use Rattle.rules.proofs.Passing.{passing, goesOn}

@@ -16,3 +16,5 @@ pub mod TakeKeeps
 pub mod LanesLaws
 pub mod Selecting
 pub mod Kept
+pub mod Rebuilt
+pub mod Leaving
