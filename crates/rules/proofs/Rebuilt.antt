@@ -1,20 +1,21 @@
 -- The history of a node whose replay has ended: the events that it kept, then those placed, each with the dropped messages of its channel before it.
 use Prim.Native.Nat.{ℕ, _<_, _≤_}
-use mathlib.Core.Path.{_≡_, refl, sym, ap, _∙_}
-use mathlib.Core.Logic.{_≢_}
+use mathlib.Core.Path.{_≡_, refl, sym, ap, subst, _∙_}
+use mathlib.Core.Logic.{_⊎_, inl, inr, _≢_}
 use mathlib.Core.Bool.{Bool, true, false}
 use mathlib.Core.List.{List, [], _∷_, _++_, map, append-assoc}
 use native.Mathlib.Omega.{arith}
-use native.Mathlib.Decide.{ℕ-discrete}
-use borrow.Author.Tests.{eq-eqb, ne-eqb}
+use native.Mathlib.Decide.{ℕ-discrete, decLe}
+use lib.Dec.{ltb}
+use borrow.Author.Tests.{eq-eqb, ne-eqb, lt-ltb}
 use Rattle.basics.specs.Update.{changed, changed-there, changed-else}
 use Rattle.plan.specs.Plan.{Plan, channelAt, channelCount}
 use Rattle.rules.specs.Lists.{keep, keepOne}
 use Rattle.rules.specs.Line.{Message}
 use Rattle.rules.specs.Replay.{passedOn}
 use Rattle.rules.proofs.ListLaws.{keep-append, map-append}
-use Rattle.rules.proofs.Rising.{until, past, Rises, cut-at, rises-past, past-past}
-use Rattle.rules.proofs.Members.{In}
+use Rattle.rules.proofs.Rising.{until, past, Rises, Within, cut-at, rises-past, past-past, past-none, within-higher}
+use Rattle.rules.proofs.Members.{In, in-none, in-keep}
 use Rattle.rules.proofs.Selecting.{first-above, first-until, first-past}
 use Rattle.rules.proofs.Witness.{Taken, none, more}
 use Rattle.rules.proofs.Ghost.{Event, fedAt, tookAt, inputOf, sentOf, gotOne, gotOf}
@@ -36,11 +37,11 @@ emit row last (fedAt r t ∷ fs) = emit row last fs
 emit row last (tookAt b m t ∷ fs) = tookAll b t (until timeOf (m .time) (past timeOf (last b) (row b))) ++ emit row (changed last b (m .time)) fs
 
 -- Joined histories.
-got-of-append : (b : ℕ) (es fs : List Event) → gotOf b (es ++ fs) ≡ gotOf b es ++ gotOf b fs
+pub got-of-append : (b : ℕ) (es fs : List Event) → gotOf b (es ++ fs) ≡ gotOf b es ++ gotOf b fs
 got-of-append b [] fs = refl
 got-of-append b (e ∷ es) fs = ap (λ (ms : List Message). gotOne b e ++ ms) (got-of-append b es fs) ∙ sym (append-assoc (gotOne b e) (gotOf b es) (gotOf b fs))
 
-passing-append : (p : Plan) (n : ℕ) (es fs : List Event) → passing p n (es ++ fs) ≡ passing p n es ++ passing p n fs
+pub passing-append : (p : Plan) (n : ℕ) (es fs : List Event) → passing p n (es ++ fs) ≡ passing p n es ++ passing p n fs
 passing-append p n es fs =
     let goes : Message → Bool = λ m. passedOn p n (m .what) in
     ap (keep goes) (map-append (sentOf p n) es fs) ∙ keep-append goes (map (sentOf p n) es) (map (sentOf p n) fs)
@@ -122,6 +123,16 @@ module _ (p : Plan) (n : ℕ) (row : ℕ → List Message) (b : ℕ) (rises : Ri
       got-of-append b (tookAll c t later) (emit row next fs)
       ∙ ap (λ (ms : List Message). gotOf b (tookAll c t later) ++ ms) (emit-got next fs (held-next last c m t fs held) (λ k l. whole k (omega arith)))
       ∙ brings last c m t fs held
+
+-- Nothing lies behind the last held one: nothing is past the base, or the row's last message is passed on.
+pub ends-held : (p : Plan) (n base : ℕ) (ms : List Message) → (past timeOf base ms ≡ []) ⊎ ((m : Message) × In m ms × (goesOn p n m ≡ true) × Within timeOf (m .time) ms)
+    → (k : ℕ) → base ≤ k → keep (goesOn p n) (past timeOf k ms) ≡ [] → past timeOf k ms ≡ []
+ends-held p n base ms (inl e) k l none-held = sym (past-past timeOf base k l ms) ∙ ap (past timeOf k) e
+ends-held p n base ms (inr (m, i, d, w)) k l none-held =
+    elim (decLe (m .time) k) [
+      | yes h ↦ past-none timeOf (within-higher timeOf h w)
+      | no h ↦ absurd (in-none (subst (λ (ks : List Message). In m ks) none-held (in-keep (goesOn p n) (in-keep (λ (x : Message). ltb k (x .time)) i (lt-ltb k (m .time) (omega arith))) d)))
+    ]
 
 module _ (p : Plan) (n : ℕ) (row : ℕ → List Message) where
   pub emit-taken : (last : ℕ → ℕ) (fs : List Event) → Taken p n (map inputOf fs) → Taken p n (map inputOf (emit row last fs))
