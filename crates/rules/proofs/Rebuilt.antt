@@ -23,6 +23,7 @@ use Rattle.rules.proofs.Passing.{passing, goesOn}
 use Rattle.rules.proofs.Inv.{timeOf}
 use Rattle.rules.proofs.Kept.{kept, kept-got, kept-taken, Cuts, kept-passing, taken-took, taken-append}
 
+-- Channel b of the plan enters node n.
 abbrev pub Enters : Plan → ℕ → ℕ → Type 0
 Enters p n b = (b < channelCount p) × (channelAt p b .receiver ≡ n)
 
@@ -30,7 +31,7 @@ Enters p n b = (b < channelCount p) × (channelAt p b .receiver ≡ n)
 abbrev pub tookAll : ℕ → ℕ → List Message → List Event
 tookAll b t ms = map (λ (m : Message). tookAt b m t) ms
 
--- For each placed event what its channel's row has past the last one and up to it. The messages that are not passed on have no time of their own.
+-- For each placed event what its channel's row has past the last one and up to it; those that are not passed on are given the event's time.
 abbrev pub emit : (ℕ → List Message) → (ℕ → ℕ) → List Event → List Event
 emit row last [] = []
 emit row last (fedAt r t ∷ fs) = emit row last fs
@@ -117,11 +118,11 @@ module _ (p : Plan) (n : ℕ) (row : ℕ → List Message) (b : ℕ) (rises : Ri
   emit-got last [] held whole = sym (whole (last b) (omega arith) (sym held))
   emit-got last (fedAt r t ∷ fs) held whole = emit-got last fs held whole
   emit-got last (tookAt c m t ∷ fs) held whole =
-      let later : List Message = until timeOf (m .time) (past timeOf (last c) (row c)) in
+      let new : List Message = until timeOf (m .time) (past timeOf (last c) (row c)) in
       let next : ℕ → ℕ = changed last c (m .time) in
       let wider = last-rises last c m t fs held in
-      got-of-append b (tookAll c t later) (emit row next fs)
-      ∙ ap (λ (ms : List Message). gotOf b (tookAll c t later) ++ ms) (emit-got next fs (held-next last c m t fs held) (λ k l. whole k (omega arith)))
+      got-of-append b (tookAll c t new) (emit row next fs)
+      ∙ ap (λ (ms : List Message). gotOf b (tookAll c t new) ++ ms) (emit-got next fs (held-next last c m t fs held) (λ k l. whole k (omega arith)))
       ∙ brings last c m t fs held
 
 -- Nothing lies behind the last held one: nothing is past the base, or the row's last message is passed on.
