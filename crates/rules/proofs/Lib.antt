@@ -24,3 +24,7 @@ pub mod TakeInv
 pub mod CrashInv
 pub mod TableRows
 pub mod PlacedEvents
+pub mod Selecting
+pub mod Kept
+pub mod Rebuilt
+pub mod Leaving
