@@ -14,3 +14,4 @@ pub mod FeedKeeps
 pub mod SendKeeps
 pub mod TakeKeeps
 pub mod LanesLaws
+pub mod Joins
