@@ -15,3 +15,4 @@ pub mod SendKeeps
 pub mod TakeKeeps
 pub mod LanesLaws
 pub mod Joins
+pub mod Carried
