@@ -63,10 +63,10 @@ pub record TookFrom (p : Plan) (n : ℕ) (e : Event) : Type 0 where
   pub message : Message
   pub time : ℕ
   pub is : e ≡ tookAt channel message time
-  pub there : channel < channelCount p
+  pub on-plan : channel < channelCount p
   pub enters : channelAt p channel .receiver ≡ n
 
 pub taken-event : (p : Plan) (n : ℕ) (es : List Event) {e : Event} → Taken p n (map inputOf es) → In e es → TookFrom p n e
 taken-event p n [] k i = absurd (in-none i)
-taken-event p n (tookAt b m t ∷ es) (more h q s k) here = record { channel = b; message = m; time = t; is = refl; there = h; enters = q }
+taken-event p n (tookAt b m t ∷ es) (more h q s k) here = record { channel = b; message = m; time = t; is = refl; on-plan = h; enters = q }
 taken-event p n (tookAt b m t ∷ es) (more h q s k) (there i) = taken-event p n es k i

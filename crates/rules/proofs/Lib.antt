@@ -16,3 +16,4 @@ pub mod TakeKeeps
 pub mod LanesLaws
 pub mod Joins
 pub mod Carried
+pub mod Targets
