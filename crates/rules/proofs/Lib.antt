@@ -17,3 +17,4 @@ pub mod LanesLaws
 pub mod Joins
 pub mod Carried
 pub mod Targets
+pub mod Children
