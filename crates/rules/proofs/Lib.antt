@@ -18,3 +18,4 @@ pub mod Joins
 pub mod Carried
 pub mod Targets
 pub mod Children
+pub mod PlanOrder
