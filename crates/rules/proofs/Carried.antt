@@ -1,16 +1,16 @@
 -- Which events stand behind the messages put on a channel and got from it.
 use Prim.Native.Nat.{ℕ, _<_}
-use mathlib.Core.Path.{_≡_, refl, sym, ap, subst, _∙_}
-use mathlib.Core.Logic.{_⊎_, inl, inr}
+use mathlib.Core.Path.{_≡_, refl, sym, subst}
+use mathlib.Core.Logic.{inl, inr}
 use mathlib.Core.Bool.{Bool, true, false}
-use mathlib.Core.List.{List, [], _∷_, _++_, map}
+use mathlib.Core.List.{List, [], _∷_, map}
 use lib.Dec.{eqb}
 use borrow.Author.Tests.{eq-eqb, eqb-true}
 use Rattle.plan.specs.Plan.{Plan, channelAt, channelCount}
-use Rattle.rules.specs.Lists.{keep, keepOne}
+use Rattle.rules.specs.Lists.{keepOne}
 use Rattle.rules.specs.Line.{Message}
-use Rattle.rules.proofs.Members.{In, here, there, in-none, in-first, in-keep, keep-in, in-map, map-in, in-left, in-right, append-in}
-use Rattle.rules.proofs.Witness.{Taken, none, more}
+use Rattle.rules.proofs.Members.{In, here, there, in-none, in-first, in-keep, keep-in, in-map, map-in, in-right, append-in}
+use Rattle.rules.proofs.Witness.{Taken, more}
 use Rattle.rules.proofs.Ghost.{Event, fedAt, tookAt, Ghost, inputOf, sentOf, takesMessage, put, gotOne, gotOf, got}
 
 -- Put on a channel: the messages of its sender's events that it takes.

@@ -2,8 +2,8 @@
 use Prim.Native.Nat.{ℕ, _<_, _≤_}
 use mathlib.Core.Path.{_≡_, refl, sym, ap, subst, _∙_}
 use mathlib.Core.Logic.{_⊎_, inl, inr}
-use mathlib.Core.Bool.{Bool, true, false, _&&_}
-use mathlib.Core.List.{List, [], _∷_, map}
+use mathlib.Core.Bool.{Bool, true, _&&_}
+use mathlib.Core.List.{List, [], map}
 use native.Mathlib.Omega.{arith}
 use native.Mathlib.Decide.{decLe}
 use lib.Dec.{leb, eqb}
@@ -13,7 +13,7 @@ use Rattle.plan.specs.Rule.{applied}
 use Rattle.plan.specs.Channel.{takes}
 use Rattle.plan.specs.Plan.{Plan, ruleAt, channelAt, channelCount}
 use Rattle.rules.specs.Lists.{keep, greatestOf}
-use Rattle.rules.specs.Line.{Origin, made, Message, Entry, Target, Line, nodeAt, laneAt}
+use Rattle.rules.specs.Line.{made, Message, Entry, Target, Line, nodeAt, laneAt}
 use Rattle.rules.specs.Recover.{lowOf, childTriples, restored, targetsOf}
 use Rattle.rules.specs.Replay.{passedOn}
 use Rattle.rules.proofs.Rising.{until}
@@ -45,7 +45,7 @@ pub record Child (l : Line) (g : Ghost) (c : ℕ) : Type 0 where
   pub exact : laneAt l c .taken ≡ greatestOf (map timeOf (got (l .plan) g c))
 
 -- An event of node n that has reached a child, by the message that the child got.
-record SentBy (l : Line) (g : Ghost) (n c : ℕ) (x : Message) : Type 0 where
+record SentBy (l : Line) (g : Ghost) (n : ℕ) (x : Message) : Type 0 where
   pub channel : ℕ
   pub message : Message
   pub time : ℕ
@@ -59,7 +59,7 @@ made-parts e = (cc, cc)
 module _ (l : Line) (g : Ghost) (n : ℕ) (ordered : Ordered (l .plan)) (own : Taken (l .plan) n (map inputOf (g n)))
     (children : (c : ℕ) → c < channelCount (l .plan) → channelAt (l .plan) c .sender ≡ n → Child l g c) where
   -- What a child got from node n is what has reached it.
-  sent-by : (c : ℕ) → c < channelCount (l .plan) → channelAt (l .plan) c .sender ≡ n → (x : Message) → In x (got (l .plan) g c) → SentBy l g n c x
+  sent-by : (c : ℕ) → c < channelCount (l .plan) → channelAt (l .plan) c .sender ≡ n → (x : Message) → In x (got (l .plan) g c) → SentBy l g n x
   sent-by c h s x i =
       let (j, upto) = keep-in (λ (y : Message). leb (y .time) (laneAt l c .taken)) (put (l .plan) g c) (subst (λ (xs : List Message). In x xs) (children c h s .got-is) i) in
       let (e, k, made-of, taken) = put-in (l .plan) g c x j in
@@ -112,8 +112,7 @@ module _ (l : Line) (g : Ghost) (n : ℕ) (ordered : Ordered (l .plan)) (own : T
       let at = triples-at-in l n u i in
       let (x, j, time, before) = named-got (at .channel) (at .on-plan) (at .leaves) (at .entry) (u .time) (at .is-logged) (at .origin-is) in
       let by = sent-by (at .channel) (at .on-plan) (at .leaves) x j in
-      let (parent, parentTime) = made-parts (sym (at .before-is) ∙ before ∙ ap (λ (y : Message). y .origin) (by .is)) in
-      (
+      let (parent, parentTime) = made-parts (sym (at .before-is) ∙ before ∙ ap (λ (y : Message). y .origin) (by .is)) in (
         by .channel,
         by .message,
         by .time,

@@ -1,7 +1,7 @@
 -- Which channels leave or enter a node, and which of the leaving ones take a record.
-use Prim.Native.Nat.{ℕ, zero, suc, _+_, _<_}
-use mathlib.Core.Path.{_≡_, refl, sym, ap, subst, _∙_}
-use mathlib.Core.Logic.{_⊎_, inl, inr}
+use Prim.Native.Nat.{ℕ, suc, _+_, _<_}
+use mathlib.Core.Path.{_≡_, refl, sym, subst}
+use mathlib.Core.Logic.{inl, inr}
 use mathlib.Core.Bool.{Bool, true, false, not, _&&_, true≢false}
 use mathlib.Core.List.{List, [], _∷_}
 use native.Mathlib.Omega.{arith}
@@ -16,7 +16,7 @@ use Rattle.plan.specs.Channel.{takes}
 use Rattle.plan.specs.Plan.{Plan, channelAt, channelCount, noChannel, isNone, entering, leaving, numbersFrom, keepIf}
 use Rattle.plan.specs.Mask.{taking}
 use Rattle.rules.specs.Replay.{passedOn}
-use Rattle.rules.proofs.Members.{In, here, there, in-none, in-first}
+use Rattle.rules.proofs.Members.{In, here, in-none, in-first}
 use Rattle.rules.proofs.LanesLaws.{numbers-in}
 
 -- A number among those of the things that pass a test is the number of such a thing.

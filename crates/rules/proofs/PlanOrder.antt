@@ -1,5 +1,5 @@
 -- The channels of an accepted plan go forward, stay inside the plan and join a pair of nodes once.
-use Prim.Native.Nat.{ℕ, zero, suc, _<_, _≤_}
+use Prim.Native.Nat.{ℕ, zero, suc, _<_}
 use mathlib.Core.Path.{_≡_, refl, sym, ap, _∙_}
 use mathlib.Core.Logic.{_⊎_, inl, inr}
 use mathlib.Core.Bool.{Bool, true, false, _&&_, _||_}
@@ -12,7 +12,7 @@ use borrow.Author.Tests.{ltb-true, eqb-true}
 use Rattle.basics.specs.Bools.{both-true, and-left}
 use Rattle.plan.specs.declared.Channel.{Channel}
 use Rattle.plan.specs.Channel.{channelFits, channelAfter}
-use Rattle.plan.specs.Plan.{Plan, planOf, planNodes, nodeCount, channelCount, channelAt, noChannel}
+use Rattle.plan.specs.Plan.{Plan, planOf, nodeCount, channelCount, channelAt, noChannel}
 use Rattle.plan.specs.Check.{channelsFit, planRefusal}
 use Rattle.plan.proofs.CheckLaws.{accepted}
 use Rattle.plan.proofs.PlanLaws.{node-count}

@@ -1,5 +1,5 @@
 -- What Recover reads off the children: low and high, the triples of their logs, and the targets among these.
-use Prim.Native.Nat.{ℕ, min, max, _<_, _≤_}
+use Prim.Native.Nat.{ℕ, _<_, _≤_}
 use mathlib.Core.Path.{_≡_, refl, sym, ap, subst, _∙_}
 use mathlib.Core.Logic.{_⊎_, inl, inr}
 use mathlib.Core.Bool.{Bool, true, false, cond, _&&_}
@@ -11,8 +11,9 @@ use Rattle.basics.specs.Bools.{both-true}
 use Rattle.plan.specs.Plan.{Plan, channelAt, channelCount, leaving}
 use Rattle.rules.specs.Lists.{keep, joined, greatestOf, leastOf}
 use Rattle.rules.specs.Line.{Origin, fed, made, Entry, Target, Line, nodeAt, laneAt}
-use Rattle.rules.specs.Recover.{childTimes, lowOf, highOf, triple, triples, childTriples, sameTarget, targetBefore, addTarget, sortTargets, targetsOf}
+use Rattle.rules.specs.Recover.{childTimes, lowOf, highOf, triple, triples, childTriples, sameTarget, targetBefore, addTarget, sortTargets, targetsOf, restored}
 use Rattle.rules.proofs.Members.{In, here, there, in-none, in-first, in-keep, keep-in, in-map, map-in, in-left, in-right, append-in, in-joined, joined-in, in-greatest}
+use Rattle.rules.proofs.ListLaws.{nil-right}
 use Rattle.rules.proofs.Joins.{in-leaving, leaving-in}
 
 -- The least of some numbers is none above any, and none above the greatest.
@@ -170,3 +171,47 @@ module _ (l : Line) (n : ℕ) (u : Target) where
   pub targets-of : In u (childTriples l n) → lowOf l n < u .time → In u (targetsOf l n)
   unfolding targetsOf
   targets-of i h = in-sort (keep (λ (t : Target). ltb (lowOf l n) (t .time)) (childTriples l n)) [] (inl (in-keep (λ (t : Target). ltb (lowOf l n) (t .time)) i (lt-ltb (lowOf l n) (u .time) h)))
+
+-- A log with one more entry that is not made from node n.
+pub triples-snoc : (n : ℕ) (log : List Entry) (e : Entry) → triple n (e .origin) (e .before) ≡ [] → triples n (log ++ e ∷ []) ≡ triples n log
+triples-snoc n [] e q = nil-right (triple n (e .origin) (e .before)) ∙ q
+triples-snoc n (d ∷ log) e q = ap (λ (ts : List Target). triple n (d .origin) (d .before) ++ ts) (triples-snoc n log e q)
+
+map-same : {A B : Type 0} (f g : A → B) (xs : List A) → ((x : A) → In x xs → f x ≡ g x) → map f xs ≡ map g xs
+map-same f g [] h = refl
+map-same f g (x ∷ xs) h = ap (λ (y : _). y ∷ map f xs) (h x here) ∙ ap (λ (ys : List _). g x ∷ ys) (map-same f g xs (λ y i. h y (there i)))
+
+-- Another line with the same children's entries, and one with the same triples in the children's logs.
+module _ (l k : Line) (n : ℕ) (plans : k .plan ≡ l .plan) where
+  module _ (entries : (c : ℕ) → c < channelCount (l .plan) → channelAt (l .plan) c .sender ≡ n → laneAt k c .taken ≡ laneAt l c .taken) where
+    pub times-same : childTimes k n ≡ childTimes l n
+    unfolding childTimes
+    times-same =
+        ap (λ (p : Plan). map (λ (c : ℕ). laneAt k c .taken) (leaving p n)) plans
+        ∙ map-same (λ (c : ℕ). laneAt k c .taken) (λ (c : ℕ). laneAt l c .taken) (leaving (l .plan) n) (λ c i. let (h, e) = leaving-in (l .plan) n c i in entries c h e)
+
+    pub low-same : lowOf k n ≡ lowOf l n
+    unfolding lowOf
+    low-same = ap leastOf times-same
+
+    pub high-same : highOf k n ≡ highOf l n
+    unfolding highOf
+    high-same = ap greatestOf times-same
+
+  module _ (logs : (c : ℕ) → c < channelCount (l .plan) → channelAt (l .plan) c .sender ≡ n → triples n (nodeAt k (channelAt (l .plan) c .receiver) .log) ≡ triples n (nodeAt l (channelAt (l .plan) c .receiver) .log)) where
+    pub triples-same : childTriples k n ≡ childTriples l n
+    unfolding childTriples
+    triples-same =
+        ap joined
+        (ap (λ (p : Plan). map (λ (c : ℕ). triples n (nodeAt k (channelAt p c .receiver) .log)) (leaving p n)) plans
+        ∙ map-same (λ (c : ℕ). triples n (nodeAt k (channelAt (l .plan) c .receiver) .log)) (λ (c : ℕ). triples n (nodeAt l (channelAt (l .plan) c .receiver) .log)) (leaving (l .plan) n) (λ c i. let (h, e) = leaving-in (l .plan) n c i in logs c h e))
+
+-- Low and the triples decide the targets and the restored entries.
+module _ (l k : Line) (n : ℕ) (lows : lowOf k n ≡ lowOf l n) (found : childTriples k n ≡ childTriples l n) where
+  pub targets-same : targetsOf k n ≡ targetsOf l n
+  unfolding targetsOf
+  targets-same = λ i. sortTargets [] (keep (λ (t : Target). ltb (lows i) (t .time)) (found i))
+
+  pub restored-same : (a : ℕ) → restored k n a ≡ restored l n a
+  unfolding restored
+  restored-same a = λ i. greatestOf (map (λ (t : Target). t .parentTime) (keep (λ (t : Target). eqb (t .parent) a && leb (t .time) (lows i)) (found i)))
