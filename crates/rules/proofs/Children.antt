@@ -56,6 +56,12 @@ record SentBy (l : Line) (g : Ghost) (n : ℕ) (x : Message) : Type 0 where
 made-parts : {a b s t : ℕ} → made a s ≡ made b t → (a ≡ b) × (s ≡ t)
 made-parts e = (cc, cc)
 
+-- The triple that names the event.
+named-by : (l : Line) (g : Ghost) (n : ℕ) (u : Target) (x : Message) → x .time ≡ u .time → made (u .parent) (u .parentTime) ≡ x .origin → (by : SentBy l g n x) → u ≡ targetFrom (l .plan) (by .channel) (by .message) (by .time)
+named-by l g n u x time before by =
+    let (parent, parentTime) = made-parts (before ∙ ap (λ (y : Message). y .origin) (by .is)) in
+    λ k. record { time = (sym time ∙ ap timeOf (by .is)) k; parent = parent k; parentTime = parentTime k }
+
 module _ (l : Line) (g : Ghost) (n : ℕ) (ordered : Ordered (l .plan)) (own : Taken (l .plan) n (map inputOf (g n)))
     (children : (c : ℕ) → c < channelCount (l .plan) → channelAt (l .plan) c .sender ≡ n → Child l g c) where
   -- What a child got from node n is what has reached it.
@@ -112,14 +118,7 @@ module _ (l : Line) (g : Ghost) (n : ℕ) (ordered : Ordered (l .plan)) (own : T
       let at = triples-at-in l n u i in
       let (x, j, time, before) = named-got (at .channel) (at .on-plan) (at .leaves) (at .entry) (u .time) (at .is-logged) (at .origin-is) in
       let by = sent-by (at .channel) (at .on-plan) (at .leaves) x j in
-      let (parent, parentTime) = made-parts (sym (at .before-is) ∙ before ∙ ap (λ (y : Message). y .origin) (by .is)) in (
-        by .channel,
-        by .message,
-        by .time,
-        by .event,
-        λ k. record { time = (sym time ∙ ap timeOf (by .is)) k; parent = parent k; parentTime = parentTime k },
-        by .reached,
-      )
+      (by .channel, by .message, by .time, by .event, named-by l g n u x time (sym (at .before-is) ∙ before) by, by .reached)
 
   pub triples-of : (b : ℕ) (m : Message) (t : ℕ) → In (tookAt b m t) (g n) → Reached l n m t → In (targetFrom (l .plan) b m t) (childTriples l n)
   triples-of b m t i r =
