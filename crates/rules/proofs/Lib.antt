@@ -28,3 +28,8 @@ pub mod Selecting
 pub mod Kept
 pub mod Rebuilt
 pub mod Leaving
+pub mod Joins
+pub mod Carried
+pub mod Targets
+pub mod Children
+pub mod PlanOrder
