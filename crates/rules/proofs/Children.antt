@@ -20,22 +20,10 @@ use Rattle.rules.proofs.Rising.{until}
 use Rattle.rules.proofs.Members.{In, in-none, in-keep, keep-in, in-map, map-in, in-greatest, greatest-in}
 use Rattle.rules.proofs.Witness.{Taken}
 use Rattle.rules.proofs.Ghost.{Event, tookAt, Ghost, inputOf, entryOf, sentOf, takesMessage, put, got}
-use Rattle.rules.proofs.Inv.{timeOf, Ordered}
+use Rattle.rules.proofs.Inv.{timeOf, Ordered, targetFrom, Reached}
 use Rattle.rules.proofs.Joins.{passed-takes, takes-passed}
 use Rattle.rules.proofs.Carried.{in-put, put-in, in-got, got-in, taken-event, took-enters}
 use Rattle.rules.proofs.Targets.{in-triples-at, triples-at-in, low-below, targets-of}
-
--- A node's event as a child's log names it.
-abbrev pub targetFrom : Plan → ℕ → Message → ℕ → Target
-targetFrom p b m t = record { time = t; parent = channelAt p b .sender; parentTime = m .time }
-
--- What node n made of a message at a time has reached a child: some leaving channel takes it, and the child's entry is not below the time.
-pub record Reached (l : Line) (n : ℕ) (m : Message) (t : ℕ) : Type 0 where
-  pub channel : ℕ
-  pub on-plan : channel < channelCount (l .plan)
-  pub leaves : channelAt (l .plan) channel .sender ≡ n
-  pub takes-it : takes (channelAt (l .plan) channel) (applied (ruleAt (l .plan) n) (m .what)) ≡ true
-  pub in-time : t ≤ laneAt l channel .taken
 
 -- The child at channel c's end: it took all its events and logged them, and its entry is the greatest time that it got.
 pub record Child (l : Line) (g : Ghost) (c : ℕ) : Type 0 where

@@ -96,9 +96,13 @@ Leaves p n c = (c < channelCount p) × (channelAt p c .sender ≡ n)
 abbrev pub Enters : Plan → ℕ → ℕ → Type 0
 Enters p n b = (b < channelCount p) × (channelAt p b .receiver ≡ n)
 
--- What node n made of message m at time t has reached a child: a channel takes it, and the child's entry is not below t.
-abbrev pub Reached : Line → ℕ → Message → ℕ → Type 0
-Reached l n m t = (c : ℕ) × Leaves (l .plan) n c × (takes (channelAt (l .plan) c) (applied (ruleAt (l .plan) n) (m .what)) ≡ true) × (t ≤ laneAt l c .taken)
+-- What node n made of message m at time t has reached a child: some leaving channel takes it, and the child's entry is not below t.
+pub record Reached (l : Line) (n : ℕ) (m : Message) (t : ℕ) : Type 0 where
+  pub channel : ℕ
+  pub on-plan : channel < channelCount (l .plan)
+  pub leaves : channelAt (l .plan) channel .sender ≡ n
+  pub takes-it : takes (channelAt (l .plan) channel) (applied (ruleAt (l .plan) n) (m .what)) ≡ true
+  pub in-time : t ≤ laneAt l channel .taken
 
 -- A row of a replay, by what was put on its channel: the entry lies between the restored one and the row's goal, and what is held is what goes on of the messages between the restored entry and the entry.
 pub record Row (l : Line) (g : Ghost) (cut base : ℕ) (n b : ℕ) : Type 0 where

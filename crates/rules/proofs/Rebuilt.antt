@@ -20,12 +20,8 @@ use Rattle.rules.proofs.Selecting.{first-above, first-until, first-past
 use Rattle.rules.proofs.Witness.{Taken, none, more}
 use Rattle.rules.proofs.Ghost.{Event, fedAt, tookAt, inputOf, sentOf, gotOne, gotOf}
 use Rattle.rules.proofs.Passing.{passing, goesOn}
-use Rattle.rules.proofs.Inv.{timeOf}
+use Rattle.rules.proofs.Inv.{timeOf, Enters}
 use Rattle.rules.proofs.Kept.{kept, kept-got, kept-taken, Cuts, kept-passing, taken-took, taken-append}
-
--- Channel b of the plan enters node n.
-abbrev pub Enters : Plan → ℕ → ℕ → Type 0
-Enters p n b = (b < channelCount p) × (channelAt p b .receiver ≡ n)
 
 -- Messages of channel b taken at one time.
 abbrev pub tookAll : ℕ → ℕ → List Message → List Event

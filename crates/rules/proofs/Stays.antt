@@ -62,10 +62,10 @@ module _ (l : Line) (steps : ℕ) (nodes : List Node) (lanes : List Lane) (g g�
 
     module _ (leaving : (c : ℕ) → Leaves (l .plan) n c → laneAt k c .taken ≡ laneAt l c .taken) where
       reached-back : (m : Message) (t : ℕ) → Reached k n m t → Reached l n m t
-      reached-back m t (c, h, e, u) = (c, h, e, omega (arith, leaving c h))
+      reached-back m t r = record { channel = r .channel; on-plan = r .on-plan; leaves = r .leaves; takes-it = r .takes-it; in-time = omega (arith, r .in-time, leaving (r .channel) (r .on-plan, r .leaves)) }
 
       reached-on : (m : Message) (t : ℕ) → Reached l n m t → Reached k n m t
-      reached-on m t (c, h, e, u) = (c, h, e, omega (arith, leaving c h))
+      reached-on m t r = record { channel = r .channel; on-plan = r .on-plan; leaves = r .leaves; takes-it = r .takes-it; in-time = omega (arith, r .in-time, leaving (r .channel) (r .on-plan, r .leaves)) }
 
       pub replays-stay : (cut cut′ base base′ : ℕ → ℕ) → ((b : ℕ) → Enters (l .plan) n b → Row l g (cut b) (base b) n b → Row k g′ (cut′ b) (base′ b) n b) → ((b : ℕ) → channelAt (l .plan) b .receiver ≡ n → base′ b ≡ base b)
           → ((b : ℕ) (m : Message) (t : ℕ) → In (tookAt b m t) (g n) → channelAt (l .plan) b .receiver ≡ n) → Replays l g cut base n → Replays k g′ cut′ base′ n
