@@ -11,12 +11,13 @@ use lib.Dec.{eqb, ltb}
 use borrow.Author.Tests.{eq-eqb, ne-eqb}
 use Rattle.plan.specs.Plan.{Plan, channelAt, nodeCount, channelCount, isSource}
 use Rattle.basics.specs.Update.{changed, changed-there, changed-else}
-use Rattle.rules.specs.Lists.{keep}
+use Rattle.rules.specs.Lists.{keep, greatestOf}
 use Rattle.rules.specs.Line.{Message, Entry, Status, up, down, replay, Node, Lane, Line, nodeAt, laneAt}
 use Rattle.rules.specs.Clock.{messageOf}
 use Rattle.rules.specs.Plain.{Act, Receipt}
 use Rattle.rules.proofs.ListLaws.{keep-append}
 use Rattle.rules.proofs.Rising.{until, past, Rises, Within, rises-past, until-none, past-none, within-higher, within-until}
+use Rattle.rules.proofs.PlainRun.{receiptsIn}
 use Rattle.rules.proofs.Witness.{Taken}
 use Rattle.rules.proofs.Ghost.{Event, Ghost, inputOf, entryOf, sentOf, takesMessage, put, got, gotOf, logPut, map-map}
 use Rattle.rules.proofs.Passing.{passing}
@@ -152,4 +153,106 @@ module _ (l : Line) (g : Ghost) (cut base : ℕ → ℕ) (fed : List Act) (recei
                     ∙ sym (until-none timeOf t (omega (arith, mark)) (subst (λ (x : List Message). Rises timeOf t x) (sym (ap (past timeOf t) (log-now c h))) (rises-past timeOf t (rises-keep timeOf (takesMessage (l .plan) c) (rises-sent (l .plan) n (r .rises)))))),
               );
             };
+      }
+
+  ends-enters : (b : ℕ) → Enters (l .plan) n b → Ends k ghostAfter b
+  ends-enters b h =
+      let up-now : isUp k (channelAt (l .plan) b .sender) = ap (λ (x : Node). x .status) (other (channelAt (l .plan) b .sender) (sender-other b h)) ∙ inv .marks .stopped (channelAt (l .plan) b .sender) (parent-unmarked b h) in
+      record {
+        exact = λ e. absurd (true≢false (sym (ap (λ (x : ℕ). nodeAt k x .crashed) (h .1) ∙ still-marked) ∙ e));
+        stopped = λ e. absurd (e up-now);
+        waiting = λ e. absurd (up-not-replay (sym up-now ∙ e));
+      }
+
+  ends-leaves : (c : ℕ) → Leaves (l .plan) n c → Ends k ghostAfter c
+  ends-leaves c h =
+      let d = receiver-other c h in
+      let up-now : isUp k (channelAt (l .plan) c .sender) = ap (λ (x : ℕ). nodeAt k x .status) (h .1) ∙ alive in
+      record {
+        exact = λ e. inv .ends c (h .0) .exact (child-unmarked c h) ∙ ap (λ (x : List Message). greatestOf (map timeOf x)) (sym (got-other c d));
+        stopped = λ e. absurd (e up-now);
+        waiting = λ e. absurd (up-not-replay (sym up-now ∙ e));
+      }
+
+  unmarked-other : (m : ℕ) → nodeAt k m .crashed ≡ false → m ≢ n
+  unmarked-other m e q = true≢false (sym (ap (λ (x : ℕ). nodeAt k x .crashed) q ∙ still-marked) ∙ e)
+
+  unmarked-was : (m : ℕ) → nodeAt k m .crashed ≡ false → nodeAt l m .crashed ≡ false
+  unmarked-was m e = ap (λ (x : Node). x .crashed) (sym (other m (unmarked-other m e))) ∙ e
+
+  mark-same : (m : ℕ) → nodeAt k m .crashed ≡ nodeAt l m .crashed
+  mark-same m = elim (ℕ-discrete m n) [
+    | yes q ↦ ap (λ (x : ℕ). nodeAt k x .crashed) q ∙ still-marked ∙ sym (ap (λ (x : ℕ). nodeAt l x .crashed) q ∙ marked)
+    | no d ↦ ap (λ (x : Node). x .crashed) (other m d)
+  ]
+
+  rebuild-marks : Marks k crashes
+  rebuild-marks =
+      record {
+        were-named = λ m e. mark-same m ∙ inv .marks .were-named m e;
+        not-joined = λ b h e. mark-same (channelAt (l .plan) b .receiver) ∙ inv .marks .not-joined b h (sym (mark-same (channelAt (l .plan) b .sender)) ∙ e);
+        between = λ m e. inv .marks .between m (sym (mark-same m) ∙ e);
+        stopped = λ m e. ap (λ (x : Node). x .status) (other m (unmarked-other m e)) ∙ inv .marks .stopped m (unmarked-was m e);
+      }
+
+  rebuild-nodes : Nodes k ghostAfter fed receipts
+  rebuild-nodes =
+      let old = inv .nodes in
+      record {
+        only-feeds = old .only-feeds;
+        sources = λ m e. ap (map inputOf) (ghost-other m (λ q. true≢false (sym e ∙ ap (isSource (l .plan)) q ∙ inv .marks .between n marked .0))) ∙ old .sources m e;
+        others = λ m e. (
+          old .others m e .0,
+          elim (ℕ-discrete m n) [
+            | yes q ↦ subst (λ (x : List Event). Taken (l .plan) m (map inputOf x)) (sym (ghost-now m q))
+                (subst (λ (x : ℕ). Taken (l .plan) x (map inputOf (events l g cut base fed receipts crashes inv n replaying T fs r))) (sym q) (took-rebuilt l g cut base fed receipts crashes inv n replaying T fs r))
+            | no d ↦ subst (λ (x : List Event). Taken (l .plan) m (map inputOf x)) (sym (ghost-other m d)) (old .others m e .1)
+          ],
+        );
+        beyond = λ m h. ghost-other m (λ q. omega arith) ∙ old .beyond m h;
+        received = λ m e. old .received m (unmarked-was m e) ∙ ap (λ (x : List Event). receiptsIn (l .plan) m (map inputOf x)) (sym (ghost-other m (unmarked-other m e)));
+        logged = λ m e.
+            (let d = unmarked-other m e in
+            ap (λ (x : Node). x .log) (other m d) ∙ old .logged m (unmarked-was m e) ∙ ap (map (entryOf (l .plan) m)) (sym (ghost-other m d)));
+      }
+
+  rebuild-events : (m : ℕ) → Events k ghostAfter m
+  rebuild-events m = elim (ℕ-discrete m n) [
+    | yes q ↦ subst (Events k ghostAfter) (sym q)
+        (record {
+          rise = subst (λ (x : List Event). Rises timeOf 0 (passing (l .plan) n x)) (sym (ghost-now n refl)) (rise-rebuilt l g cut base fed receipts crashes inv n replaying T fs r);
+          within = λ e. subst (λ (x : Node). Within timeOf (x .time) (passing (l .plan) n (ghostAfter n))) (sym now)
+              (subst (λ (x : List Event). Within timeOf T (passing (l .plan) n x)) (sym (ghost-now n refl)) (within-rebuilt l g cut base fed receipts crashes inv n replaying T fs r));
+        })
+    | no d ↦ events-stay l steps nodes (l .lanes) g ghostAfter m (other m d) (ghost-other m d) (inv .events m)
+  ]
+
+  -- Another node that replays is not joined to this one.
+  rebuild-replays : (m : ℕ) → nodeAt k m .status ≡ replay → Replays k ghostAfter cutAfter base m
+  rebuild-replays m e =
+      let d : m ≢ n = λ q. up-not-replay (sym alive ∙ ap (λ (x : ℕ). nodeAt k x .status) (sym q) ∙ e) in
+      let same = other m d in
+      let old : nodeAt l m .status ≡ replay = ap (λ (x : Node). x .status) (sym same) ∙ e in
+      let mark = replay-marked (inv .marks) m old in
+      let apart : (b : ℕ) → Enters (l .plan) m b → channelAt (l .plan) b .sender ≢ n = λ b h q. true≢false (sym mark ∙ ap (λ (x : ℕ). nodeAt l x .crashed) (sym (h .1)) ∙ child-unmarked b (h .0, q)) in
+      replays-stay l steps nodes (l .lanes) g ghostAfter m same (ghost-other m d) (λ c h. refl) cut cutAfter base base
+      (λ b h w. row-stays l steps nodes (l .lanes) g ghostAfter (cut b) (cutAfter b) (base b) (base b) m b same refl (omega (arith, cut-other b (λ q. d (sym (h .1) ∙ q)))) refl (ap (until timeOf (laneAt l b .taken)) (put-other b (apart b h))) w) (λ b h. refl)
+      (λ b y t i. took-enters (l .plan) m (g m) (marked-took (inv .marks) (inv .nodes) m mark) i .1) (inv .replays m old)
+
+  at-ends : {A : Type 0} (c : ℕ) → c < channelCount (l .plan) → (Enters (l .plan) n c → A) → (Leaves (l .plan) n c → A) → (channelAt (l .plan) c .receiver ≢ n → channelAt (l .plan) c .sender ≢ n → A) → A
+  at-ends c h f g k = elim (ℕ-discrete (channelAt (l .plan) c .receiver) n) [ yes q ↦ f (h, q) | no d ↦ elim (ℕ-discrete (channelAt (l .plan) c .sender) n) [ yes q ↦ g (h, q) | no e ↦ k d e ] ]
+
+  pub rebuild-inv : Inv k ghostAfter cutAfter base fed receipts crashes
+  rebuild-inv =
+      record {
+        shape = record { nodes-long = long ∙ inv .shape .nodes-long; lanes-long = inv .shape .lanes-long };
+        ordered = inv .ordered;
+        marks = rebuild-marks;
+        nodes = rebuild-nodes;
+        events = rebuild-events;
+        channels = λ c h. at-ends c h (channel-enters c) (channel-leaves c)
+            (λ d e. channel-stays l steps nodes (l .lanes) g ghostAfter c (other (channelAt (l .plan) c .sender) e) (ap (λ (x : Node). x .status) (other (channelAt (l .plan) c .receiver) d)) refl (got-other c d) cut cutAfter (put-other c e) (cut-other c d) (inv .channels c h));
+        ends = λ c h. at-ends c h (ends-enters c) (ends-leaves c)
+            (λ d e. ends-stay l steps nodes (l .lanes) g ghostAfter c (other (channelAt (l .plan) c .sender) e) (ap (λ (x : Node). x .status) (other (channelAt (l .plan) c .receiver) d)) refl (got-other c d) (ap (λ (x : Node). x .crashed) (other (channelAt (l .plan) c .receiver) d)) (inv .ends c h));
+        replays = rebuild-replays;
       }
