@@ -21,6 +21,7 @@ use Rattle.rules.proofs.LineLaws.{node-there, node-else}
 use Rattle.rules.proofs.Ghost.{Ghost, Event, entryOf, sentOf, takesMessage, put, got, logPut, map-map}
 use Rattle.rules.proofs.Inv.{Inv, Shape, isUp, named, timeOf, Enters, Leaves, Marks, Nodes, SenderUp, Channels, Ends, Replays}
 use Rattle.rules.proofs.InvLaws.{up-not-down, replay-not-down, up-not-replay, if-marked, replay-marked, marked-took, took-enters}
+use Rattle.rules.proofs.MarkedLaws.{at-ends, sender-other, receiver-other}
 use Rattle.rules.proofs.Stays.{moved, channel-stays, ends-stay, events-stay, replays-stay, row-stays}
 use Rattle.rules.proofs.Swept.{swept, swept-line, swept-long, swept-enters, swept-leaves, swept-else}
 
@@ -87,12 +88,6 @@ module _ (l : Line) (g : Ghost) (cut base : ℕ → ℕ) (fed : List Act) (recei
   parent-up : (c : ℕ) → Enters (l .plan) n c → isUp l (channelAt (l .plan) c .sender)
   parent-up c h = inv .marks .stopped (channelAt (l .plan) c .sender) (parents c h)
 
-  sender-other : (c : ℕ) → Enters (l .plan) n c → channelAt (l .plan) c .sender ≢ n
-  sender-other c (h, q) z = omega (arith, inv .ordered .forward c h)
-
-  receiver-other : (c : ℕ) → Leaves (l .plan) n c → channelAt (l .plan) c .receiver ≢ n
-  receiver-other c (h, q) z = omega (arith, inv .ordered .forward c h)
-
   down-not-up : nodeAt after n .status ≢ up
   down-not-up e = up-not-down (sym e ∙ ap (λ (x : Node). x .status) node-now)
 
@@ -101,7 +96,7 @@ module _ (l : Line) (g : Ghost) (cut base : ℕ → ℕ) (fed : List Act) (recei
   channel-enters c (h, q) =
       let old = inv .channels c h in
       let s = old .sender-up (parent-up c (h, q)) in
-      let d = sender-other c (h, q) in
+      let d = sender-other inv n c (h, q) in
       let node = node-other (channelAt (l .plan) c .sender) d in
       let logs : logPut after c ≡ put (l .plan) g c = ap (λ (x : Node). keep (takesMessage (l .plan) c) (map messageOf (x .log))) node ∙ log-whole (inv .nodes) c (parents c (h, q)) in
       let gone : nodeAt after (channelAt (l .plan) c .receiver) .status ≡ down = ap (λ (x : ℕ). nodeAt after x .status) q ∙ ap (λ (x : Node). x .status) node-now in
@@ -123,7 +118,7 @@ module _ (l : Line) (g : Ghost) (cut base : ℕ → ℕ) (fed : List Act) (recei
   channel-leaves : (c : ℕ) → Leaves (l .plan) n c → Channels after g cut c
   channel-leaves c (h, q) =
       let old = inv .channels c h in
-      let node = node-other (channelAt (l .plan) c .receiver) (receiver-other c (h, q)) in
+      let node = node-other (channelAt (l .plan) c .receiver) (receiver-other inv n c (h, q)) in
       record {
         rises = old .rises;
         cut-is = old .cut-is;
@@ -134,7 +129,7 @@ module _ (l : Line) (g : Ghost) (cut base : ℕ → ℕ) (fed : List Act) (recei
   ends-enters : (c : ℕ) → Enters (l .plan) n c → Ends after g c
   unfolding freshLane
   ends-enters c (h, q) =
-      let node = node-other (channelAt (l .plan) c .sender) (sender-other c (h, q)) in
+      let node = node-other (channelAt (l .plan) c .sender) (sender-other inv n c (h, q)) in
       let alive : isUp after (channelAt (l .plan) c .sender) = ap (λ (x : Node). x .status) node ∙ parent-up c (h, q) in
       record {
         exact = λ e. absurd (true≢false (sym (ap (λ (x : ℕ). nodeAt after x .crashed) q ∙ ap (λ (x : Node). x .crashed) node-now) ∙ e));
@@ -145,17 +140,13 @@ module _ (l : Line) (g : Ghost) (cut base : ℕ → ℕ) (fed : List Act) (recei
   ends-leaves : (c : ℕ) → Leaves (l .plan) n c → Ends after g c
   ends-leaves c (h, q) =
       let lane = lane-leaves c (h, q) in
-      let node = node-other (channelAt (l .plan) c .receiver) (receiver-other c (h, q)) in
+      let node = node-other (channelAt (l .plan) c .receiver) (receiver-other inv n c (h, q)) in
       let gone : nodeAt after (channelAt (l .plan) c .sender) .status ≡ down = ap (λ (x : ℕ). nodeAt after x .status) q ∙ ap (λ (x : Node). x .status) node-now in
       record {
         exact = λ e. ap (λ (x : Lane). x .taken) lane ∙ inv .ends c h .exact (ap (λ (x : Node). x .crashed) (sym node) ∙ e);
         stopped = λ e. ap (λ (x : Lane). x .queue) lane;
         waiting = λ e. absurd (replay-not-down (sym e ∙ gone));
       }
-
-  -- A channel at either end of the node, or beside it.
-  at-ends : {A : Type 0} (c : ℕ) → c < channelCount (l .plan) → (Enters (l .plan) n c → A) → (Leaves (l .plan) n c → A) → (channelAt (l .plan) c .receiver ≢ n → channelAt (l .plan) c .sender ≢ n → A) → A
-  at-ends c h f g k = elim (ℕ-discrete (channelAt (l .plan) c .receiver) n) [ yes q ↦ f (h, q) | no d ↦ elim (ℕ-discrete (channelAt (l .plan) c .sender) n) [ yes q ↦ g (h, q) | no e ↦ k d e ] ]
 
   marked-now : (m : ℕ) → nodeAt after m .crashed ≡ true → ((m ≢ n) × (nodeAt l m .crashed ≡ true)) ⊎ (m ≡ n)
   marked-now m e = elim (ℕ-discrete m n) [ yes q ↦ inr q | no d ↦ inl (d, ap (λ (x : Node). x .crashed) (sym (node-other m d)) ∙ e) ]
@@ -167,7 +158,7 @@ module _ (l : Line) (g : Ghost) (cut base : ℕ → ℕ) (fed : List Act) (recei
             (let (old, new) = named-left m crashes (n ∷ []) e in
             ap (λ (x : Node). x .crashed) (node-other m (λ q. true≢false (sym (eq-eqb m n q) ∙ neither-true (eqb m n) false new .0))) ∙ inv .marks .were-named m old);
         not-joined = λ b h e. elim (marked-now (channelAt (l .plan) b .sender) e) [
-          | inr q ↦ ap (λ (x : Node). x .crashed) (node-other (channelAt (l .plan) b .receiver) (receiver-other b (h, q))) ∙ children b (h, q)
+          | inr q ↦ ap (λ (x : Node). x .crashed) (node-other (channelAt (l .plan) b .receiver) (receiver-other inv n b (h, q))) ∙ children b (h, q)
           | inl old ↦ ap (λ (x : Node). x .crashed) (node-other (channelAt (l .plan) b .receiver) (λ q. true≢false (sym (old .1) ∙ parents b (h, q)))) ∙ inv .marks .not-joined b h (old .1)
         ];
         between = λ m e. elim (marked-now m e) [
@@ -225,9 +216,9 @@ module _ (l : Line) (g : Ghost) (cut base : ℕ → ℕ) (fed : List Act) (recei
           | yes q ↦ record { rise = inv .events m .rise; within = λ e. absurd (down-not-up (ap (λ (x : ℕ). nodeAt after x .status) (sym q) ∙ e)) }
           | no d ↦ events-stay l (l .steps) (stopped .nodes) lanes g g m (node-other m d) refl (inv .events m)
         ];
-        channels = λ c h. at-ends c h (channel-enters c) (channel-leaves c)
+        channels = λ c h. at-ends (l .plan) n c h (channel-enters c) (channel-leaves c)
             (λ r s. channel-stays l (l .steps) (stopped .nodes) lanes g g c (node-other (channelAt (l .plan) c .sender) s) (ap (λ (x : Node). x .status) (node-other (channelAt (l .plan) c .receiver) r)) (lane-other c r s) refl cut cut refl refl (inv .channels c h));
-        ends = λ c h. at-ends c h (ends-enters c) (ends-leaves c)
+        ends = λ c h. at-ends (l .plan) n c h (ends-enters c) (ends-leaves c)
             (λ r s. ends-stay l (l .steps) (stopped .nodes) lanes g g c (node-other (channelAt (l .plan) c .sender) s) (ap (λ (x : Node). x .status) (node-other (channelAt (l .plan) c .receiver) r)) (lane-other c r s) refl (ap (λ (x : Node). x .crashed) (node-other (channelAt (l .plan) c .receiver) r)) (inv .ends c h));
         replays = crash-replays;
       })

@@ -32,6 +32,8 @@ pub mod Joins
 pub mod Carried
 pub mod Targets
 pub mod Children
+pub mod MarkedLaws
 pub mod PlanOrder
 pub mod RebuildEvents
 pub mod RebuildInv
+pub mod EndInv

@@ -23,13 +23,13 @@ use Rattle.rules.proofs.Witness.{Taken}
 use Rattle.rules.proofs.Ghost.{Event, tookAt, Ghost, eventTime, inputOf, sentOf, takesMessage, put, got, gotOf}
 use Rattle.rules.proofs.Passing.{passing, goesOn}
 use Rattle.rules.proofs.Selecting.{keep-wider, rises-keep, within-keep}
-use Rattle.rules.proofs.Kept.{taken-in, in-got}
 use Rattle.rules.proofs.Carried.{put-in, in-put, taken-event}
 use Rattle.rules.proofs.Joins.{takes-passed}
 use Rattle.rules.proofs.Leaving.{put-passing, taken-until}
 use Rattle.rules.proofs.Rebuilt.{rebuilt, ends-held, rebuilt-got, rebuilt-taken, rebuilt-passing}
 use Rattle.rules.proofs.Inv.{timeOf, isUp, Enters, Leaves, Reached, targetFrom, Replays, Row, Channels, Inv}
-use Rattle.rules.proofs.InvLaws.{replay-marked, marked-took}
+use Rattle.rules.proofs.InvLaws.{replay-marked}
+use Rattle.rules.proofs.MarkedLaws.{own, one-channel, taken-put}
 
 -- What must hold of the events placed, so that node n may go on with them at time T.
 pub record Rebuilding (l : Line) (g : Ghost) (base : ℕ → ℕ) (n T : ℕ) (fs : List Event) : Type 0 where
@@ -76,21 +76,14 @@ module _ (l : Line) (g : Ghost) (cut base : ℕ → ℕ) (fed : List Act) (recei
   abbrev pub ghost : Ghost
   ghost = changed g n events
 
-  own : Taken (l .plan) n (map inputOf (g n))
-  own = marked-took (inv .marks) (inv .nodes) n (replay-marked (inv .marks) n replaying)
+  marked : nodeAt l n .crashed ≡ true
+  marked = replay-marked (inv .marks) n replaying
+
+  took-own : Taken (l .plan) n (map inputOf (g n))
+  took-own = own inv n marked
 
   pub row-rises : (b : ℕ) → Enters (l .plan) n b → Rises timeOf 0 (row b)
   row-rises b h = rises-keep timeOf (λ (m : Message). leb (m .time) (laneAt l b .taken)) (inv .channels b (h .0) .rises)
-
-  -- An event of the node came through a channel that is known by its sender.
-  one-channel : (b c : ℕ) (m : Message) (t : ℕ) → Enters (l .plan) n b → In (tookAt c m t) (g n) → channelAt (l .plan) c .sender ≡ channelAt (l .plan) b .sender → c ≡ b
-  one-channel b c m t h i q = let (on, into, _) = taken-in (l .plan) n (g n) own i in inv .ordered .alone c b on (h .0) q (into ∙ sym (h .1))
-
-  taken-put : (b : ℕ) (m : Message) (t : ℕ) → Enters (l .plan) n b → In (tookAt b m t) (g n) → In m (put (l .plan) g b)
-  unfolding got
-  taken-put b m t h i =
-      keep-in (λ (x : Message). leb (x .time) (cut b)) (put (l .plan) g b)
-      (subst (λ (x : List Message). In m x) (inv .channels b (h .0) .cut-is) (subst (λ (k : ℕ). In m (gotOf b (g k))) (sym (h .1)) (in-got i))) .0
 
   -- A row's goal is a message that goes on.
   goal-message : (b : ℕ) → Enters (l .plan) n b → rowGoal (nodeAt l n .targets) (channelAt (l .plan) b .sender) ≢ 0
@@ -105,9 +98,9 @@ module _ (l : Line) (g : Ghost) (cut base : ℕ → ℕ) (fed : List Act) (recei
             (let (u, j, e) = map-in (λ (u : Target). u .parentTime) (keep f ts) i in
             let (k, q) = keep-in f ts j in
             let (c, m, t, on, is, _, got-to) = inv .replays n replaying .target-from u k in
-            let same : c ≡ b = one-channel b c m t h on (ap (λ (x : Target). x .parent) (sym is) ∙ eqb-true (u .parent) A q) in (
+            let same : c ≡ b = one-channel inv n marked b c m t h on (ap (λ (x : Target). x .parent) (sym is) ∙ eqb-true (u .parent) A q) in (
               m,
-              taken-put b m t h (subst (λ (x : ℕ). In (tookAt x m t) (g n)) same on),
+              taken-put inv n marked b m t h (subst (λ (x : ℕ). In (tookAt x m t) (g n)) same on),
               takes-passed (l .plan) n (applied (ruleAt (l .plan) n) (m .what)) (got-to .channel) (got-to .on-plan) (got-to .leaves) (got-to .takes-it),
               ap (λ (x : Target). x .parentTime) (sym is) ∙ sym e,
             ))
@@ -141,11 +134,11 @@ module _ (l : Line) (g : Ghost) (cut base : ℕ → ℕ) (fed : List Act) (recei
       (r .got-is b h) (whole b h)
 
   pub took-rebuilt : Taken (l .plan) n (map inputOf events)
-  took-rebuilt = rebuilt-taken (l .plan) n base row (g n) fs own (r .took)
+  took-rebuilt = rebuilt-taken (l .plan) n base row (g n) fs took-own (r .took)
 
   -- What it passes on.
   pub passing-rebuilt : passing (l .plan) n events ≡ until timeOf (nodeAt l n .time) (passing (l .plan) n (g n)) ++ map (sentOf (l .plan) n) fs
-  passing-rebuilt = rebuilt-passing (l .plan) n base row (g n) fs (nodeAt l n .time) own (r .took) (inv .replays n replaying .base-cuts) row-rises (r .got-is)
+  passing-rebuilt = rebuilt-passing (l .plan) n base row (g n) fs (nodeAt l n .time) took-own (r .took) (inv .replays n replaying .base-cuts) row-rises (r .got-is)
 
   pub rise-rebuilt : Rises timeOf 0 (passing (l .plan) n events)
   rise-rebuilt =
@@ -181,7 +174,7 @@ module _ (l : Line) (g : Ghost) (cut base : ℕ → ℕ) (fed : List Act) (recei
     still-put x i late =
         let (e, j, q, k) = put-in (l .plan) g c x i in
         let own-event : In e (g n) = subst (λ (z : ℕ). In e (g z)) (h .1) j in
-        let from = taken-event (l .plan) n (g n) own own-event in
+        let from = taken-event (l .plan) n (g n) took-own own-event in
         let made-of : x ≡ sentOf (l .plan) n (tookAt (from .channel) (from .message) (from .time)) = q ∙ ap (λ (z : ℕ). sentOf (l .plan) z e) (h .1) ∙ ap (sentOf (l .plan) n) (from .is) in
         elim (decLe (x .time) (nodeAt l n .time)) [
           | yes low ↦ subst (λ (z : List Message). In x z) (sym put-rebuilt) (in-left (keep (takesMessage (l .plan) c) (map (sentOf (l .plan) n) fs)) (in-keep (λ (z : Message). leb (z .time) (nodeAt l n .time)) i (le-leb (x .time) (nodeAt l n .time) low)))

@@ -24,7 +24,8 @@ use Rattle.rules.proofs.Passing.{passing}
 use Rattle.rules.proofs.Selecting.{rises-keep}
 use Rattle.rules.proofs.Carried.{took-enters}
 use Rattle.rules.proofs.Inv.{timeOf, isUp, Enters, Leaves, Marks, Nodes, Shape, SenderUp, Channels, Events, Ends, Replays, Inv}
-use Rattle.rules.proofs.InvLaws.{up-not-replay, up-not-down, replay-not-down, if-marked, replay-marked, marked-took}
+use Rattle.rules.proofs.InvLaws.{up-not-replay, replay-not-down, replay-marked, marked-took}
+use Rattle.rules.proofs.MarkedLaws.{at-ends, sender-other, receiver-other, parent-unmarked, child-unmarked}
 use Rattle.rules.proofs.Stays.{moved, channel-stays, ends-stay, events-stay, replays-stay, row-stays}
 use Rattle.rules.proofs.Grow.{sender-same, sender-receiving}
 use Rattle.rules.proofs.RebuildEvents.{Rebuilding, row, events, ghost, got-rebuilt, took-rebuilt, rise-rebuilt, within-rebuilt, put-rebuilt, put-rises, put-within, until-rebuilt, rises-sent}
@@ -52,19 +53,6 @@ module _ (l : Line) (g : Ghost) (cut base : ℕ → ℕ) (fed : List Act) (recei
 
   still-marked : nodeAt k n .crashed ≡ true
   still-marked = ap (λ (x : Node). x .crashed) now
-
-  parent-unmarked : (b : ℕ) → Enters (l .plan) n b → nodeAt l (channelAt (l .plan) b .sender) .crashed ≡ false
-  parent-unmarked b (h, q) =
-      if-marked (nodeAt l (channelAt (l .plan) b .sender) .crashed) (λ e. absurd (true≢false (sym (ap (λ (x : ℕ). nodeAt l x .crashed) q ∙ marked) ∙ inv .marks .not-joined b h e))) (λ e. e)
-
-  child-unmarked : (c : ℕ) → Leaves (l .plan) n c → nodeAt l (channelAt (l .plan) c .receiver) .crashed ≡ false
-  child-unmarked c (h, q) = inv .marks .not-joined c h (ap (λ (x : ℕ). nodeAt l x .crashed) q ∙ marked)
-
-  sender-other : (b : ℕ) → Enters (l .plan) n b → channelAt (l .plan) b .sender ≢ n
-  sender-other b (h, q) z = omega (arith, inv .ordered .forward b h)
-
-  receiver-other : (c : ℕ) → Leaves (l .plan) n c → channelAt (l .plan) c .receiver ≢ n
-  receiver-other c (h, q) z = omega (arith, inv .ordered .forward c h)
 
   ghost-other : (m : ℕ) → m ≢ n → ghostAfter m ≡ g m
   ghost-other m d = changed-else g n (events l g cut base fed receipts crashes inv n replaying T fs r) m d
@@ -94,9 +82,9 @@ module _ (l : Line) (g : Ghost) (cut base : ℕ → ℕ) (fed : List Act) (recei
   unfolding logPut
   channel-enters b h =
       let old = inv .channels b (h .0) in
-      let sender = other (channelAt (l .plan) b .sender) (sender-other b h) in
-      let puts = put-other b (sender-other b h) in
-      let was-up : isUp l (channelAt (l .plan) b .sender) = inv .marks .stopped (channelAt (l .plan) b .sender) (parent-unmarked b h) in
+      let sender = other (channelAt (l .plan) b .sender) (sender-other inv n b h) in
+      let puts = put-other b (sender-other inv n b h) in
+      let was-up : isUp l (channelAt (l .plan) b .sender) = inv .marks .stopped (channelAt (l .plan) b .sender) (parent-unmarked inv n marked b h) in
       let s = old .sender-up was-up in
       let cuts = cut-now b (h .1) in
       record {
@@ -121,8 +109,8 @@ module _ (l : Line) (g : Ghost) (cut base : ℕ → ℕ) (fed : List Act) (recei
       let old = inv .channels c (h .0) in
       let end = inv .ends c (h .0) in
       let down-here : nodeAt l (channelAt (l .plan) c .sender) .status ≡ replay = ap (λ (x : ℕ). nodeAt l x .status) (h .1) ∙ replaying in
-      let child-up : isUp l (channelAt (l .plan) c .receiver) = inv .marks .stopped (channelAt (l .plan) c .receiver) (child-unmarked c h) in
-      let d = receiver-other c h in
+      let child-up : isUp l (channelAt (l .plan) c .receiver) = inv .marks .stopped (channelAt (l .plan) c .receiver) (child-unmarked inv n marked c h) in
+      let d = receiver-other inv n c h in
       let cuts : cutAfter c ≡ laneAt l c .taken = cut-other c d ∙ old .cut-up child-up in
       let t = laneAt l c .taken in
       let placed = keep (takesMessage (l .plan) c) (map (sentOf (l .plan) n) fs) in
@@ -157,7 +145,7 @@ module _ (l : Line) (g : Ghost) (cut base : ℕ → ℕ) (fed : List Act) (recei
 
   ends-enters : (b : ℕ) → Enters (l .plan) n b → Ends k ghostAfter b
   ends-enters b h =
-      let up-now : isUp k (channelAt (l .plan) b .sender) = ap (λ (x : Node). x .status) (other (channelAt (l .plan) b .sender) (sender-other b h)) ∙ inv .marks .stopped (channelAt (l .plan) b .sender) (parent-unmarked b h) in
+      let up-now : isUp k (channelAt (l .plan) b .sender) = ap (λ (x : Node). x .status) (other (channelAt (l .plan) b .sender) (sender-other inv n b h)) ∙ inv .marks .stopped (channelAt (l .plan) b .sender) (parent-unmarked inv n marked b h) in
       record {
         exact = λ e. absurd (true≢false (sym (ap (λ (x : ℕ). nodeAt k x .crashed) (h .1) ∙ still-marked) ∙ e));
         stopped = λ e. absurd (e up-now);
@@ -166,10 +154,10 @@ module _ (l : Line) (g : Ghost) (cut base : ℕ → ℕ) (fed : List Act) (recei
 
   ends-leaves : (c : ℕ) → Leaves (l .plan) n c → Ends k ghostAfter c
   ends-leaves c h =
-      let d = receiver-other c h in
+      let d = receiver-other inv n c h in
       let up-now : isUp k (channelAt (l .plan) c .sender) = ap (λ (x : ℕ). nodeAt k x .status) (h .1) ∙ alive in
       record {
-        exact = λ e. inv .ends c (h .0) .exact (child-unmarked c h) ∙ ap (λ (x : List Message). greatestOf (map timeOf x)) (sym (got-other c d));
+        exact = λ e. inv .ends c (h .0) .exact (child-unmarked inv n marked c h) ∙ ap (λ (x : List Message). greatestOf (map timeOf x)) (sym (got-other c d));
         stopped = λ e. absurd (e up-now);
         waiting = λ e. absurd (up-not-replay (sym up-now ∙ e));
       }
@@ -234,13 +222,10 @@ module _ (l : Line) (g : Ghost) (cut base : ℕ → ℕ) (fed : List Act) (recei
       let same = other m d in
       let old : nodeAt l m .status ≡ replay = ap (λ (x : Node). x .status) (sym same) ∙ e in
       let mark = replay-marked (inv .marks) m old in
-      let apart : (b : ℕ) → Enters (l .plan) m b → channelAt (l .plan) b .sender ≢ n = λ b h q. true≢false (sym mark ∙ ap (λ (x : ℕ). nodeAt l x .crashed) (sym (h .1)) ∙ child-unmarked b (h .0, q)) in
+      let apart : (b : ℕ) → Enters (l .plan) m b → channelAt (l .plan) b .sender ≢ n = λ b h q. true≢false (sym mark ∙ ap (λ (x : ℕ). nodeAt l x .crashed) (sym (h .1)) ∙ child-unmarked inv n marked b (h .0, q)) in
       replays-stay l steps nodes (l .lanes) g ghostAfter m same (ghost-other m d) (λ c h. refl) cut cutAfter base base
       (λ b h w. row-stays l steps nodes (l .lanes) g ghostAfter (cut b) (cutAfter b) (base b) (base b) m b same refl (omega (arith, cut-other b (λ q. d (sym (h .1) ∙ q)))) refl (ap (until timeOf (laneAt l b .taken)) (put-other b (apart b h))) w) (λ b h. refl)
       (λ b y t i. took-enters (l .plan) m (g m) (marked-took (inv .marks) (inv .nodes) m mark) i .1) (inv .replays m old)
-
-  at-ends : {A : Type 0} (c : ℕ) → c < channelCount (l .plan) → (Enters (l .plan) n c → A) → (Leaves (l .plan) n c → A) → (channelAt (l .plan) c .receiver ≢ n → channelAt (l .plan) c .sender ≢ n → A) → A
-  at-ends c h f g k = elim (ℕ-discrete (channelAt (l .plan) c .receiver) n) [ yes q ↦ f (h, q) | no d ↦ elim (ℕ-discrete (channelAt (l .plan) c .sender) n) [ yes q ↦ g (h, q) | no e ↦ k d e ] ]
 
   pub rebuild-inv : Inv k ghostAfter cutAfter base fed receipts crashes
   rebuild-inv =
@@ -250,9 +235,9 @@ module _ (l : Line) (g : Ghost) (cut base : ℕ → ℕ) (fed : List Act) (recei
         marks = rebuild-marks;
         nodes = rebuild-nodes;
         events = rebuild-events;
-        channels = λ c h. at-ends c h (channel-enters c) (channel-leaves c)
+        channels = λ c h. at-ends (l .plan) n c h (channel-enters c) (channel-leaves c)
             (λ d e. channel-stays l steps nodes (l .lanes) g ghostAfter c (other (channelAt (l .plan) c .sender) e) (ap (λ (x : Node). x .status) (other (channelAt (l .plan) c .receiver) d)) refl (got-other c d) cut cutAfter (put-other c e) (cut-other c d) (inv .channels c h));
-        ends = λ c h. at-ends c h (ends-enters c) (ends-leaves c)
+        ends = λ c h. at-ends (l .plan) n c h (ends-enters c) (ends-leaves c)
             (λ d e. ends-stay l steps nodes (l .lanes) g ghostAfter c (other (channelAt (l .plan) c .sender) e) (ap (λ (x : Node). x .status) (other (channelAt (l .plan) c .receiver) d)) refl (got-other c d) (ap (λ (x : Node). x .crashed) (other (channelAt (l .plan) c .receiver) d)) (inv .ends c h));
         replays = rebuild-replays;
       }

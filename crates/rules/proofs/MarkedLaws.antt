@@ -1,0 +1,63 @@
+-- The events of a node that has crashed, and its neighbours, which have not.
+use Prim.Native.Nat.{ℕ, _<_, _≤_}
+use mathlib.Core.Path.{_≡_, refl, sym, ap, subst, _∙_}
+use mathlib.Core.Logic.{_≢_}
+use mathlib.Core.Bool.{Bool, true, false, true≢false}
+use mathlib.Core.List.{List, map}
+use native.Mathlib.Omega.{arith}
+use native.Mathlib.Decide.{ℕ-discrete}
+use lib.Dec.{leb}
+use Rattle.plan.specs.Plan.{Plan, channelAt, channelCount}
+use Rattle.rules.specs.Line.{Message, Line, nodeAt, laneAt}
+use Rattle.rules.specs.Plain.{Act, Receipt}
+use Rattle.rules.proofs.Rising.{until, Rises}
+use Rattle.rules.proofs.Members.{In, keep-in}
+use Rattle.rules.proofs.Witness.{Taken}
+use Rattle.rules.proofs.Ghost.{Event, tookAt, Ghost, inputOf, put, got, gotOf}
+use Rattle.rules.proofs.Selecting.{rises-keep}
+use Rattle.rules.proofs.Kept.{taken-in, in-got}
+use Rattle.rules.proofs.Inv.{timeOf, isUp, Enters, Leaves, Channels, Inv}
+use Rattle.rules.proofs.InvLaws.{if-marked, marked-took}
+
+-- A channel at either end of a node, or beside it.
+pub at-ends : {A : Type 0} (p : Plan) (n c : ℕ) → c < channelCount p → (Enters p n c → A) → (Leaves p n c → A) → (channelAt p c .receiver ≢ n → channelAt p c .sender ≢ n → A) → A
+at-ends p n c h f g k = elim (ℕ-discrete (channelAt p c .receiver) n) [ yes q ↦ f (h, q) | no d ↦ elim (ℕ-discrete (channelAt p c .sender) n) [ yes q ↦ g (h, q) | no e ↦ k d e ] ]
+
+module _ {l : Line} {g : Ghost} {cut base : ℕ → ℕ} {fed : List Act} {receipts : List Receipt} {crashes : List ℕ} (inv : Inv l g cut base fed receipts crashes) (n : ℕ) where
+  pub sender-other : (b : ℕ) → Enters (l .plan) n b → channelAt (l .plan) b .sender ≢ n
+  sender-other b (h, q) z = omega (arith, inv .ordered .forward b h)
+
+  pub receiver-other : (c : ℕ) → Leaves (l .plan) n c → channelAt (l .plan) c .receiver ≢ n
+  receiver-other c (h, q) z = omega (arith, inv .ordered .forward c h)
+
+  module _ (marked : nodeAt l n .crashed ≡ true) where
+    pub parent-unmarked : (b : ℕ) → Enters (l .plan) n b → nodeAt l (channelAt (l .plan) b .sender) .crashed ≡ false
+    parent-unmarked b (h, q) =
+        if-marked (nodeAt l (channelAt (l .plan) b .sender) .crashed) (λ e. absurd (true≢false (sym (ap (λ (x : ℕ). nodeAt l x .crashed) q ∙ marked) ∙ inv .marks .not-joined b h e))) (λ e. e)
+
+    pub child-unmarked : (c : ℕ) → Leaves (l .plan) n c → nodeAt l (channelAt (l .plan) c .receiver) .crashed ≡ false
+    child-unmarked c (h, q) = inv .marks .not-joined c h (ap (λ (x : ℕ). nodeAt l x .crashed) q ∙ marked)
+
+    pub parent-up : (b : ℕ) → Enters (l .plan) n b → isUp l (channelAt (l .plan) b .sender)
+    parent-up b h = inv .marks .stopped (channelAt (l .plan) b .sender) (parent-unmarked b h)
+
+    pub child-up : (c : ℕ) → Leaves (l .plan) n c → isUp l (channelAt (l .plan) c .receiver)
+    child-up c h = inv .marks .stopped (channelAt (l .plan) c .receiver) (child-unmarked c h)
+
+    pub own : Taken (l .plan) n (map inputOf (g n))
+    own = marked-took (inv .marks) (inv .nodes) n marked
+
+    -- An event came through a channel that is known by its sender.
+    pub one-channel : (b c : ℕ) (m : Message) (t : ℕ) → Enters (l .plan) n b → In (tookAt c m t) (g n) → channelAt (l .plan) c .sender ≡ channelAt (l .plan) b .sender → c ≡ b
+    one-channel b c m t h i q = let (on, into, _) = taken-in (l .plan) n (g n) own i in inv .ordered .alone c b on (h .0) q (into ∙ sym (h .1))
+
+    got-here : (b : ℕ) → Enters (l .plan) n b → gotOf b (g n) ≡ until timeOf (cut b) (put (l .plan) g b)
+    unfolding got
+    got-here b h = ap (λ (k : ℕ). gotOf b (g k)) (sym (h .1)) ∙ inv .channels b (h .0) .cut-is
+
+    pub got-rises : (b : ℕ) → Enters (l .plan) n b → Rises timeOf 0 (gotOf b (g n))
+    got-rises b h = subst (λ (x : List Message). Rises timeOf 0 x) (sym (got-here b h)) (rises-keep timeOf (λ (m : Message). leb (m .time) (cut b)) (inv .channels b (h .0) .rises))
+
+    -- What it took of a channel was put on it.
+    pub taken-put : (b : ℕ) (m : Message) (t : ℕ) → Enters (l .plan) n b → In (tookAt b m t) (g n) → In m (put (l .plan) g b)
+    taken-put b m t h i = keep-in (λ (x : Message). leb (x .time) (cut b)) (put (l .plan) g b) (subst (λ (x : List Message). In m x) (got-here b h) (in-got i)) .0
