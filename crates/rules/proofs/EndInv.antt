@@ -7,7 +7,7 @@ use mathlib.Core.List.{List, [], _∷_, _++_, map}
 use native.Mathlib.Omega.{arith}
 use native.Mathlib.Decide.{ℕ-discrete}
 use lib.ListN.{length, length-set}
-use lib.Dec.{eqb, leb}
+use lib.Dec.{eqb, leb, ltb}
 use borrow.Author.Tests.{eq-eqb, eqb-true, leb-true}
 use Rattle.placing.specs.Rules.{KeepsRules}
 use Rattle.plan.specs.declared.Record.{Record}
@@ -33,7 +33,8 @@ use Rattle.rules.proofs.Joins.{in-leaving, leaving-in, in-entering, ent
 use Rattle.rules.proofs.Targets.{high-above}
 use Rattle.rules.proofs.PlacedEvents.{PlacedEvents, placed-events}
 use Rattle.rules.proofs.Inv.{timeOf, Enters, Leaves, Reached, targetFrom, Replays, Channels, Inv}
-use Rattle.rules.proofs.InvLaws.{replay-marked, marked-took}
+use Rattle.rules.proofs.InvLaws.{replay-marked}
+use Rattle.rules.proofs.MarkedLaws.{own, one-channel, taken-put, got-rises}
 use Rattle.rules.proofs.Stays.{moved}
 use Rattle.rules.proofs.RebuildEvents.{Rebuilding}
 use Rattle.rules.proofs.RebuildInv.{ghostAfter, cutAfter, rebuild-inv}
@@ -65,3 +66,95 @@ some-leaves p n e = first (leaving p n) (λ c i. leaving-in p n c i) e
     first : (cs : List ℕ) → ((c : ℕ) → In c cs → Leaves p n c) → isNone cs ≡ false → (c : ℕ) × Leaves p n c
     first [] f z = absurd (true≢false z)
     first (c ∷ cs) f z = (c, f c here)
+
+module _ (l : Line) (g : Ghost) (cut base : ℕ → ℕ) (fed : List Act) (receipts : List Receipt) (crashes : List ℕ) (inv : Inv l g cut base fed receipts crashes) (n : ℕ) (replaying : nodeAt l n .status ≡ replay)
+    (columns : List ℕ) (keeps : KeepsRules (nodeAt l n .time) (highOf l n) (itemsByRow l n 0 (heldByRow (nodeAt l n .held) l (entering (l .plan) n))) columns)
+    (complete : rowsComplete l n ≡ true) (all-held : allOf (isHeld (nodeAt l n .held)) (nodeAt l n .targets) ≡ true) where
+  -- What is held of an entering channel.
+  abbrev rowOf : ℕ → List Message
+  rowOf b = keep (goesOn (l .plan) n) (past timeOf (base b) (until timeOf (laneAt l b .taken) (put (l .plan) g b)))
+
+  marked : nodeAt l n .crashed ≡ true
+  marked = replay-marked (inv .marks) n replaying
+
+  R : Replays l g cut base n
+  R = inv .replays n replaying
+
+  held-rows : (b : ℕ) → In b (entering (l .plan) n) → keep (λ (h : Held). eqb (h .sender) (channelAt (l .plan) b .sender)) (nodeAt l n .held) ≡ map (heldOf (l .plan) n b) (rowOf b)
+  held-rows b i = R .rows b (entering-in (l .plan) n b i) .held
+
+  found : (fs : List Event) × PlacedEvents l n rowOf columns fs
+  found = placed-events l n rowOf columns held-rows keeps
+
+  abbrev fs : List Event
+  fs = found .0
+
+  P : PlacedEvents l n rowOf columns fs
+  P = found .1
+
+  row-put : (b : ℕ) (m : Message) → In m (rowOf b) → In m (put (l .plan) g b)
+  row-put b m i =
+      keep-in (λ (x : Message). leb (x .time) (laneAt l b .taken)) (put (l .plan) g b)
+      (keep-in (λ (x : Message). ltb (base b) (x .time)) (until timeOf (laneAt l b .taken) (put (l .plan) g b)) (keep-in (goesOn (l .plan) n) (past timeOf (base b) (until timeOf (laneAt l b .taken) (put (l .plan) g b))) i .0) .0) .0
+
+  -- A held record that is a target was an event at the target's time.
+  fixed-event : (b : ℕ) (m : Message) → Enters (l .plan) n b → In m (put (l .plan) g b) → fixedAt (nodeAt l n .targets) (heldOf (l .plan) n b m) ≢ 0 → In (tookAt b m (fixedAt (nodeAt l n .targets) (heldOf (l .plan) n b m))) (g n)
+  fixed-event b m h i d =
+      let A = channelAt (l .plan) b .sender in
+      let ts = nodeAt l n .targets in
+      let f : Target → Bool = λ u. eqb (u .parent) A && eqb (u .parentTime) (m .time) in
+      elim (greatest-in (map (λ (u : Target). u .time) (keep f ts))) [
+        | inl z ↦ absurd (d z)
+        | inr j ↦
+            (let (u, k, e) = map-in (λ (u : Target). u .time) (keep f ts) j in
+            let (on, q) = keep-in f ts k in
+            let (p, s) = both-true (eqb (u .parent) A) (eqb (u .parentTime) (m .time)) q in
+            let (c, x, t, y, is, _, _) = R .target-from u on in
+            let same : c ≡ b = one-channel inv n marked b c x t h y (ap (λ (z : Target). z .parent) (sym is) ∙ eqb-true (u .parent) A p) in
+            let y′ : In (tookAt b x t) (g n) = subst (λ (z : ℕ). In (tookAt z x t) (g n)) same y in
+            let mine : x ≡ m = rises-once timeOf (inv .channels b (h .0) .rises) (taken-put inv n marked b x t h y′) i (ap (λ (z : Target). z .parentTime) (sym is) ∙ eqb-true (u .parentTime) (m .time) s) in
+            let at : t ≡ fixedAt ts (heldOf (l .plan) n b m) = ap (λ (z : Target). z .time) (sym is) ∙ sym e in
+            subst (λ (z : ℕ). In (tookAt b m z) (g n)) at (subst (λ (z : Message). In (tookAt b z t) (g n)) mine y′))
+      ]
+
+  module _ (b : ℕ) (m : Message) (t : ℕ) where
+    -- An event past low that has reached a child is a target, is held, and is placed at its time.
+    reached-placed : In (tookAt b m t) (g n) → nodeAt l n .time < t → Reached l n m t → In (tookAt b m t) fs
+    reached-placed i late reached =
+        let (on, into, _) = taken-in (l .plan) n (g n) (own inv n marked) i in
+        let h : Enters (l .plan) n b = (on, into) in
+        let A = channelAt (l .plan) b .sender in
+        let ts = nodeAt l n .targets in
+        let target = R .target-of b m t i late reached in
+        let (held, j, q) = any-in (λ (x : Held). eqb (x .sender) A && eqb (x .time) (m .time)) (nodeAt l n .held) (all-in (isHeld (nodeAt l n .held)) all-held target) in
+        let (s, u) = both-true (eqb (held .sender) A) (eqb (held .time) (m .time)) q in
+        let (x, k, e) = map-in (heldOf (l .plan) n b) (rowOf b) (subst (λ (z : List Held). In held z) (R .rows b h .held) (in-keep (λ (z : Held). eqb (z .sender) A) j s)) in
+        let put-m = taken-put inv n marked b m t h i in
+        let mine : x ≡ m = rises-once timeOf (inv .channels b on .rises) (row-put b x k) put-m (ap (λ (z : Held). z .time) (sym e) ∙ eqb-true (held .time) (m .time) u) in
+        let (v, w) = P .placed b m (in-entering (l .plan) n b on into) (subst (λ (z : Message). In z (rowOf b)) mine k) in
+        let F = fixedAt ts (heldOf (l .plan) n b m) in
+        let among : t ≤ F = in-greatest (in-map (λ (z : Target). z .time) (in-keep (λ (z : Target). eqb (z .parent) A && eqb (z .parentTime) (m .time)) target (rw (eq-eqb A A refl, eq-eqb (m .time) (m .time) refl)))) in
+        let nonzero : F ≢ 0 = λ z. omega arith in
+        let goes = takes-passed (l .plan) n (applied (ruleAt (l .plan) n) (m .what)) (reached .channel) (reached .on-plan) (reached .leaves) (reached .takes-it) in
+        let not-later : F ≤ t = order-kept (l .plan) n (g n) (inv .events n .rise) (got-rises inv n marked b h) (fixed-event b m h put-m nonzero) i goes goes (omega arith) in
+        let at : v ≡ t = P .fixed b m v w nonzero ∙ omega arith in
+        subst (λ (z : ℕ). In (tookAt b m z) fs) at w
+
+    -- What was placed not past the entry of a child that takes it was an event: a free record lies above that entry.
+    placed-reached : In (tookAt b m t) fs → (c : ℕ) → Leaves (l .plan) n c → takes (channelAt (l .plan) c) (applied (ruleAt (l .plan) n) (m .what)) ≡ true → t ≤ laneAt l c .taken → In (tookAt b m t) (g n)
+    unfolding floorOf
+    placed-reached w c leaves fits late =
+        let F = fixedAt (nodeAt l n .targets) (heldOf (l .plan) n b m) in
+        let (b′, m′, t′, e, i, j) = P .took (tookAt b m t) w in
+        let q : b′ ≡ b = cc in
+        let q′ : m′ ≡ m = cc in
+        let h : Enters (l .plan) n b = subst (Enters (l .plan) n) q (entering-in (l .plan) n b′ i) in
+        let on : In m (rowOf b) = subst (λ (z : ℕ). In m (rowOf z)) q (subst (λ (z : Message). In z (rowOf b′)) q′ j) in
+        elim (ℕ-discrete F 0) [
+          | yes z ↦
+              (let above = P .free b m t w z in
+              let floor : laneAt l c .taken ≤ greatestOf (map (λ (x : ℕ). laneAt l x .taken) (taking (l .plan) n (applied (ruleAt (l .plan) n) (m .what)))) =
+              in-greatest (in-map (λ (x : ℕ). laneAt l x .taken) (in-taking (l .plan) n (applied (ruleAt (l .plan) n) (m .what)) c (leaves .0) (leaves .1) fits)) in
+              let no : ⊥ = omega arith in absurd no)
+          | no d ↦ subst (λ (z : ℕ). In (tookAt b m z) (g n)) (sym (P .fixed b m t w d)) (fixed-event b m h (row-put b m on) d)
+        ]
