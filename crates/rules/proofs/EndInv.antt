@@ -17,7 +17,7 @@ use Rattle.plan.specs.Plan.{Plan, ruleAt, channelAt, nodeCount, channelCount, i
 use Rattle.plan.specs.Mask.{taking}
 use Rattle.basics.specs.Bools.{both-true}
 use Rattle.rules.specs.Lists.{keep, allOf, anyOf, joined, greatestOf}
-use Rattle.rules.specs.Line.{Message, Held, Target, Status, up, replay, Node, Lane, Line, nodeAt, laneAt, withNode}
+use Rattle.rules.specs.Line.{Message, Entry, Held, Target, Status, up, replay, Node, Lane, Line, nodeAt, laneAt, withNode}
 use Rattle.rules.specs.Recover.{highOf, rowGoal, rowComplete, rowsComplete}
 use Rattle.rules.specs.Replay.{fixedAt, floorOf, heldByRow, itemsByRow, isHeld, placedLog, nodePlaced}
 use Rattle.rules.specs.Plain.{Act, Receipt}
@@ -158,3 +158,51 @@ module _ (l : Line) (g : Ghost) (cut base : ℕ → ℕ) (fed : List Act) (recei
               let no : ⊥ = omega arith in absurd no)
           | no d ↦ subst (λ (z : ℕ). In (tookAt b m z) (g n)) (sym (P .fixed b m t w d)) (fixed-event b m h (row-put b m on) d)
         ]
+
+  enters-took : (c : ℕ) (x : Message) (u : ℕ) → In (tookAt c x u) fs → (c < channelCount (l .plan)) × (channelAt (l .plan) c .receiver ≡ n) × (channelAt (l .plan) c .sender < n)
+  enters-took c x u w =
+      let (b′, m′, t′, e, i, j) = P .took (tookAt c x u) w in
+      let q : b′ ≡ c = cc in
+      let (on, into) = subst (Enters (l .plan) n) q (entering-in (l .plan) n b′ i) in
+      (on, into, omega (arith, into, inv .ordered .forward c on))
+
+  rebuilding : Rebuilding l g base n (highOf l n) fs
+  unfolding rowsComplete rowComplete
+  rebuilding =
+      let (c, out) = some-leaves (l .plan) n (inv .marks .between n marked .1) in
+      record {
+        took = taken-by (l .plan) n (took-all fs (λ e i. (let (b, m, t, q, _, _) = P .took e i in (b, m, t, q)))) enters-took;
+        rises = P .rises;
+        within = P .within;
+        got-is = λ b h. P .got-is b (in-entering (l .plan) n b (h .0) (h .1));
+        complete = λ b h. leb-true (rowGoal (nodeAt l n .targets) (channelAt (l .plan) b .sender)) (laneAt l b .taken) (all-in (rowComplete l n) complete (in-entering (l .plan) n b (h .0) (h .1)));
+        low = omega (arith, R .low c out, high-above l n c (out .0) (out .1));
+        high = λ d o. high-above l n d (o .0) (o .1);
+        reached-placed = reached-placed;
+        placed-reached = placed-reached;
+      }
+
+  pub end-inv : n < nodeCount (l .plan) → (g′ : Ghost) × (cut′ : ℕ → ℕ) × Inv (withNode n (nodePlaced l n (joined (heldByRow (nodeAt l n .held) l (entering (l .plan) n))) columns) l) g′ cut′ base fed receipts crashes
+  unfolding withNode nodePlaced
+  end-inv inside = (
+    ghostAfter l g cut base fed receipts crashes inv n inside replaying (highOf l n) fs rebuilding (l .steps) nodes long now other,
+    cutAfter l g cut base fed receipts crashes inv n inside replaying (highOf l n) fs rebuilding (l .steps) nodes long now other,
+    rebuild-inv l g cut base fed receipts crashes inv n inside replaying (highOf l n) fs rebuilding (l .steps) nodes long now other,
+  )
+    where
+      placed : Node
+      placed = nodePlaced l n (joined (heldByRow (nodeAt l n .held) l (entering (l .plan) n))) columns
+
+      nodes : List Node
+      nodes = withNode n (nodePlaced l n (joined (heldByRow (nodeAt l n .held) l (entering (l .plan) n))) columns) l .nodes
+
+      long : length (withNode n (nodePlaced l n (joined (heldByRow (nodeAt l n .held) l (entering (l .plan) n))) columns) l .nodes) ≡ length (l .nodes)
+      long = length-set (l .nodes) n placed
+
+      now : nodeAt (withNode n (nodePlaced l n (joined (heldByRow (nodeAt l n .held) l (entering (l .plan) n))) columns) l) n ≡ record { status = up; crashed = true; time = highOf l n; log = map (entryOf (l .plan) n) fs; held = []; targets = [] }
+      now =
+          node-there n placed l (rw (inv .shape .nodes-long) inside) ∙ ap (λ (x : Bool). record { status = up; crashed = x; time = highOf l n; log = placedLog (joined (heldByRow (nodeAt l n .held) l (entering (l .plan) n))) columns; held = []; targets = [] }) marked
+          ∙ ap (λ (x : List Entry). record { status = up; crashed = true; time = highOf l n; log = x; held = []; targets = [] }) (P .log-is)
+
+      other : (m : ℕ) → m ≢ n → nodeAt (withNode n (nodePlaced l n (joined (heldByRow (nodeAt l n .held) l (entering (l .plan) n))) columns) l) m ≡ nodeAt l m
+      other m d = node-else n placed l m d
