@@ -86,7 +86,7 @@ module _ (l : Line) (g : Ghost) (cut base : ℕ → ℕ) (fed : List Act) (recei
   to-goal : m .time ≤ rowGoal (nodeAt l n .targets) (channelAt (l .plan) b .sender)
   to-goal =
       elim (greatest-in (map (λ (u : Target). u .parentTime) (keep (λ (u : Target). eqb (u .parent) (channelAt (l .plan) b .sender)) (nodeAt l n .targets)))) [
-        | inl q ↦ (let no : ⊥ = omega (arith, open-row) in absurd no)
+        | inl q ↦ (let no : ⊥ = omega arith in absurd no)
         | inr i ↦
             (let (u, j, goal) = map-in (λ (u : Target). u .parentTime) (keep (λ (u : Target). eqb (u .parent) (channelAt (l .plan) b .sender)) (nodeAt l n .targets)) i in
             let (k, parent) = keep-in (λ (u : Target). eqb (u .parent) (channelAt (l .plan) b .sender)) (nodeAt l n .targets) j in
@@ -96,7 +96,7 @@ module _ (l : Line) (g : Ghost) (cut base : ℕ → ℕ) (fed : List Act) (recei
             let time : u .parentTime ≡ y .time = ap (λ (x : Target). x .parentTime) is in
             let gotten : In y (got (l .plan) g b) = in-got (l .plan) g b y t (subst (λ (x : ℕ). In (tookAt x y t) (g n)) same took) in
             let there = keep-in (λ (x : Message). leb (x .time) (cut b)) puts (subst (λ (x : List Message). In y x) (inv .channels b here .cut-is) gotten) .0 in
-            let after = next-first timeOf (next .1) there (omega (arith, open-row)) in
+            let after = next-first timeOf (next .1) there (omega arith) in
             omega arith)
       ]
 
@@ -107,14 +107,17 @@ module _ (l : Line) (g : Ghost) (cut base : ℕ → ℕ) (fed : List Act) (recei
       ∙ ap (keep (goesOn (l .plan) n)) (past-snoc timeOf (until timeOf (laneAt l b .taken) puts) m (omega (arith, own-row .base-taken, next .2)))
       ∙ keep-append (goesOn (l .plan) n) (past timeOf (base b) (until timeOf (laneAt l b .taken) puts)) (m ∷ [])
 
-  -- The line after the Take: node n holds the message if it goes on, and is else as it was.
-  module _ (nodes : List Node) (long : length nodes ≡ length (l .nodes)) (others : (k : ℕ) → k ≢ n → nodeAt (moved l (l .steps) nodes (beside .lanes)) k ≡ nodeAt l k)
-      (status : nodeAt (moved l (l .steps) nodes (beside .lanes)) n .status ≡ nodeAt l n .status) (mark : nodeAt (moved l (l .steps) nodes (beside .lanes)) n .crashed ≡ nodeAt l n .crashed)
-      (time : nodeAt (moved l (l .steps) nodes (beside .lanes)) n .time ≡ nodeAt l n .time) (log : nodeAt (moved l (l .steps) nodes (beside .lanes)) n .log ≡ nodeAt l n .log)
-      (targets : nodeAt (moved l (l .steps) nodes (beside .lanes)) n .targets ≡ nodeAt l n .targets)
-      (held : nodeAt (moved l (l .steps) nodes (beside .lanes)) n .held ≡ nodeAt l n .held ++ keepOne (goesOn (l .plan) n m) (heldOf (l .plan) n b m) []) where
+  -- The line after the Take, by its nodes.
+  abbrev lineOf : List Node → Line
+  lineOf nodes = moved l (l .steps) nodes (beside .lanes)
+
+  -- Node n holds the message if it goes on, and is else as it was.
+  module _ (nodes : List Node) (long : length nodes ≡ length (l .nodes)) (others : (k : ℕ) → k ≢ n → nodeAt (lineOf nodes) k ≡ nodeAt l k)
+      (status : nodeAt (lineOf nodes) n .status ≡ nodeAt l n .status) (mark : nodeAt (lineOf nodes) n .crashed ≡ nodeAt l n .crashed) (time : nodeAt (lineOf nodes) n .time ≡ nodeAt l n .time)
+      (log : nodeAt (lineOf nodes) n .log ≡ nodeAt l n .log) (targets : nodeAt (lineOf nodes) n .targets ≡ nodeAt l n .targets)
+      (held : nodeAt (lineOf nodes) n .held ≡ nodeAt l n .held ++ keepOne (goesOn (l .plan) n m) (heldOf (l .plan) n b m) []) where
     abbrev after : Line
-    after = moved l (l .steps) nodes (beside .lanes)
+    after = lineOf nodes
 
     everywhere : {A : Type 0} (f : Node → A) → f (nodeAt after n) ≡ f (nodeAt l n) → (k : ℕ) → f (nodeAt after k) ≡ f (nodeAt l k)
     everywhere f e k = elim (ℕ-discrete k n) [ yes q ↦ ap (λ (x : ℕ). f (nodeAt after x)) q ∙ e ∙ ap (λ (x : ℕ). f (nodeAt l x)) (sym q) | no d ↦ ap f (others k d) ]
@@ -191,15 +194,15 @@ module _ (l : Line) (g : Ghost) (cut base : ℕ → ℕ) (fed : List Act) (recei
           waiting = λ e. absurd (up-not-replay (sym alive ∙ e));
         }
 
-    row-own : Row l g (cut b) (base b) n b → Row after g (cut b) (base b) n b
-    row-own r =
+    row-own : Row after g (cut b) (base b) n b
+    row-own =
         record {
-          base-got = r .base-got;
-          base-taken = omega (arith, r .base-taken, next .2, entry-now);
+          base-got = own-row .base-got;
+          base-taken = omega (arith, own-row .base-taken, next .2, entry-now);
           to-goal = rw (entry-now, targets) (omega (arith, to-goal));
           held =
               ap (keep from) held ∙ keep-more from t h (nodeAt l n .held) (eq-eqb (channelAt (l .plan) b .sender) (channelAt (l .plan) b .sender) refl)
-              ∙ ap (λ (x : List Held). x ++ keepOne t h []) (r .held) ∙ sym (map-more (heldOf (l .plan) n b) t m (keep (goesOn (l .plan) n) (past timeOf (base b) (until timeOf (laneAt l b .taken) puts))))
+              ∙ ap (λ (x : List Held). x ++ keepOne t h []) (own-row .held) ∙ sym (map-more (heldOf (l .plan) n b) t m (keep (goesOn (l .plan) n) (past timeOf (base b) (until timeOf (laneAt l b .taken) puts))))
               ∙ ap (map (heldOf (l .plan) n b)) (sym row-more)
               ∙ ap (λ (x : ℕ). map (heldOf (l .plan) n b) (keep (goesOn (l .plan) n) (past timeOf (base b) (until timeOf x puts)))) (sym entry-now);
         }
@@ -231,7 +234,7 @@ module _ (l : Line) (g : Ghost) (cut base : ℕ → ℕ) (fed : List Act) (recei
     replay-own =
         replays-keep l (l .steps) nodes (beside .lanes) g g n log time targets refl
         (λ c h. ap (λ (x : Lane). x .taken) (lane-else b taken l c (λ q. apart (ap (λ (x : ℕ). channelAt (l .plan) x .sender) (sym q) ∙ h .1)))) cut cut base base
-        (λ c h r. elim (ℕ-discrete c b) [ yes q ↦ subst (λ (x : ℕ). Row after g (cut x) (base x) n x) (sym q) (row-own own-row) | no d ↦ row-other c d h r ]) (λ c h. refl)
+        (λ c h r. elim (ℕ-discrete c b) [ yes q ↦ subst (λ (x : ℕ). Row after g (cut x) (base x) n x) (sym q) row-own | no d ↦ row-other c d h r ]) (λ c h. refl)
         (λ c y t i. took-enters (g n) c y t (marked-took (inv .marks) (inv .nodes) n marked) i .1) old
 
     replay-other : (k : ℕ) → k ≢ n → nodeAt after k .status ≡ replay → Replays after g cut base k
