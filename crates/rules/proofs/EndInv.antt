@@ -2,14 +2,19 @@
 use Prim.Native.Nat.{ℕ, zero, suc, max, _+_, _<_, _≤_}
 use mathlib.Core.Path.{_≡_, refl, sym, ap, subst, _∙_}
 use mathlib.Core.Logic.{_≢_, _⊎_, inl, inr}
-use mathlib.Core.Bool.{Bool, true, false, true≢false, _&&_, _||_}
+use mathlib.Core.Bool.{Bool, true, false, true≢false, not, _&&_, _||_}
 use mathlib.Core.List.{List, [], _∷_, _++_, map}
+use mathlib.Core.Option.{Option, none, some}
 use native.Mathlib.Omega.{arith}
 use native.Mathlib.Decide.{ℕ-discrete}
 use lib.ListN.{length, length-set}
 use lib.Dec.{eqb, leb, ltb}
 use borrow.Author.Tests.{eq-eqb, eqb-true, leb-true}
+use Rattle.placing.specs.Item.{Item}
+use Rattle.placing.specs.Table.{tableFits}
+use Rattle.placing.specs.Answer.{unplaceable, chosenColumns}
 use Rattle.placing.specs.Rules.{KeepsRules}
+use Rattle.placing.proofs.Promise.{accepted}
 use Rattle.plan.specs.declared.Record.{Record}
 use Rattle.plan.specs.Rule.{applied}
 use Rattle.plan.specs.Channel.{takes}
@@ -19,7 +24,7 @@ use Rattle.basics.specs.Bools.{both-true}
 use Rattle.rules.specs.Lists.{keep, allOf, anyOf, joined, greatestOf}
 use Rattle.rules.specs.Line.{Message, Entry, Held, Target, Status, up, replay, Node, Lane, Line, nodeAt, laneAt, withNode}
 use Rattle.rules.specs.Recover.{highOf, rowGoal, rowComplete, rowsComplete}
-use Rattle.rules.specs.Replay.{fixedAt, floorOf, heldByRow, itemsByRow, isHeld, placedLog, nodePlaced}
+use Rattle.rules.specs.Replay.{fixedAt, floorOf, heldByRow, itemsByRow, isHeld, placedLog, placing, nodePlaced}
 use Rattle.rules.specs.Plain.{Act, Receipt}
 use Rattle.rules.proofs.Rising.{until, past, Rises}
 use Rattle.rules.proofs.Members.{In, here, there, in-none, in-keep, keep-in, in-map, map-in, in-greatest, greatest-in, rises-once}
@@ -206,3 +211,19 @@ module _ (l : Line) (g : Ghost) (cut base : ℕ → ℕ) (fed : List Act) (recei
 
       other : (m : ℕ) → m ≢ n → nodeAt (withNode n (nodePlaced l n (joined (heldByRow (nodeAt l n .held) l (entering (l .plan) n))) columns) l) m ≡ nodeAt l m
       other m d = node-else n placed l m d
+
+some-same : {A : Type 0} {x y : A} → some x ≡ some y → x ≡ y
+some-same e = cc
+
+none-some : {A B : Type 0} {x : A} → none ≡ some x → B
+none-some e = let z : _≡_ {A = ℕ} 0 1 = cc in let no : ⊥ = omega arith in absurd no
+
+-- The placing's promise: columns that it gives keep the rules.
+placing-keeps : (low high : ℕ) (table : List Item) (columns : List ℕ) → placing low high table ≡ some columns → KeepsRules low high table columns
+unfolding placing
+placing-keeps low high table columns = go (tableFits low high table) (unplaceable low high table) refl refl
+  where
+    go : (fits lacks : Bool) → tableFits low high table ≡ fits → unplaceable low high table ≡ lacks → (elim (fits && not lacks) [ true ↦ some (chosenColumns low high table) | false ↦ none ]) ≡ some columns → KeepsRules low high table columns
+    go true false f u e = subst (KeepsRules low high table) (some-same e) (accepted low high table f u)
+    go true true f u e = none-some e
+    go false lacks f u e = none-some e

@@ -113,6 +113,10 @@ sender-sends {time} {lane} {log} {puts} {cut} m rest r rises e s =
 pub sender-receiving : {time : ℕ} {lane : Lane} {log puts : List Message} {cut : ℕ} {old new : Type 0} → (new → old) → SenderUp time lane log puts cut old → SenderUp time lane log puts cut new
 sender-receiving f s = record { within = s .within; cut-within = s .cut-within; taken-within = s .taken-within; to-come = s .to-come; queue = λ r. s .queue (f r) }
 
+-- Another cut.
+pub sender-cut : {time : ℕ} {lane : Lane} {log puts : List Message} {cut cut′ : ℕ} {receiving : Type 0} → cut′ ≤ time → SenderUp time lane log puts cut receiving → SenderUp time lane log puts cut′ receiving
+sender-cut h s = record { within = s .within; cut-within = h; taken-within = s .taken-within; to-come = s .to-come; queue = s .queue }
+
 -- The same channel under equal values.
 pub sender-same : {time time′ : ℕ} {lane lane′ : Lane} {log log′ puts puts′ : List Message} {cut cut′ : ℕ} {receiving : Type 0} → time ≡ time′ → lane ≡ lane′ → log ≡ log′ → puts ≡ puts′ → cut ≡ cut′
     → SenderUp time lane log puts cut receiving → SenderUp time′ lane′ log′ puts′ cut′ receiving

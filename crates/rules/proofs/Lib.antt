@@ -37,3 +37,4 @@ pub mod PlanOrder
 pub mod RebuildEvents
 pub mod RebuildInv
 pub mod EndInv
+pub mod HoldInv

@@ -22,6 +22,26 @@ pub map-append : {A B : Type 0} (g : A → B) (xs ys : List A) → map g (xs ++ 
 map-append g [] ys = refl
 map-append g (x ∷ xs) ys = ap (λ (l : List _). g x ∷ l) (map-append g xs ys)
 
+-- One more or none at the end, through a test that it passes, through one that it fails, and through a map.
+module _ {A : Type 0} (f : A → Bool) (t : Bool) (x : A) (xs : List A) where
+  pub keep-more : f x ≡ true → keep f (xs ++ keepOne t x []) ≡ keep f xs ++ keepOne t x []
+  keep-more e = keep-append f xs (keepOne t x []) ∙ ap (λ (ys : List A). keep f xs ++ ys) (one t)
+    where
+      one : (s : Bool) → keep f (keepOne s x []) ≡ keepOne s x []
+      one true = ap (λ (s : Bool). keepOne s x []) e
+      one false = refl
+
+  pub keep-none : f x ≡ false → keep f (xs ++ keepOne t x []) ≡ keep f xs
+  keep-none e = keep-append f xs (keepOne t x []) ∙ ap (λ (ys : List A). keep f xs ++ ys) (one t) ∙ nil-right (keep f xs)
+    where
+      one : (s : Bool) → keep f (keepOne s x []) ≡ []
+      one true = ap (λ (s : Bool). keepOne s x []) e
+      one false = refl
+
+pub map-more : {A B : Type 0} (f : A → B) (t : Bool) (x : A) (xs : List A) → map f (xs ++ keepOne t x []) ≡ map f xs ++ keepOne t (f x) []
+map-more f true x xs = map-append f xs (x ∷ [])
+map-more f false x xs = map-append f xs []
+
 cons-rest : {A : Type 0} {x y : A} {xs ys : List A} → x ∷ xs ≡ y ∷ ys → xs ≡ ys
 cons-rest e = cc
 

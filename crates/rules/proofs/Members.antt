@@ -6,8 +6,10 @@ use mathlib.Core.Bool.{Bool, true, false, true≢false}
 use mathlib.Core.List.{List, [], _∷_, _++_, map}
 use native.Mathlib.Omega.{arith}
 use native.Mathlib.Decide.{decLe}
+use lib.Dec.{leb}
+use borrow.Author.Tests.{le-leb}
 use Rattle.rules.specs.Lists.{keep, keepOne, joined, greatestOf}
-use Rattle.rules.proofs.Rising.{Rises, none, more, Within, none-in, more-in}
+use Rattle.rules.proofs.Rising.{until, Rises, none, more, Within, none-in, more-in, within-until}
 
 pub data In {A : Type 0} (x : A) : List A → Type 0 where
   here : {xs : List A} → In x (x ∷ xs)
@@ -103,6 +105,17 @@ module _ {A : Type 0} (time : A → ℕ) where
   pub within-by : {k : ℕ} (xs : List A) → ((x : A) → In x xs → time x ≤ k) → Within time k xs
   within-by [] f = none-in
   within-by (x ∷ xs) f = more-in {x = x} (f x here) (within-by xs (λ y i. f y (there i)))
+
+  -- The one that ends what lies up to its time, where the others lie up to k, is the first past k.
+  pub next-first : {k : ℕ} {x y : A} {xs : List A} → until time (time x) xs ≡ until time k xs ++ x ∷ [] → In y xs → k < time y → time x ≤ time y
+  next-first {k} {x} {y} {xs} e i l =
+      elim (decLe (time x) (time y)) [
+        | yes h ↦ h
+        | no h ↦ elim (append-in (until time k xs) (subst (λ (ys : List A). In y ys) e (in-keep (λ (z : A). leb (time z) (time x)) i (le-leb (time y) (time x) (omega arith))))) [
+          | inl j ↦ (let u = within-in (within-until time k xs) j in let no : ⊥ = omega arith in absurd no)
+          | inr j ↦ elim (in-first j) [ inl q ↦ (let u = ap time q in let no : ⊥ = omega arith in absurd no) | inr z ↦ absurd (in-none z) ]
+        ]
+      ]
 
   -- In a rising list a time stands once.
   pub rises-once : {a : ℕ} {x y : A} {xs : List A} → Rises time a xs → In x xs → In y xs → time x ≡ time y → x ≡ y

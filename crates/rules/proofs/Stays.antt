@@ -50,6 +50,36 @@ module _ (l : Line) (steps : ℕ) (nodes : List Node) (lanes : List Lane) (g g�
           waiting = λ h. ap (λ (x : Lane). x .mark) lane ∙ e .waiting (sym (ap (λ (x : Node). x .status) sender) ∙ h) ∙ ap (λ (x : Lane). x .taken) (sym lane);
         }
 
+  -- A replaying node whose log, time and targets are as they were, with its events and its children's entries.
+  module _ (n : ℕ) (log : nodeAt k n .log ≡ nodeAt l n .log) (time : nodeAt k n .time ≡ nodeAt l n .time) (targets : nodeAt k n .targets ≡ nodeAt l n .targets) (events : g′ n ≡ g n)
+      (leaving : (c : ℕ) → Leaves (l .plan) n c → laneAt k c .taken ≡ laneAt l c .taken) where
+    reached-back : (m : Message) (t : ℕ) → Reached k n m t → Reached l n m t
+    reached-back m t r = record { channel = r .channel; on-plan = r .on-plan; leaves = r .leaves; takes-it = r .takes-it; in-time = omega (arith, r .in-time, leaving (r .channel) (r .on-plan, r .leaves)) }
+
+    reached-on : (m : Message) (t : ℕ) → Reached l n m t → Reached k n m t
+    reached-on m t r = record { channel = r .channel; on-plan = r .on-plan; leaves = r .leaves; takes-it = r .takes-it; in-time = omega (arith, r .in-time, leaving (r .channel) (r .on-plan, r .leaves)) }
+
+    pub replays-keep : (cut cut′ base base′ : ℕ → ℕ) → ((b : ℕ) → Enters (l .plan) n b → Row l g (cut b) (base b) n b → Row k g′ (cut′ b) (base′ b) n b) → ((b : ℕ) → channelAt (l .plan) b .receiver ≡ n → base′ b ≡ base b)
+        → ((b : ℕ) (m : Message) (t : ℕ) → In (tookAt b m t) (g n) → channelAt (l .plan) b .receiver ≡ n) → Replays l g cut base n → Replays k g′ cut′ base′ n
+    replays-keep cut cut′ base base′ rows bases own r =
+        record {
+          log-none = log ∙ r .log-none;
+          low = λ c h. omega (arith, time, leaving c h, r .low c h);
+          target-from = λ u i.
+              (let (b, m, t, j, e, h, q) = r .target-from u (subst (λ (x : List Target). In u x) targets i) in
+              (b, m, t, subst (λ (x : List Event). In (tookAt b m t) x) (sym events) j, e, omega (arith, time), reached-on m t q));
+          target-of = λ b m t i h q. subst (λ (x : List Target). In (targetFrom (l .plan) b m t) x) (sym targets) (r .target-of b m t (back b m t i) (omega (arith, time)) (reached-back m t q));
+          base-cuts = λ b m t i h.
+              (let j = back b m t i in
+              let (f, f′) = r .base-cuts b m t j h in
+              let q = bases b (own b m t j) in
+              (λ z. (let y = f (omega arith) in omega (arith, time)), λ z. (let y = f′ (omega (arith, time)) in omega arith)));
+          rows = λ b h. rows b h (r .rows b h);
+        }
+      where
+        back : (b : ℕ) (m : Message) (t : ℕ) → In (tookAt b m t) (g′ n) → In (tookAt b m t) (g n)
+        back b m t i = subst (λ (x : List Event). In (tookAt b m t) x) events i
+
   -- A node that is as it was, with its events.
   module _ (n : ℕ) (same : nodeAt k n ≡ nodeAt l n) (events : g′ n ≡ g n) where
     pub events-stay : Events l g n → Events k g′ n
@@ -60,36 +90,10 @@ module _ (l : Line) (steps : ℕ) (nodes : List Node) (lanes : List Lane) (g g�
               (subst (λ (x : List Event). Within timeOf (nodeAt l n .time) (passing (l .plan) n x)) (sym events) (e .within (ap (λ (x : Node). x .status) (sym same) ∙ h)));
         }
 
-    module _ (leaving : (c : ℕ) → Leaves (l .plan) n c → laneAt k c .taken ≡ laneAt l c .taken) where
-      reached-back : (m : Message) (t : ℕ) → Reached k n m t → Reached l n m t
-      reached-back m t r = record { channel = r .channel; on-plan = r .on-plan; leaves = r .leaves; takes-it = r .takes-it; in-time = omega (arith, r .in-time, leaving (r .channel) (r .on-plan, r .leaves)) }
-
-      reached-on : (m : Message) (t : ℕ) → Reached l n m t → Reached k n m t
-      reached-on m t r = record { channel = r .channel; on-plan = r .on-plan; leaves = r .leaves; takes-it = r .takes-it; in-time = omega (arith, r .in-time, leaving (r .channel) (r .on-plan, r .leaves)) }
-
-      pub replays-stay : (cut cut′ base base′ : ℕ → ℕ) → ((b : ℕ) → Enters (l .plan) n b → Row l g (cut b) (base b) n b → Row k g′ (cut′ b) (base′ b) n b) → ((b : ℕ) → channelAt (l .plan) b .receiver ≡ n → base′ b ≡ base b)
-          → ((b : ℕ) (m : Message) (t : ℕ) → In (tookAt b m t) (g n) → channelAt (l .plan) b .receiver ≡ n) → Replays l g cut base n → Replays k g′ cut′ base′ n
-      replays-stay cut cut′ base base′ rows bases own r =
-          record {
-            log-none = ap (λ (x : Node). x .log) same ∙ r .log-none;
-            low = λ c h. omega (arith, time, leaving c h, r .low c h);
-            target-from = λ u i.
-                (let (b, m, t, j, e, h, q) = r .target-from u (subst (λ (x : Node). In u (x .targets)) same i) in
-                (b, m, t, subst (λ (x : List Event). In (tookAt b m t) x) (sym events) j, e, omega (arith, time), reached-on m t q));
-            target-of = λ b m t i h q. subst (λ (x : Node). In (targetFrom (l .plan) b m t) (x .targets)) (sym same) (r .target-of b m t (back b m t i) (omega (arith, time)) (reached-back m t q));
-            base-cuts = λ b m t i h.
-                (let j = back b m t i in
-                let (f, f′) = r .base-cuts b m t j h in
-                let q = bases b (own b m t j) in
-                (λ z. (let y = f (omega arith) in omega (arith, time)), λ z. (let y = f′ (omega (arith, time)) in omega arith)));
-            rows = λ b h. rows b h (r .rows b h);
-          }
-        where
-          time : nodeAt k n .time ≡ nodeAt l n .time
-          time = ap (λ (x : Node). x .time) same
-
-          back : (b : ℕ) (m : Message) (t : ℕ) → In (tookAt b m t) (g′ n) → In (tookAt b m t) (g n)
-          back b m t i = subst (λ (x : List Event). In (tookAt b m t) x) events i
+    pub replays-stay : ((c : ℕ) → Leaves (l .plan) n c → laneAt k c .taken ≡ laneAt l c .taken) → (cut cut′ base base′ : ℕ → ℕ) → ((b : ℕ) → Enters (l .plan) n b → Row l g (cut b) (base b) n b → Row k g′ (cut′ b) (base′ b) n b)
+        → ((b : ℕ) → channelAt (l .plan) b .receiver ≡ n → base′ b ≡ base b)
+        → ((b : ℕ) (m : Message) (t : ℕ) → In (tookAt b m t) (g n) → channelAt (l .plan) b .receiver ≡ n) → Replays l g cut base n → Replays k g′ cut′ base′ n
+    replays-stay = replays-keep n (ap (λ (x : Node). x .log) same) (ap (λ (x : Node). x .time) same) (ap (λ (x : Node). x .targets) same) events
 
   -- A row whose entry is as it was, and with it what was put on the channel up to it.
   pub row-stays : (cut cut′ base base′ n b : ℕ) → nodeAt k n ≡ nodeAt l n → laneAt k b .taken ≡ laneAt l b .taken → cut ≤ cut′ → base′ ≡ base
