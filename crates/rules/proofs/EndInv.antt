@@ -24,7 +24,7 @@ use Rattle.basics.specs.Bools.{both-true}
 use Rattle.rules.specs.Lists.{keep, allOf, anyOf, joined, greatestOf}
 use Rattle.rules.specs.Line.{Message, Entry, Held, Target, Status, up, replay, Node, Lane, Line, nodeAt, laneAt, withNode}
 use Rattle.rules.specs.Recover.{highOf, rowGoal, rowComplete, rowsComplete}
-use Rattle.rules.specs.Replay.{fixedAt, floorOf, heldByRow, itemsByRow, isHeld, placedLog, placing, nodePlaced}
+use Rattle.rules.specs.Replay.{fixedAt, floorOf, heldByRow, itemsByRow, isHeld, placedLog, placing, nodePlaced, replayEnd, endedIfComplete}
 use Rattle.rules.specs.Plain.{Act, Receipt}
 use Rattle.rules.proofs.Rising.{until, past, Rises}
 use Rattle.rules.proofs.Members.{In, here, there, in-none, in-keep, keep-in, in-map, map-in, in-greatest, greatest-in, rises-once}
@@ -227,3 +227,32 @@ placing-keeps low high table columns = go (tableFits low high table) (unplaceabl
     go true false f u e = subst (KeepsRules low high table) (some-same e) (accepted low high table f u)
     go true true f u e = none-some e
     go false lacks f u e = none-some e
+
+-- What a replay's end leads to, as far as this proof goes.
+abbrev pub Goes : Line → (ℕ → ℕ) → List Act → List Receipt → List ℕ → Type 0
+Goes k base fed receipts crashes = (g : Ghost) × (cut : ℕ → ℕ) × Inv k g cut base fed receipts crashes
+
+module _ (l : Line) (g : Ghost) (cut base : ℕ → ℕ) (fed : List Act) (receipts : List Receipt) (crashes : List ℕ) (inv : Inv l g cut base fed receipts crashes) (n : ℕ) (replaying : nodeAt l n .status ≡ replay) (inside : n < nodeCount (l .plan)) where
+  abbrev rows : List (List Held)
+  rows = heldByRow (nodeAt l n .held) l (entering (l .plan) n)
+
+  placed-inv : (k : Line) → rowsComplete l n ≡ true → replayEnd n l ≡ some k → Goes k base fed receipts crashes
+  unfolding replayEnd
+  placed-inv k complete = go (allOf (isHeld (nodeAt l n .held)) (nodeAt l n .targets)) (placing (nodeAt l n .time) (highOf l n) (itemsByRow l n 0 rows)) refl refl
+    where
+      go : (held : Bool) (chosen : Option (List ℕ)) → allOf (isHeld (nodeAt l n .held)) (nodeAt l n .targets) ≡ held → placing (nodeAt l n .time) (highOf l n) (itemsByRow l n 0 rows) ≡ chosen
+          → (elim held [ false ↦ none | true ↦ elim chosen [ none ↦ none | some columns ↦ some (withNode n (nodePlaced l n (joined rows) columns) l) ] ]) ≡ some k → Goes k base fed receipts crashes
+      go false chosen h p e = none-some e
+      go true none h p e = none-some e
+      go true (some columns) h p e =
+          subst (λ (x : Line). Goes x base fed receipts crashes) (some-same e)
+          (end-inv l g cut base fed receipts crashes inv n replaying columns (placing-keeps (nodeAt l n .time) (highOf l n) (itemsByRow l n 0 rows) columns p) complete h inside)
+
+  -- "When all rows are complete, in that same step": ended, or as it was.
+  pub ended-inv : (k : Line) → endedIfComplete n l ≡ some k → Goes k base fed receipts crashes
+  unfolding endedIfComplete
+  ended-inv k = go (rowsComplete l n) refl (λ c e. placed-inv k c e)
+    where
+      go : (complete : Bool) → rowsComplete l n ≡ complete → (rowsComplete l n ≡ true → replayEnd n l ≡ some k → Goes k base fed receipts crashes) → (elim complete [ true ↦ replayEnd n l | false ↦ some l ]) ≡ some k → Goes k base fed receipts crashes
+      go true c f e = f c e
+      go false c f e = subst (λ (x : Line). Goes x base fed receipts crashes) (some-same e) (g, cut, inv)
