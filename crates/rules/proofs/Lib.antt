@@ -38,3 +38,4 @@ pub mod RebuildEvents
 pub mod RebuildInv
 pub mod EndInv
 pub mod HoldInv
+pub mod RecoverInv
