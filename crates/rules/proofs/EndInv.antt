@@ -212,10 +212,10 @@ module _ (l : Line) (g : Ghost) (cut base : ℕ → ℕ) (fed : List Act) (recei
       other : (m : ℕ) → m ≢ n → nodeAt (withNode n (nodePlaced l n (joined (heldByRow (nodeAt l n .held) l (entering (l .plan) n))) columns) l) m ≡ nodeAt l m
       other m d = node-else n placed l m d
 
-some-same : {A : Type 0} {x y : A} → some x ≡ some y → x ≡ y
+pub some-same : {A : Type 0} {x y : A} → some x ≡ some y → x ≡ y
 some-same e = cc
 
-none-some : {A B : Type 0} {x : A} → none ≡ some x → B
+pub none-some : {A B : Type 0} {x : A} → none ≡ some x → B
 none-some e = let z : _≡_ {A = ℕ} 0 1 = cc in let no : ⊥ = omega arith in absurd no
 
 -- The placing's promise: columns that it gives keep the rules.

@@ -14,11 +14,13 @@ use Rattle.plan.specs.Plan.{Plan, channelAt, nodeCount, channelCount, isSource,
 use Rattle.rules.specs.Lists.{keep, greatestOf}
 use Rattle.rules.specs.Line.{Message, Held, Target, Status, up, down, replay, Node, Lane, Line, nodeAt, laneAt, withNode, withLane, withLanes, freshLane}
 use Rattle.rules.specs.Clock.{messageOf}
-use Rattle.rules.specs.Recover.{lowOf, targetsOf, restored, recovered, statusOf}
+use Rattle.rules.specs.Recover.{lowOf, targetsOf, restored, recovered, statusOf, rowGoal, conflict, noTargets}
+use Rattle.rules.specs.Replay.{endedIfComplete}
+use Rattle.rules.specs.Step.{recoveredLine}
 use Rattle.rules.specs.Plain.{Act, Receipt}
-use Rattle.rules.proofs.Rising.{until, past, Rises, Within, past-none, within-until, within-higher, until-none, rises-past}
-use Rattle.rules.proofs.Members.{In, keep-in}
-use Rattle.rules.proofs.Witness.{Taken}
+use Rattle.rules.proofs.Rising.{until, past, Rises, none, Within, none-in, past-none, within-until, within-higher, until-none, rises-past}
+use Rattle.rules.proofs.Members.{In, in-none, keep-in}
+use Rattle.rules.proofs.Witness.{Taken, none}
 use Rattle.rules.proofs.LineLaws.{node-there, node-else}
 use Rattle.rules.proofs.Ghost.{Event, tookAt, Ghost, inputOf, takesMessage, put, got, gotOf, logPut}
 use Rattle.rules.proofs.Passing.{goesOn, heldOf}
@@ -33,6 +35,9 @@ use Rattle.rules.proofs.TakeKeeps.{no-source}
 use Rattle.rules.proofs.Stays.{moved, channel-stays, ends-stay, events-stay, replays-stay, row-stays}
 use Rattle.rules.proofs.Swept.{swept, swept-line, swept-long, swept-enters, swept-leaves, swept-else}
 use Rattle.rules.proofs.CrashInv.{log-whole}
+use Rattle.rules.proofs.RebuildEvents.{Rebuilding}
+use Rattle.rules.proofs.RebuildInv.{ghostAfter, cutAfter, rebuild-inv}
+use Rattle.rules.proofs.EndInv.{Goes, ended-inv, none-some, some-same}
 
 module _ (l : Line) (g : Ghost) (cut base : ℕ → ℕ) (fed : List Act) (receipts : List Receipt) (crashes : List ℕ) (inv : Inv l g cut base fed receipts crashes) (n : ℕ) (inside : n < nodeCount (l .plan)) (is-down : nodeAt l n .status ≡ down) where
   marked : nodeAt l n .crashed ≡ true
@@ -239,3 +244,121 @@ module _ (l : Line) (g : Ghost) (cut base : ℕ → ℕ) (fed : List Act) (recei
             (λ z. (let y = f z in omega (arith, time-now)), λ z. f′ (omega (arith, time-now))));
         rows = row-now;
       }
+
+  -- Another node that replays is not joined to this one.
+  replays-other : (m : ℕ) → m ≢ n → nodeAt r m .status ≡ replay → Replays r g cut baseAfter m
+  replays-other m d e =
+      let same = node-other replay m d in
+      let old : nodeAt l m .status ≡ replay = ap (λ (x : Node). x .status) (sym same) ∙ e in
+      let mark = replay-marked (inv .marks) m old in
+      let into : (b : ℕ) → Enters (l .plan) m b → laneAt r b ≡ laneAt l b =
+      λ b h. lane-other b (λ q. d (sym (h .1) ∙ q)) (λ q. true≢false (sym mark ∙ ap (λ (x : ℕ). nodeAt l x .crashed) (sym (h .1)) ∙ child-unmarked inv n marked b (h .0, q))) in
+      let out : (c : ℕ) → Leaves (l .plan) m c → laneAt r c ≡ laneAt l c =
+      λ c h. lane-other c (λ q. true≢false (sym mark ∙ ap (λ (x : ℕ). nodeAt l x .crashed) (sym (h .1)) ∙ parent-unmarked inv n marked c (h .0, q))) (λ q. d (sym (h .1) ∙ q)) in
+      replays-stay l (l .steps) (r .nodes) (r .lanes) g g m same refl (λ c h. ap (λ (x : Lane). x .taken) (out c h)) cut cut base baseAfter
+      (λ b h w. row-stays l (l .steps) (r .nodes) (r .lanes) g g (cut b) (cut b) (base b) (baseAfter b) m b same (ap (λ (x : Lane). x .taken) (into b h)) (omega arith) (base-other b (λ q. d (sym (h .1) ∙ q))) refl w)
+      (λ b q. base-other b (λ z. d (sym q ∙ z)))
+      (λ b y t i. took-enters (l .plan) m (g m) (marked-took (inv .marks) (inv .nodes) m mark) i .1) (inv .replays m old)
+
+  mark-same : (m : ℕ) → nodeAt r m .crashed ≡ nodeAt l m .crashed
+  mark-same m = elim (ℕ-discrete m n) [
+    | yes q ↦ ap (λ (x : ℕ). nodeAt r x .crashed) q ∙ still-marked ∙ sym (ap (λ (x : ℕ). nodeAt l x .crashed) q ∙ marked)
+    | no d ↦ ap (λ (x : Node). x .crashed) (node-other replay m d)
+  ]
+
+  unmarked-same : (m : ℕ) → nodeAt r m .crashed ≡ false → nodeAt r m ≡ nodeAt l m
+  unmarked-same m e = node-other replay m (λ q. true≢false (sym (ap (λ (x : ℕ). nodeAt r x .crashed) q ∙ still-marked) ∙ e))
+
+  restored-shape : Shape r
+  unfolding withNode recovered
+  restored-shape = record {
+    nodes-long = nodes-count replay ∙ inv .shape .nodes-long;
+    lanes-long = swept-long entered left (withNode n (restoredNode (statusOf (targetsOf l n))) l) n (inv .ordered) (inv .shape .lanes-long) ∙ inv .shape .lanes-long;
+  }
+
+  restored-inv : Inv r g cut baseAfter fed receipts crashes
+  restored-inv =
+      record {
+        shape = restored-shape;
+        ordered = inv .ordered;
+        marks = record {
+          were-named = λ m e. mark-same m ∙ inv .marks .were-named m e;
+          not-joined = λ b h e. mark-same (channelAt (l .plan) b .receiver) ∙ inv .marks .not-joined b h (sym (mark-same (channelAt (l .plan) b .sender)) ∙ e);
+          between = λ m e. inv .marks .between m (sym (mark-same m) ∙ e);
+          stopped = λ m e. ap (λ (x : Node). x .status) (unmarked-same m e) ∙ inv .marks .stopped m (sym (mark-same m) ∙ e);
+        };
+        nodes = record {
+          only-feeds = inv .nodes .only-feeds;
+          sources = inv .nodes .sources;
+          others = inv .nodes .others;
+          beyond = inv .nodes .beyond;
+          received = λ m e. inv .nodes .received m (sym (mark-same m) ∙ e);
+          logged = λ m e. ap (λ (x : Node). x .log) (unmarked-same m e) ∙ inv .nodes .logged m (sym (mark-same m) ∙ e);
+        };
+        events = λ m. elim (ℕ-discrete m n) [
+          | yes q ↦ record { rise = inv .events m .rise; within = λ e. absurd (up-not-replay (sym e ∙ ap (λ (x : ℕ). nodeAt r x .status) q ∙ now-replays)) }
+          | no d ↦ events-stay l (l .steps) (r .nodes) (r .lanes) g g m (node-other replay m d) refl (inv .events m)
+        ];
+        channels = λ c h. at-ends (l .plan) n c h (channel-enters c) (channel-leaves c)
+            (λ d e. channel-stays l (l .steps) (r .nodes) (r .lanes) g g c (node-other replay (channelAt (l .plan) c .sender) e) (ap (λ (x : Node). x .status) (node-other replay (channelAt (l .plan) c .receiver) d)) (lane-other c d e) refl cut cut refl refl (inv .channels c h));
+        ends = λ c h. at-ends (l .plan) n c h (ends-enters c) (ends-leaves c)
+            (λ d e. ends-stay l (l .steps) (r .nodes) (r .lanes) g g c (node-other replay (channelAt (l .plan) c .sender) e) (ap (λ (x : Node). x .status) (node-other replay (channelAt (l .plan) c .receiver) d)) (lane-other c d e) refl (ap (λ (x : Node). x .crashed) (node-other replay (channelAt (l .plan) c .receiver) d)) (inv .ends c h));
+        replays = λ m e. elim (ℕ-discrete m n) [
+          | yes q ↦ subst (Replays r g cut baseAfter) (sym q) replays-now
+          | no d ↦ replays-other m d e
+        ];
+      }
+
+  -- Without targets nothing is to be placed: the node is up with what its children all have.
+  module _ (no-targets : targetsOf l n ≡ []) where
+    nothing-placed : Rebuilding r g baseAfter n (lowOf l n) []
+    nothing-placed =
+        record {
+          took = none;
+          rises = none;
+          within = none-in;
+          got-is = λ b h.
+              (let is = base-now b (h .1) in
+              let entry = taken-enters b h in
+              ap (keep (goesOn (l .plan) n)) (sym (past-none timeOf (within-higher timeOf (omega (arith, is, entry)) (within-until timeOf (laneAt r b .taken) (put (l .plan) g b))))));
+          complete = λ b h. (let e = ap (λ (x : List Target). rowGoal x (channelAt (l .plan) b .sender)) (targets-now ∙ no-targets) in omega (arith, e));
+          low = omega (arith, time-now);
+          high = λ c h. omega (arith, taken-leaves c h, none-above l g n (inv .ordered) took-own child no-targets c (h .0) (h .1));
+          reached-placed = λ b m t i late reached. absurd (in-none (subst (λ (x : List Target). In (targetFrom (l .plan) b m t) x) (targets-now ∙ no-targets) (replays-now .target-of b m t i late reached)));
+          placed-reached = λ b m t i. absurd (in-none i);
+        }
+
+    up-inv : (g′ : Ghost) × (cut′ : ℕ → ℕ) × Inv (restoredAs up) g′ cut′ baseAfter fed receipts crashes
+    up-inv = (
+      ghostAfter r g cut baseAfter fed receipts crashes restored-inv n inside now-replays (lowOf l n) [] nothing-placed (l .steps) (restoredAs up .nodes) long now other,
+      cutAfter r g cut baseAfter fed receipts crashes restored-inv n inside now-replays (lowOf l n) [] nothing-placed (l .steps) (restoredAs up .nodes) long now other,
+      rebuild-inv r g cut baseAfter fed receipts crashes restored-inv n inside now-replays (lowOf l n) [] nothing-placed (l .steps) (restoredAs up .nodes) long now other,
+    )
+      where
+        long : length (restoredAs up .nodes) ≡ length (restoredAs replay .nodes)
+        long = nodes-count up ∙ sym (nodes-count replay)
+
+        now : nodeAt (restoredAs up) n ≡ record { status = up; crashed = true; time = lowOf l n; log = []; held = []; targets = [] }
+        now = node-now up ∙ ap (λ (x : List Target). record { status = up; crashed = true; time = lowOf l n; log = []; held = []; targets = x }) no-targets
+
+        other : (m : ℕ) → m ≢ n → nodeAt (restoredAs up) m ≡ nodeAt (restoredAs replay) m
+        other m d = node-other up m d ∙ sym (node-other replay m d)
+
+  abbrev Goes-on : Line → Type 0
+  Goes-on k = (g′ : Ghost) × (cut′ : ℕ → ℕ) × (base′ : ℕ → ℕ) × Inv k g′ cut′ base′ fed receipts crashes
+
+  goes-on : (k : Line) → Goes k baseAfter fed receipts crashes → Goes-on k
+  goes-on k (g′, cut′, i) = (g′, cut′, baseAfter, i)
+
+  pub recover-inv : (k : Line) → recoveredLine n l ≡ some k → (g′ : Ghost) × (cut′ : ℕ → ℕ) × (base′ : ℕ → ℕ) × Inv k g′ cut′ base′ fed receipts crashes
+  unfolding recoveredLine
+  recover-inv k = go (conflict (targetsOf l n)) (targetsOf l n) refl
+    where
+      go : (clash : Bool) (ts : List Target) → targetsOf l n ≡ ts → (elim clash [ true ↦ none | false ↦ elim (noTargets ts) [ true ↦ some (recovered n l) | false ↦ endedIfComplete n (recovered n l) ] ]) ≡ some k → Goes-on k
+      go true ts q e = none-some e
+      go false [] q e =
+          let (g′, cut′, i) = up-inv q in
+          subst Goes-on (sym (recovered-is ∙ ap (λ (x : List Target). restoredAs (statusOf x)) q) ∙ some-same e) (g′, cut′, baseAfter, i)
+      go false (t ∷ ts) q e =
+          let same : recovered n l ≡ restoredAs replay = recovered-is ∙ ap (λ (x : List Target). restoredAs (statusOf x)) q in
+          goes-on k (ended-inv r g cut baseAfter fed receipts crashes restored-inv n now-replays inside k (ap (endedIfComplete n) (sym same) ∙ e))
