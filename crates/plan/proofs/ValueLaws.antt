@@ -1,19 +1,16 @@
 -- Records, rules and channels are read back and written back.
-use Prim.Native.Nat.{ℕ, zero, suc, _+_, _*_, _^_, _≤_, _<_}
-use mathlib.Core.Path.{_≡_, refl, sym, ap, _∙_, subst}
-use mathlib.Core.Bool.{Bool, true, false, cond, _&&_, _||_, true≢false}
-use mathlib.Core.List.{List, [], _∷_, _++_}
+use Prim.Native.Nat.{ℕ, _<_}
+use mathlib.Core.Path.{_≡_, refl, sym, subst}
+use mathlib.Core.Bool.{Bool, true, false, cond, _&&_, true≢false}
+use mathlib.Core.List.{List, [], _∷_}
 use native.Mathlib.Omega.{arith}
-use borrow.Author.Tests.{eqb-true, eqb-false, leb-true}
+use borrow.Author.Tests.{eqb-true}
 use lib.Dec.{lit<, eqb, leb}
-use lib.ListN.{length, getD}
-use Rattle.plan.specs.declared.Record.{Record}
+use lib.ListN.{getD}
 use Rattle.plan.specs.declared.Rule.{Rule}
 use Rattle.plan.specs.declared.Rule.the-variants.{Keep, Relabel, Cap}
-use Rattle.plan.specs.declared.Channel.{Channel}
-use Rattle.plan.specs.Layout.{Layout, fields, via}
-use Rattle.plan.specs.Lawful.{Bytes, Lawful, FieldsFit}
-use Rattle.plan.specs.Record.{recordNumbers, recordOf, recordFields, recordLayout, recordFits, materialFits}
+use Rattle.plan.specs.Lawful.{Lawful, FieldsFit}
+use Rattle.plan.specs.Record.{recordNumbers, recordOf, recordFields, recordLayout}
 use Rattle.plan.specs.Rule.{ruleNumbers, ruleOf, ruleOfKind, ruleFields, ruleLayout, ruleFits, ruleKindFits}
 use Rattle.plan.specs.Channel.{channelNumbers, channelOf, channelFields, channelLayout}
 use Rattle.plan.specs.Fits.{RecordFits, RuleFits, ChannelFits}
@@ -40,8 +37,8 @@ record-numbers (a ∷ b ∷ c ∷ d ∷ e ∷ ns) h z = absurd (h .1 .1 .1 .1)
 
 pub record-lawful : Lawful recordLayout RecordFits (λ s. getD (recordFields .read s) 2 0 ≡ 0)
 unfolding recordLayout
-record-lawful = via-lawful recordFields recordNumbers recordOf (FieldsFit (4 ∷ 1 ∷ 1 ∷ 2 ∷ [])) (λ ns. getD ns 2 0 ≡ 0)
-    (fields-lawful (4 ∷ 1 ∷ 1 ∷ 2 ∷ [])) (λ r h. refl) record-numbers-fit record-numbers
+record-lawful =
+    via-lawful recordFields recordNumbers recordOf (fields-lawful (4 ∷ 1 ∷ 1 ∷ 2 ∷ [])) (λ r h. refl) record-numbers-fit (λ s h z. (tt, record-numbers (recordFields .read s) h z))
 
 -- ---- rules
 
@@ -91,8 +88,8 @@ rule-read (Cap q) = refl
 
 pub rule-lawful : Lawful ruleLayout RuleFits (λ s. ruleFits (ruleFields .read s) ≡ true)
 unfolding ruleLayout
-rule-lawful = via-lawful ruleFields ruleNumbers ruleOf (FieldsFit (1 ∷ 1 ∷ 2 ∷ [])) (λ ns. ruleFits ns ≡ true)
-    (fields-lawful (1 ∷ 1 ∷ 2 ∷ [])) (λ r h. rule-read r) rule-numbers-fit rule-numbers
+rule-lawful =
+    via-lawful ruleFields ruleNumbers ruleOf (fields-lawful (1 ∷ 1 ∷ 2 ∷ [])) (λ r h. rule-read r) rule-numbers-fit (λ s h e. (tt, rule-numbers (ruleFields .read s) h e))
 
 -- ---- channels
 
@@ -107,5 +104,6 @@ channel-numbers (a ∷ b ∷ c ∷ d ∷ e ∷ f ∷ ns) h = absurd (h .1 .1 .1 
 
 pub channel-lawful : Lawful channelLayout ChannelFits (λ s. Unit {0})
 unfolding channelLayout
-channel-lawful = via-lawful channelFields channelNumbers channelOf (FieldsFit (1 ∷ 1 ∷ 2 ∷ 1 ∷ 1 ∷ [])) (λ ns. Unit {0})
-    (fields-lawful (1 ∷ 1 ∷ 2 ∷ 1 ∷ 1 ∷ [])) (λ c h. refl) (λ ns h. subst (FieldsFit (1 ∷ 1 ∷ 2 ∷ 1 ∷ 1 ∷ [])) (sym (channel-numbers ns h)) h) (λ ns h u. channel-numbers ns h)
+channel-lawful =
+    via-lawful channelFields channelNumbers channelOf (fields-lawful (1 ∷ 1 ∷ 2 ∷ 1 ∷ 1 ∷ [])) (λ c h. refl)
+    (λ ns h. subst (FieldsFit (1 ∷ 1 ∷ 2 ∷ 1 ∷ 1 ∷ [])) (sym (channel-numbers ns h)) h) (λ s h u. (tt, channel-numbers (channelFields .read s) h))

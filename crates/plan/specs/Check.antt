@@ -1,14 +1,14 @@
 -- The refusals of a plan, 1 to 7 (document 01, "Numbers returned").
-use Prim.Native.Nat.{ℕ, zero, suc, _+_, _*_}
+use Prim.Native.Nat.{ℕ, zero, suc}
 use mathlib.Core.Bool.{Bool, true, false, not, _&&_, _||_}
 use mathlib.Core.List.{List, [], _∷_}
-use lib.ListN.{length, getD, take, drop}
+use lib.ListN.{length, drop}
 use lib.Dec.{leb, ltb, eqb}
 use Rattle.plan.specs.declared.Channel.{Channel}
-use Rattle.plan.specs.Layout.{Layout, readSlots}
+use Rattle.plan.specs.Layout.{readSlots}
 use Rattle.plan.specs.Rule.{ruleFields, ruleFits}
 use Rattle.plan.specs.Channel.{channelFits, channelAfter}
-use Rattle.plan.specs.Plan.{Plan, planOf, planLength, planVersion, planNodes, planChannels, planSize, entering, leaving}
+use Rattle.plan.specs.Plan.{Plan, planOf, planLength, planVersion, planNodes, planChannels, planSize, headLayout, entering, leaving}
 
 -- 1: "plan under 5 bytes, or not its length field"
 unfoldable pub badLength : List ℕ → Bool
@@ -36,8 +36,8 @@ rulesFit [] = true
 rulesFit (r ∷ rest) = ruleFits r && rulesFit rest
 
 unfoldable pub badRules : List ℕ → Bool
-unfolding planNodes ruleFields
-badRules s = not (rulesFit (readSlots ruleFields (planNodes s) (drop 5 s)))
+unfolding planNodes headLayout ruleFields
+badRules s = not (rulesFit (readSlots ruleFields (planNodes s) (drop (headLayout .size) s)))
 
 -- 6: "belt fields or order"
 abbrev pub channelsFit : ℕ → ℕ → ℕ → List Channel → Bool
