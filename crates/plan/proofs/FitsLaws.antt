@@ -13,7 +13,7 @@ use Rattle.plan.specs.declared.Rule.the-variants.{Keep, Relabel, Cap}
 use Rattle.plan.specs.declared.Channel.{Channel}
 use Rattle.plan.specs.Layout.{readSlots, writeSlots}
 use Rattle.plan.specs.Lawful.{Bytes, Each}
-use Rattle.plan.specs.Rule.{ruleFields, ruleLayout, ruleFits, ruleKindFits, ruleOfKind, ruleNumbers}
+use Rattle.plan.specs.Rule.{ruleWidths, ruleFields, ruleLayout, ruleFits, ruleKindFits, ruleOfKind, ruleNumbers}
 use Rattle.plan.specs.Channel.{channelFits, channelAfter, channelLayout}
 use Rattle.plan.specs.Plan.{Plan, nodeCount, channelCount, planOf, planBytes, planLength, planVersion, planNodes}
 use Rattle.plan.specs.Check.{countsFit, rulesFit, channelsFit, fourAtMost, planRefusal, ruleAllowed, rulesAllowed, channelsSpelled, planFits}
@@ -81,7 +81,7 @@ rules-allowed zero s h e = refl
 rules-allowed (suc n) s h e =
     let t = both-true (ruleFits (ruleFields .read (take 4 s))) (rulesFit (readSlots ruleFields n (drop 4 s))) e in
     let ns = ruleFields .read (take 4 s) in
-    let short = fields-fit (1 ∷ 1 ∷ 2 ∷ []) (take 4 s) (bytes-take 4 s h) .1 .1 .0 in
+    let short = fields-fit ruleWidths (take 4 s) (bytes-take 4 s h) .1 .1 .0 in
     rw (kind-allowed (getD ns 0 0) (getD ns 1 0) (getD ns 2 0) short (t .0), rules-allowed n (drop 4 s) (bytes-drop 4 s h) (t .1))
 
 channels-spelled : (cs : List Channel) → Each ChannelFits cs → channelsSpelled cs ≡ true
@@ -154,7 +154,7 @@ unfolding ruleLayout
 rules-written [] e = refl
 rules-written (r ∷ rs) e =
     let t = both-true (ruleAllowed r) (rulesAllowed rs) e in
-    let read = ap ruleFits (fields-read (1 ∷ 1 ∷ 2 ∷ []) (ruleNumbers r) (rule-spelled r (t .0))) ∙ numbers-fit r (t .0) in
+    let read = ap ruleFits (fields-read ruleWidths (ruleNumbers r) (rule-spelled r (t .0))) ∙ numbers-fit r (t .0) in
     rw (
       take-at (ruleLayout .write r) (writeSlots ruleLayout (length rs) rs) 4 (rule-lawful .sized r),
       drop-at (ruleLayout .write r) (writeSlots ruleLayout (length rs) rs) 4 (rule-lawful .sized r),

@@ -7,12 +7,12 @@ use native.Mathlib.Omega.{arith}
 use lib.Dec.{lit<}
 use lib.ListN.{length, getD, take, drop}
 use Rattle.plan.specs.Layout.{pair, slots, readSlots}
-use Rattle.plan.specs.Lawful.{Bytes, EachSlot, FieldsFit, SlotsFit, Lawful}
+use Rattle.plan.specs.Lawful.{Bytes, EachSlot, FieldsFit, Lawful}
 use Rattle.plan.specs.Rule.{ruleFields, ruleLayout, ruleFits}
 use Rattle.plan.specs.Channel.{channelLayout}
-use Rattle.plan.specs.Plan.{Plan, nodeCount, channelCount, planOf, planBytes, planLength, planVersion, planNodes, planChannels, planSize, headLayout, bodyLayout, planLayout, headNumbers}
+use Rattle.plan.specs.Plan.{Plan, nodeCount, channelCount, planOf, planBytes, planLength, planVersion, planNodes, planChannels, planSize, headWidths, headLayout, bodyLayout, planLayout, headNumbers}
 use Rattle.plan.specs.Check.{rulesFit, planRefusal}
-use Rattle.plan.specs.Fits.{RuleFits, ChannelFits, PlanFits}
+use Rattle.plan.specs.Fits.{BodyFits, PlanFits}
 use Rattle.plan.proofs.LayoutLaws.{fields-fit, fields-front, fields-lawful, via-lawful, pair-lawful, slots-lawful, slots-front, each-slot, length-readSlots}
 use Rattle.plan.proofs.ValueLaws.{rule-lawful, channel-lawful}
 use Rattle.plan.proofs.ReadLaws.{rules-of, channels-of}
@@ -24,9 +24,6 @@ use Rattle.basics.specs.Bools.{both-true}
 pub plan-size : (n m : ℕ) → planSize n m ≡ 5 + 4 * n + 6 * m
 unfolding planSize
 plan-size n m = omega arith
-
-abbrev pub BodyFits : ℕ → ℕ → Plan → Type 0
-BodyFits n m p = SlotsFit n RuleFits (p .rules) × SlotsFit m ChannelFits (p .channels)
 
 -- Check 5 says which bytes are a body's.
 rules-right : (n : ℕ) (s : List ℕ) → rulesFit (readSlots ruleFields n s) ≡ true → EachSlot (λ (t : List ℕ). ruleFits (ruleFields .read t) ≡ true) 4 n s
@@ -42,9 +39,6 @@ body-lawful n m =
     via-lawful (pair (slots n ruleLayout) (slots m channelLayout)) (λ p. (p .rules, p .channels)) (λ b. record { rules = b .0; channels = b .1 })
     (pair-lawful (slots-lawful rule-lawful n) (slots-lawful channel-lawful m)) (λ p h. refl) (λ b h. h)
     (λ s h e. ((rules-right n (take (n * 4) s) (ap rulesFit (slots-front ruleFields n s) ∙ e), each-slot (λ t. Unit {0}) (λ t. tt) 6 m (drop (n * 4) s)), refl))
-
-abbrev headWidths : List ℕ
-headWidths = 2 ∷ 1 ∷ 1 ∷ 1 ∷ []
 
 pub plan-lawful : (n m : ℕ) → Lawful (planLayout n m) (λ x. FieldsFit headWidths (x .0) × BodyFits n m (x .1)) (λ s. Unit {0} × (rulesFit (readSlots ruleFields n (drop 5 s)) ≡ true))
 unfolding planLayout

@@ -8,8 +8,8 @@ use lib.ListN.{length, getD, take, drop, length-drop, List·getD-eq-default}
 use lib.Seq.{drop-drop, getD-drop}
 use Rattle.plan.specs.declared.Rule.the-variants.{Keep}
 use Rattle.plan.specs.Layout.{spelled, readSlots}
-use Rattle.plan.specs.Rule.{ruleFields, ruleLayout, ruleOf, ruleOfKind}
-use Rattle.plan.specs.Channel.{channelFields, channelLayout, channelOf}
+use Rattle.plan.specs.Rule.{ruleWidths, ruleFields, ruleLayout, ruleOf, ruleOfKind}
+use Rattle.plan.specs.Channel.{channelWidths, channelFields, channelLayout, channelOf}
 use Rattle.plan.specs.Plan.{planOf, planVersion, planNodes, planChannels, ruleAt, channelAt, noChannel}
 use Rattle.plan.proofs.LayoutLaws.{fields-front, slot-at, slots-front, length-readSlots}
 
@@ -50,11 +50,11 @@ version-byte s = byte-field 2 s
 
 rule-fields : (a : ℕ) (s : List ℕ) → ruleFields .read (take 4 (drop a s)) ≡ getD s a 0 ∷ getD s (a + 1) 0 ∷ spelled 0 (take 2 (drop (a + 2) s)) ∷ []
 unfolding ruleFields
-rule-fields a s = fields-front (1 ∷ 1 ∷ 2 ∷ []) (drop a s) ∙ simp (drop-drop, add-assoc, byte-field)
+rule-fields a s = fields-front ruleWidths (drop a s) ∙ simp (drop-drop, add-assoc, byte-field)
 
 channel-fields : (a : ℕ) (s : List ℕ) → channelFields .read (take 6 (drop a s)) ≡ getD s a 0 ∷ getD s (a + 1) 0 ∷ spelled 0 (take 2 (drop (a + 2) s)) ∷ getD s (a + 4) 0 ∷ getD s (a + 5) 0 ∷ []
 unfolding channelFields
-channel-fields a s = fields-front (1 ∷ 1 ∷ 2 ∷ 1 ∷ 1 ∷ []) (drop a s) ∙ simp (drop-drop, add-assoc, byte-field)
+channel-fields a s = fields-front channelWidths (drop a s) ∙ simp (drop-drop, add-assoc, byte-field)
 
 -- The rules and the channels are slots of the bytes.
 pub rules-of : (s : List ℕ) → planOf s .rules ≡ readSlots ruleLayout (planNodes s) (drop 5 s)

@@ -61,9 +61,12 @@ unfolding leaving
 isSink p n = isNone (leaving p n)
 
 -- "A plan, big-endian: length of the whole plan (2 bytes), version 1, node count N, belt count M; then N rules of 4 bytes, then M belts of 6."
+abbrev pub headWidths : List ℕ
+headWidths = 2 ∷ 1 ∷ 1 ∷ 1 ∷ []
+
 unfoldable pub headLayout : Layout (List ℕ)
 unfolding fields
-headLayout = fields (2 ∷ 1 ∷ 1 ∷ 1 ∷ [])
+headLayout = fields headWidths
 
 unfoldable pub bodyLayout : ℕ → ℕ → Layout Plan
 unfolding ruleLayout channelLayout slots pair via
