@@ -1,17 +1,20 @@
 -- Lists of bytes: their parts and joins are bytes.
-use Prim.Native.Nat.{ℕ, zero, suc, _-_, _+_, _≤_, _<_}
-use mathlib.Core.Path.{_≡_, refl, sym, ap, _∙_}
+use Prim.Native.Nat.{ℕ, zero, suc, _-_, _<_}
+use mathlib.Core.Path.{_≡_, sym}
 use mathlib.Core.List.{List, [], _∷_, _++_}
 use native.Mathlib.Nat.{zero-sub, sub-zero, suc-sub-suc}
 use native.Mathlib.Omega.{arith}
-use lib.ListN.{length, getD, take, drop}
+use lib.ListN.{getD, take, drop}
 use lib.Seq.{take-nil}
-use Rattle.plan.specs.Lawful.{Bytes}
+use Rattle.plan.specs.Lawful.{Each, Bytes}
+
+pub each-take : {A : Type 0} (P : A → Type 0) (n : ℕ) (s : List A) → Each P s → Each P (take n s)
+each-take P zero s h = tt
+each-take P (suc n) [] h = tt
+each-take P (suc n) (x ∷ s) h = (h .0, each-take P n s (h .1))
 
 pub bytes-take : (n : ℕ) (s : List ℕ) → Bytes s → Bytes (take n s)
-bytes-take zero s h = tt
-bytes-take (suc n) [] h = tt
-bytes-take (suc n) (b ∷ s) h = (h .0, bytes-take n s (h .1))
+bytes-take n s h = each-take (λ (b : ℕ). b < 256) n s h
 
 pub bytes-drop : (n : ℕ) (s : List ℕ) → Bytes s → Bytes (drop n s)
 bytes-drop zero s h = h

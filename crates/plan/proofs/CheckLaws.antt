@@ -1,16 +1,16 @@
 -- What holds of a plan that no check refuses.
-use Prim.Native.Nat.{ℕ, zero, suc, _+_, _*_, _≤_, _<_}
-use mathlib.Core.Path.{_≡_, refl, sym, ap, _∙_}
-use mathlib.Core.Bool.{Bool, true, false, not, _&&_, _||_}
-use mathlib.Core.List.{List, [], _∷_, _++_}
+use Prim.Native.Nat.{ℕ, _≤_}
+use mathlib.Core.Path.{_≡_, refl, sym, _∙_}
+use mathlib.Core.Bool.{Bool, true, false, not, _&&_}
+use mathlib.Core.List.{List}
 use native.Mathlib.Omega.{arith}
-use borrow.Author.Tests.{eqb-true, leb-true, ltb-false, not-false}
+use borrow.Author.Tests.{eqb-true, leb-true, ltb-false, not-false, eq-eqb, le-leb, le-ltb}
 use lib.Dec.{leb, ltb, eqb}
-use lib.ListN.{length, getD, take, drop}
-use Rattle.plan.specs.Layout.{Layout, readSlots}
-use Rattle.plan.specs.Rule.{ruleFields, ruleFits}
-use Rattle.plan.specs.Plan.{Plan, planOf, planLength, planVersion, planNodes, planChannels, planSize}
-use Rattle.plan.specs.Check.{badLength, badVersion, badCounts, badSize, rulesFit, badRules, channelsFit, badChannels, fourAtMost, badDegrees, planRefusal}
+use lib.ListN.{length, drop}
+use Rattle.plan.specs.Layout.{readSlots}
+use Rattle.plan.specs.Rule.{ruleFields}
+use Rattle.plan.specs.Plan.{planOf, planLength, planVersion, planNodes, planChannels, planSize}
+use Rattle.plan.specs.Check.{badLength, badVersion, countsFit, badCounts, badSize, rulesFit, badRules, channelsFit, badChannels, fourAtMost, badDegrees, planRefusal}
 use Rattle.basics.specs.Bools.{both-true, neither-true}
 
 -- The first that applies, 0 where none does.
@@ -65,29 +65,53 @@ pub record Accepted (s : List ℕ) : Type 0 where
   pub channels : channelsFit (planNodes s) 0 0 (planOf s .channels) ≡ true
   pub degrees : fourAtMost (planOf s) (planNodes s) ≡ true
 
+-- Check 3's limits, as a test and as facts.
+pub counts-within : (n m : ℕ) → countsFit n m ≡ true → (2 ≤ n) × (n ≤ 12) × (1 ≤ m) × (m ≤ 24)
+counts-within n m e =
+    let a = both-true (leb 2 n && leb n 12 && leb 1 m) (leb m 24) e in
+    let b = both-true (leb 2 n && leb n 12) (leb 1 m) (a .0) in
+    let c = both-true (leb 2 n) (leb n 12) (b .0) in
+    (leb-true 2 n (c .0), leb-true n 12 (c .1), leb-true 1 m (b .1), leb-true m 24 (a .1))
+
+pub counts-fit : (n m : ℕ) → 2 ≤ n → n ≤ 12 → 1 ≤ m → m ≤ 24 → countsFit n m ≡ true
+counts-fit n m a b c d = rw (le-leb 2 n a, le-leb n 12 b, le-leb 1 m c, le-leb m 24 d)
+
 pub few-channels : (s : List ℕ) → badCounts s ≡ false → planChannels s ≤ 24
 unfolding badCounts
-few-channels s e = leb-true (planChannels s) 24 (both-true (leb 2 (planNodes s) && leb (planNodes s) 12 && leb 1 (planChannels s)) (leb (planChannels s) 24) (not-false _ e) .1)
+few-channels s e = counts-within (planNodes s) (planChannels s) (not-false _ e) .3
 
 pub accepted : (s : List ℕ) → planRefusal s ≡ 0 → Accepted s
 unfolding badLength badVersion badCounts badSize badRules badChannels badDegrees
 accepted s z =
     let n = none-applies (badLength s) (badVersion s) (badCounts s) (badSize s) (badRules s) (badChannels s) (badDegrees s) (sym (refusal-first s) ∙ z) in
     let l = neither-true (ltb (length s) 5) (not (eqb (planLength s) (length s))) (n .0) in
-    let c : (leb 2 (planNodes s) && leb (planNodes s) 12 && leb 1 (planChannels s) && leb (planChannels s) 24) ≡ true = not-false _ (n .2) in
-    let c₁ = both-true (leb 2 (planNodes s) && leb (planNodes s) 12 && leb 1 (planChannels s)) (leb (planChannels s) 24) c in
-    let c₂ = both-true (leb 2 (planNodes s) && leb (planNodes s) 12) (leb 1 (planChannels s)) (c₁ .0) in
-    let c₃ = both-true (leb 2 (planNodes s)) (leb (planNodes s) 12) (c₂ .0) in
+    let c = counts-within (planNodes s) (planChannels s) (not-false _ (n .2)) in
     record {
       long = ltb-false (length s) 5 (l .0);
       lengthField = eqb-true (planLength s) (length s) (not-false _ (l .1));
       version = eqb-true (planVersion s) 1 (not-false _ (n .1));
-      nodesLeast = leb-true 2 (planNodes s) (c₃ .0);
-      nodesMost = leb-true (planNodes s) 12 (c₃ .1);
-      channelsLeast = leb-true 1 (planChannels s) (c₂ .1);
-      channelsMost = few-channels s (n .2);
+      nodesLeast = c .0;
+      nodesMost = c .1;
+      channelsLeast = c .2;
+      channelsMost = c .3;
       sized = eqb-true (length s) (planSize (planNodes s) (planChannels s)) (not-false _ (n .3));
       rules = not-false _ (n .4);
       channels = not-false _ (n .5);
       degrees = not-false _ (n .6);
     }
+
+-- And the other way round.
+pub unrefused : (s : List ℕ) → Accepted s → planRefusal s ≡ 0
+unfolding firstOf badLength badVersion badCounts badSize badRules badChannels badDegrees
+unrefused s a =
+    refusal-first s
+    ∙ rw (
+      le-ltb (length s) 5 (a .long),
+      eq-eqb (planLength s) (length s) (a .lengthField),
+      eq-eqb (planVersion s) 1 (a .version),
+      counts-fit (planNodes s) (planChannels s) (a .nodesLeast) (a .nodesMost) (a .channelsLeast) (a .channelsMost),
+      eq-eqb (length s) (planSize (planNodes s) (planChannels s)) (a .sized),
+      a .rules,
+      a .channels,
+      a .degrees,
+    )

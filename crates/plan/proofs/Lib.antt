@@ -10,3 +10,4 @@ pub mod MaskLaws
 pub mod LoopLaws
 pub mod AcceptedLaws
 pub mod TakingLaws
+pub mod FitsLaws

@@ -1,26 +1,17 @@
 -- What a plan's bytes give in place, for all bytes.
-use Prim.Native.Nat.{ℕ, zero, suc, _+_, _-_, _*_, _≤_, _<_}
-use mathlib.Core.Path.{_≡_, refl, sym, ap, _∙_}
-use mathlib.Core.List.{List, [], _∷_, _++_}
-use native.Mathlib.Nat.{add-comm, add-assoc, mul-comm, add-zero, add-sub-cancel-left}
+use Prim.Native.Nat.{ℕ, _+_, _*_, _≤_, _<_}
+use mathlib.Core.Path.{_≡_, refl, ap, _∙_}
+use mathlib.Core.List.{List, [], _∷_}
+use native.Mathlib.Nat.{add-assoc, mul-comm, add-zero}
 use native.Mathlib.Omega.{arith}
 use lib.ListN.{length, getD, take, drop, length-drop, List·getD-eq-default}
-use lib.Seq.{take-take, drop-drop, getD-drop}
-use Rattle.plan.specs.declared.Rule.{Rule}
+use lib.Seq.{drop-drop, getD-drop}
 use Rattle.plan.specs.declared.Rule.the-variants.{Keep}
-use Rattle.plan.specs.declared.Channel.{Channel}
-use Rattle.plan.specs.Layout.{Layout, spelled, sumOf, readFields, readSlots}
-use Rattle.plan.specs.Rule.{ruleFields, ruleLayout, ruleOf, ruleOfKind}
-use Rattle.plan.specs.Channel.{channelFields, channelLayout, channelOf}
-use Rattle.plan.specs.Plan.{Plan, planOf, planLength, planVersion, planNodes, planChannels, ruleAt, channelAt, noChannel, headLayout}
-use Rattle.plan.proofs.BytesLaws.{drop-take}
-use Rattle.plan.proofs.LayoutLaws.{slot-at, length-readSlots}
-
--- Fields read no more than their size.
-pub fields-front : (ws s : List ℕ) → readFields ws (take (sumOf ws) s) ≡ readFields ws s
-fields-front [] s = refl
-fields-front (w ∷ ws) s =
-    rw (take-take w (w + sumOf ws) s (omega arith), drop-take w (w + sumOf ws) s, add-sub-cancel-left, fields-front ws (drop w s))
+use Rattle.plan.specs.Layout.{spelled, readSlots}
+use Rattle.plan.specs.Rule.{ruleWidths, ruleFields, ruleLayout, ruleOf, ruleOfKind}
+use Rattle.plan.specs.Channel.{channelWidths, channelFields, channelLayout, channelOf}
+use Rattle.plan.specs.Plan.{planOf, planVersion, planNodes, planChannels, ruleAt, channelAt, noChannel}
+use Rattle.plan.proofs.LayoutLaws.{fields-front, slot-at, slots-front, length-readSlots}
 
 first-spelled : (s : List ℕ) → spelled 0 (take 1 s) ≡ getD s 0 0
 first-spelled [] = refl
@@ -59,16 +50,24 @@ version-byte s = byte-field 2 s
 
 rule-fields : (a : ℕ) (s : List ℕ) → ruleFields .read (take 4 (drop a s)) ≡ getD s a 0 ∷ getD s (a + 1) 0 ∷ spelled 0 (take 2 (drop (a + 2) s)) ∷ []
 unfolding ruleFields
-rule-fields a s = fields-front (1 ∷ 1 ∷ 2 ∷ []) (drop a s) ∙ simp (drop-drop, add-assoc, byte-field)
+rule-fields a s = fields-front ruleWidths (drop a s) ∙ simp (drop-drop, add-assoc, byte-field)
 
 channel-fields : (a : ℕ) (s : List ℕ) → channelFields .read (take 6 (drop a s)) ≡ getD s a 0 ∷ getD s (a + 1) 0 ∷ spelled 0 (take 2 (drop (a + 2) s)) ∷ getD s (a + 4) 0 ∷ getD s (a + 5) 0 ∷ []
 unfolding channelFields
-channel-fields a s = fields-front (1 ∷ 1 ∷ 2 ∷ 1 ∷ 1 ∷ []) (drop a s) ∙ simp (drop-drop, add-assoc, byte-field)
+channel-fields a s = fields-front channelWidths (drop a s) ∙ simp (drop-drop, add-assoc, byte-field)
 
--- The rules and the channels, by number.
-pub rule-past : (s : List ℕ) (n : ℕ) → planNodes s ≤ n → ruleAt (planOf s) n ≡ Keep
+-- The rules and the channels are slots of the bytes.
+pub rules-of : (s : List ℕ) → planOf s .rules ≡ readSlots ruleLayout (planNodes s) (drop 5 s)
 unfolding planOf
-rule-past s n h = List·getD-eq-default (readSlots ruleLayout (planNodes s) (drop 5 s)) Keep (rw length-readSlots h)
+rules-of s = slots-front ruleLayout (planNodes s) (drop 5 s)
+
+pub channels-of : (s : List ℕ) → planOf s .channels ≡ readSlots channelLayout (planChannels s) (drop (5 + 4 * planNodes s) s)
+unfolding planOf
+channels-of s = ap (readSlots channelLayout (planChannels s)) (drop-drop (planNodes s * 4) 5 s ∙ ap (λ (n : ℕ). drop (5 + n) s) (mul-comm (planNodes s) 4))
+
+-- One of them, by number.
+pub rule-past : (s : List ℕ) (n : ℕ) → planNodes s ≤ n → ruleAt (planOf s) n ≡ Keep
+rule-past s n h = rw (rules-of s) (List·getD-eq-default (readSlots ruleLayout (planNodes s) (drop 5 s)) Keep (rw length-readSlots h))
 
 pub rule-numbers-at : (s : List ℕ) (n : ℕ) (d : List ℕ) → n < planNodes s
     → getD (readSlots ruleFields (planNodes s) (drop 5 s)) n d ≡ getD s (5 + 4 * n) 0 ∷ getD s (5 + 4 * n + 1) 0 ∷ spelled 0 (take 2 (drop (5 + 4 * n + 2) s)) ∷ []
@@ -77,18 +76,18 @@ rule-numbers-at s n d h = slot-at ruleFields (planNodes s) (drop 5 s) n d h ∙ 
 
 pub rule-at : (s : List ℕ) (n : ℕ) → n < planNodes s
     → ruleAt (planOf s) n ≡ ruleOfKind (getD s (5 + 4 * n) 0) (getD s (5 + 4 * n + 1) 0) (spelled 0 (take 2 (drop (5 + 4 * n + 2) s)))
-unfolding planOf ruleLayout
-rule-at s n h = slot-at ruleLayout (planNodes s) (drop 5 s) n Keep h ∙ rw (drop-drop, mul-comm n 4) (ap ruleOf (rule-fields (5 + 4 * n) s))
+unfolding ruleLayout
+rule-at s n h = rw (rules-of s) (slot-at ruleLayout (planNodes s) (drop 5 s) n Keep h ∙ rw (drop-drop, mul-comm n 4) (ap ruleOf (rule-fields (5 + 4 * n) s)))
 
 pub channel-past : (s : List ℕ) (b : ℕ) → planChannels s ≤ b → channelAt (planOf s) b ≡ noChannel
-unfolding planOf
-channel-past s b h = List·getD-eq-default (readSlots channelLayout (planChannels s) (drop (5 + 4 * planNodes s) s)) noChannel (rw length-readSlots h)
+channel-past s b h = rw (channels-of s) (List·getD-eq-default (readSlots channelLayout (planChannels s) (drop (5 + 4 * planNodes s) s)) noChannel (rw length-readSlots h))
 
 pub channel-at : (s : List ℕ) (b : ℕ) → b < planChannels s
     → (let a : ℕ = 5 + 4 * planNodes s + 6 * b in
     channelAt (planOf s) b
     ≡ record { sender = getD s a 0; receiver = getD s (a + 1) 0; mask = spelled 0 (take 2 (drop (a + 2) s)); modulus = getD s (a + 4) 0; remainder = getD s (a + 5) 0 })
-unfolding planOf channelLayout
+unfolding channelLayout
 channel-at s b h =
-    slot-at channelLayout (planChannels s) (drop (5 + 4 * planNodes s) s) b noChannel h
-    ∙ rw (drop-drop, mul-comm b 6) (ap channelOf (channel-fields (5 + 4 * planNodes s + 6 * b) s))
+    rw (channels-of s)
+    (slot-at channelLayout (planChannels s) (drop (5 + 4 * planNodes s) s) b noChannel h
+    ∙ rw (drop-drop, mul-comm b 6) (ap channelOf (channel-fields (5 + 4 * planNodes s + 6 * b) s)))

@@ -1,28 +1,25 @@
 -- Records, rules and channels are read back and written back.
-use Prim.Native.Nat.{ℕ, zero, suc, _+_, _*_, _^_, _≤_, _<_}
-use mathlib.Core.Path.{_≡_, refl, sym, ap, _∙_, subst}
-use mathlib.Core.Bool.{Bool, true, false, cond, _&&_, _||_, true≢false}
-use mathlib.Core.List.{List, [], _∷_, _++_}
+use Prim.Native.Nat.{ℕ, _<_}
+use mathlib.Core.Path.{_≡_, refl, sym, subst}
+use mathlib.Core.Bool.{Bool, true, false, cond, _&&_, true≢false}
+use mathlib.Core.List.{List, [], _∷_}
 use native.Mathlib.Omega.{arith}
-use borrow.Author.Tests.{eqb-true, eqb-false, leb-true}
+use borrow.Author.Tests.{eqb-true}
 use lib.Dec.{lit<, eqb, leb}
-use lib.ListN.{length, getD}
-use Rattle.plan.specs.declared.Record.{Record}
+use lib.ListN.{getD}
 use Rattle.plan.specs.declared.Rule.{Rule}
 use Rattle.plan.specs.declared.Rule.the-variants.{Keep, Relabel, Cap}
-use Rattle.plan.specs.declared.Channel.{Channel}
-use Rattle.plan.specs.Layout.{Layout, fields, via}
-use Rattle.plan.specs.Lawful.{Bytes, Lawful, FieldsFit}
-use Rattle.plan.specs.Record.{recordNumbers, recordOf, recordFields, recordLayout, recordFits, materialFits}
-use Rattle.plan.specs.Rule.{ruleNumbers, ruleOf, ruleOfKind, ruleFields, ruleLayout, ruleFits, ruleKindFits}
-use Rattle.plan.specs.Channel.{channelNumbers, channelOf, channelFields, channelLayout}
+use Rattle.plan.specs.Lawful.{Lawful, FieldsFit}
+use Rattle.plan.specs.Record.{recordNumbers, recordOf, recordWidths, recordFields, recordLayout}
+use Rattle.plan.specs.Rule.{ruleNumbers, ruleOf, ruleOfKind, ruleWidths, ruleFields, ruleLayout, ruleFits, ruleKindFits}
+use Rattle.plan.specs.Channel.{channelNumbers, channelOf, channelWidths, channelFields, channelLayout}
 use Rattle.plan.specs.Fits.{RecordFits, RuleFits, ChannelFits}
 use Rattle.plan.proofs.LayoutLaws.{fields-lawful, via-lawful}
 use Rattle.basics.specs.Bools.{both-true}
 
 -- ---- records
 
-record-numbers-fit : (ns : List ℕ) → FieldsFit (4 ∷ 1 ∷ 1 ∷ 2 ∷ []) ns → RecordFits (recordOf ns)
+record-numbers-fit : (ns : List ℕ) → FieldsFit recordWidths ns → RecordFits (recordOf ns)
 record-numbers-fit [] h = absurd h
 record-numbers-fit (a ∷ []) h = absurd (h .1)
 record-numbers-fit (a ∷ b ∷ []) h = absurd (h .1 .1)
@@ -30,7 +27,7 @@ record-numbers-fit (a ∷ b ∷ c ∷ []) h = absurd (h .1 .1 .1)
 record-numbers-fit (a ∷ b ∷ c ∷ d ∷ []) h = (h .0, (h .1 .0, (lit< tt, (h .1 .1 .1 .0, tt))))
 record-numbers-fit (a ∷ b ∷ c ∷ d ∷ e ∷ ns) h = absurd (h .1 .1 .1 .1)
 
-record-numbers : (ns : List ℕ) → FieldsFit (4 ∷ 1 ∷ 1 ∷ 2 ∷ []) ns → getD ns 2 0 ≡ 0 → recordNumbers (recordOf ns) ≡ ns
+record-numbers : (ns : List ℕ) → FieldsFit recordWidths ns → getD ns 2 0 ≡ 0 → recordNumbers (recordOf ns) ≡ ns
 record-numbers [] h z = absurd h
 record-numbers (a ∷ []) h z = absurd (h .1)
 record-numbers (a ∷ b ∷ []) h z = absurd (h .1 .1)
@@ -40,8 +37,8 @@ record-numbers (a ∷ b ∷ c ∷ d ∷ e ∷ ns) h z = absurd (h .1 .1 .1 .1)
 
 pub record-lawful : Lawful recordLayout RecordFits (λ s. getD (recordFields .read s) 2 0 ≡ 0)
 unfolding recordLayout
-record-lawful = via-lawful recordFields recordNumbers recordOf (FieldsFit (4 ∷ 1 ∷ 1 ∷ 2 ∷ [])) (λ ns. getD ns 2 0 ≡ 0)
-    (fields-lawful (4 ∷ 1 ∷ 1 ∷ 2 ∷ [])) (λ r h. refl) record-numbers-fit record-numbers
+record-lawful =
+    via-lawful recordFields recordNumbers recordOf (fields-lawful recordWidths) (λ r h. refl) record-numbers-fit (λ s h z. (tt, record-numbers (recordFields .read s) h z))
 
 -- ---- rules
 
@@ -53,7 +50,7 @@ rule-kind-fits kind p q hp hq = go (eqb kind 1) (eqb kind 2)
     go false true = (lit< tt, (lit< tt, (hq, tt)))
     go false false = (lit< tt, (lit< tt, (lit< tt, tt)))
 
-rule-numbers-fit : (ns : List ℕ) → FieldsFit (1 ∷ 1 ∷ 2 ∷ []) ns → RuleFits (ruleOf ns)
+rule-numbers-fit : (ns : List ℕ) → FieldsFit ruleWidths ns → RuleFits (ruleOf ns)
 rule-numbers-fit [] h = absurd h
 rule-numbers-fit (a ∷ []) h = absurd (h .1)
 rule-numbers-fit (a ∷ b ∷ []) h = absurd (h .1 .1)
@@ -77,7 +74,7 @@ rule-kind kind p q e = go (eqb kind 0) (eqb kind 1) (eqb kind 2) refl refl refl 
         cc (eqb-true kind 2 kc, eqb-true p 0 (t .0))
     go false false false ka kb kc e = absurd (true≢false (sym e))
 
-rule-numbers : (ns : List ℕ) → FieldsFit (1 ∷ 1 ∷ 2 ∷ []) ns → ruleFits ns ≡ true → ruleNumbers (ruleOf ns) ≡ ns
+rule-numbers : (ns : List ℕ) → FieldsFit ruleWidths ns → ruleFits ns ≡ true → ruleNumbers (ruleOf ns) ≡ ns
 rule-numbers [] h e = absurd h
 rule-numbers (a ∷ []) h e = absurd (h .1)
 rule-numbers (a ∷ b ∷ []) h e = absurd (h .1 .1)
@@ -91,12 +88,12 @@ rule-read (Cap q) = refl
 
 pub rule-lawful : Lawful ruleLayout RuleFits (λ s. ruleFits (ruleFields .read s) ≡ true)
 unfolding ruleLayout
-rule-lawful = via-lawful ruleFields ruleNumbers ruleOf (FieldsFit (1 ∷ 1 ∷ 2 ∷ [])) (λ ns. ruleFits ns ≡ true)
-    (fields-lawful (1 ∷ 1 ∷ 2 ∷ [])) (λ r h. rule-read r) rule-numbers-fit rule-numbers
+rule-lawful =
+    via-lawful ruleFields ruleNumbers ruleOf (fields-lawful ruleWidths) (λ r h. rule-read r) rule-numbers-fit (λ s h e. (tt, rule-numbers (ruleFields .read s) h e))
 
 -- ---- channels
 
-channel-numbers : (ns : List ℕ) → FieldsFit (1 ∷ 1 ∷ 2 ∷ 1 ∷ 1 ∷ []) ns → channelNumbers (channelOf ns) ≡ ns
+channel-numbers : (ns : List ℕ) → FieldsFit channelWidths ns → channelNumbers (channelOf ns) ≡ ns
 channel-numbers [] h = absurd h
 channel-numbers (a ∷ []) h = absurd (h .1)
 channel-numbers (a ∷ b ∷ []) h = absurd (h .1 .1)
@@ -107,5 +104,6 @@ channel-numbers (a ∷ b ∷ c ∷ d ∷ e ∷ f ∷ ns) h = absurd (h .1 .1 .1 
 
 pub channel-lawful : Lawful channelLayout ChannelFits (λ s. Unit {0})
 unfolding channelLayout
-channel-lawful = via-lawful channelFields channelNumbers channelOf (FieldsFit (1 ∷ 1 ∷ 2 ∷ 1 ∷ 1 ∷ [])) (λ ns. Unit {0})
-    (fields-lawful (1 ∷ 1 ∷ 2 ∷ 1 ∷ 1 ∷ [])) (λ c h. refl) (λ ns h. subst (FieldsFit (1 ∷ 1 ∷ 2 ∷ 1 ∷ 1 ∷ [])) (sym (channel-numbers ns h)) h) (λ ns h u. channel-numbers ns h)
+channel-lawful =
+    via-lawful channelFields channelNumbers channelOf (fields-lawful channelWidths) (λ c h. refl)
+    (λ ns h. subst (FieldsFit channelWidths) (sym (channel-numbers ns h)) h) (λ s h u. (tt, channel-numbers (channelFields .read s) h))

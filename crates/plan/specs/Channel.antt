@@ -24,9 +24,12 @@ channelNumbers c = c .sender ∷ c .receiver ∷ c .mask ∷ c .modulus ∷ c .r
 abbrev pub channelOf : List ℕ → Channel
 channelOf ns = record { sender = getD ns 0 0; receiver = getD ns 1 0; mask = getD ns 2 0; modulus = getD ns 3 0; remainder = getD ns 4 0 }
 
+abbrev pub channelWidths : List ℕ
+channelWidths = 1 ∷ 1 ∷ 2 ∷ 1 ∷ 1 ∷ []
+
 unfoldable pub channelFields : Layout (List ℕ)
 unfolding fields
-channelFields = fields (1 ∷ 1 ∷ 2 ∷ 1 ∷ 1 ∷ [])
+channelFields = fields channelWidths
 
 unfoldable pub channelLayout : Layout Channel
 unfolding channelFields via

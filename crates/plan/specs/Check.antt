@@ -1,14 +1,16 @@
 -- The refusals of a plan, 1 to 7 (document 01, "Numbers returned").
-use Prim.Native.Nat.{ℕ, zero, suc, _+_, _*_}
+use Prim.Native.Nat.{ℕ, zero, suc}
 use mathlib.Core.Bool.{Bool, true, false, not, _&&_, _||_}
 use mathlib.Core.List.{List, [], _∷_}
-use lib.ListN.{length, getD, take, drop}
+use lib.ListN.{length, drop}
 use lib.Dec.{leb, ltb, eqb}
+use Rattle.plan.specs.declared.Rule.{Rule}
+use Rattle.plan.specs.declared.Rule.the-variants.{Keep, Relabel, Cap}
 use Rattle.plan.specs.declared.Channel.{Channel}
-use Rattle.plan.specs.Layout.{Layout, readSlots}
+use Rattle.plan.specs.Layout.{readSlots}
 use Rattle.plan.specs.Rule.{ruleFields, ruleFits}
 use Rattle.plan.specs.Channel.{channelFits, channelAfter}
-use Rattle.plan.specs.Plan.{Plan, planOf, planLength, planVersion, planNodes, planChannels, planSize, entering, leaving}
+use Rattle.plan.specs.Plan.{Plan, nodeCount, channelCount, planOf, planLength, planVersion, planNodes, planChannels, planSize, headLayout, entering, leaving}
 
 -- 1: "plan under 5 bytes, or not its length field"
 unfoldable pub badLength : List ℕ → Bool
@@ -21,9 +23,12 @@ unfolding planVersion
 badVersion s = not (eqb (planVersion s) 1)
 
 -- 3: "N or M": N is 2..12, M is 1..24.
+abbrev pub countsFit : ℕ → ℕ → Bool
+countsFit n m = leb 2 n && leb n 12 && leb 1 m && leb m 24
+
 unfoldable pub badCounts : List ℕ → Bool
 unfolding planNodes planChannels
-badCounts s = not (leb 2 (planNodes s) && leb (planNodes s) 12 && leb 1 (planChannels s) && leb (planChannels s) 24)
+badCounts s = not (countsFit (planNodes s) (planChannels s))
 
 -- 4: "length is not 5 + 4N + 6M"
 unfoldable pub badSize : List ℕ → Bool
@@ -36,8 +41,8 @@ rulesFit [] = true
 rulesFit (r ∷ rest) = ruleFits r && rulesFit rest
 
 unfoldable pub badRules : List ℕ → Bool
-unfolding planNodes ruleFields
-badRules s = not (rulesFit (readSlots ruleFields (planNodes s) (drop 5 s)))
+unfolding planNodes headLayout ruleFields
+badRules s = not (rulesFit (readSlots ruleFields (planNodes s) (drop (headLayout .size) s)))
 
 -- 6: "belt fields or order"
 abbrev pub channelsFit : ℕ → ℕ → ℕ → List Channel → Bool
@@ -80,3 +85,22 @@ planRefusal s =
         ]
       ]
     ]
+
+-- The same of a plan itself: its bytes spell it whole, and no check refuses them. A rule's q is at most 65535 and a belt's mask too, being "2 bytes"; its modulus is "1..255".
+abbrev pub ruleAllowed : Rule → Bool
+ruleAllowed Keep = true
+ruleAllowed (Relabel p q) = leb p 15 && leb q 15
+ruleAllowed (Cap q) = leb 1 q && leb q 65535
+
+abbrev pub rulesAllowed : List Rule → Bool
+rulesAllowed [] = true
+rulesAllowed (r ∷ rest) = ruleAllowed r && rulesAllowed rest
+
+abbrev pub channelsSpelled : List Channel → Bool
+channelsSpelled [] = true
+channelsSpelled (c ∷ rest) = (leb (c .mask) 65535 && leb (c .modulus) 255) && channelsSpelled rest
+
+unfoldable pub planFits : Plan → Bool
+unfolding channelFits channelAfter entering leaving
+planFits p =
+    countsFit (nodeCount p) (channelCount p) && rulesAllowed (p .rules) && channelsSpelled (p .channels) && channelsFit (nodeCount p) 0 0 (p .channels) && fourAtMost p (nodeCount p)

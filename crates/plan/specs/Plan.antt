@@ -1,13 +1,13 @@
 -- A plan: the nodes' rules and the channels, and its layout (document 01, "The line").
-use Prim.Native.Nat.{ℕ, suc, _+_, _*_}
+use Prim.Native.Nat.{ℕ, suc}
 use mathlib.Core.Bool.{Bool, true, false}
-use mathlib.Core.List.{List, [], _∷_, _++_}
-use lib.ListN.{length, getD, take, drop}
+use mathlib.Core.List.{List, [], _∷_}
+use lib.ListN.{length, getD}
 use lib.Dec.{eqb}
 use Rattle.plan.specs.declared.Rule.{Rule}
 use Rattle.plan.specs.declared.Rule.the-variants.{Keep}
 use Rattle.plan.specs.declared.Channel.{Channel}
-use Rattle.plan.specs.Layout.{Layout, fields, writeSlots, readSlots}
+use Rattle.plan.specs.Layout.{Layout, fields, via, pair, slots}
 use Rattle.plan.specs.Rule.{ruleLayout}
 use Rattle.plan.specs.Channel.{channelLayout}
 
@@ -61,18 +61,34 @@ unfolding leaving
 isSink p n = isNone (leaving p n)
 
 -- "A plan, big-endian: length of the whole plan (2 bytes), version 1, node count N, belt count M; then N rules of 4 bytes, then M belts of 6."
+abbrev pub headWidths : List ℕ
+headWidths = 2 ∷ 1 ∷ 1 ∷ 1 ∷ []
+
 unfoldable pub headLayout : Layout (List ℕ)
 unfolding fields
-headLayout = fields (2 ∷ 1 ∷ 1 ∷ 1 ∷ [])
+headLayout = fields headWidths
+
+unfoldable pub bodyLayout : ℕ → ℕ → Layout Plan
+unfolding ruleLayout channelLayout slots pair via
+bodyLayout n m = via (pair (slots n ruleLayout) (slots m channelLayout)) (λ p. (p .rules, p .channels)) (λ b. record { rules = b .0; channels = b .1 })
+
+-- The head's numbers, and the plan.
+unfoldable pub planLayout : ℕ → ℕ → Layout (List ℕ × Plan)
+unfolding headLayout bodyLayout pair
+planLayout n m = pair headLayout (bodyLayout n m)
 
 unfoldable pub planSize : ℕ → ℕ → ℕ
-planSize n m = 5 + 4 * n + 6 * m
+unfolding planLayout
+planSize n m = planLayout n m .size
+
+abbrev pub headNumbers : Plan → List ℕ
+headNumbers p = planSize (nodeCount p) (channelCount p) ∷ 1 ∷ nodeCount p ∷ channelCount p ∷ []
 
 unfoldable pub planBytes : Plan → List ℕ
-unfolding headLayout ruleLayout channelLayout planSize
-planBytes p = headLayout .write (planSize (nodeCount p) (channelCount p) ∷ 1 ∷ nodeCount p ∷ channelCount p ∷ []) ++ (writeSlots ruleLayout (p .rules) ++ writeSlots channelLayout (p .channels))
+unfolding planLayout planSize
+planBytes p = planLayout (nodeCount p) (channelCount p) .write (headNumbers p, p)
 
--- The numbers of a plan's head: length, version, N and M.
+-- What a plan's head says: length, version, N and M.
 unfoldable pub planLength : List ℕ → ℕ
 unfolding headLayout
 planLength s = getD (headLayout .read s) 0 0
@@ -90,9 +106,5 @@ unfolding headLayout
 planChannels s = getD (headLayout .read s) 3 0
 
 unfoldable pub planOf : List ℕ → Plan
-unfolding ruleLayout channelLayout planNodes planChannels
-planOf s =
-    record {
-      rules = readSlots ruleLayout (planNodes s) (drop 5 s);
-      channels = readSlots channelLayout (planChannels s) (drop (5 + 4 * planNodes s) s);
-    }
+unfolding planLayout planNodes planChannels
+planOf s = planLayout (planNodes s) (planChannels s) .read s .1

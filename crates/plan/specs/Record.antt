@@ -14,9 +14,12 @@ recordNumbers r = r .piece ∷ r .material ∷ 0 ∷ r .mass ∷ []
 abbrev pub recordOf : List ℕ → Record
 recordOf ns = record { piece = getD ns 0 0; material = getD ns 1 0; mass = getD ns 3 0 }
 
+abbrev pub recordWidths : List ℕ
+recordWidths = 4 ∷ 1 ∷ 1 ∷ 2 ∷ []
+
 unfoldable pub recordFields : Layout (List ℕ)
 unfolding fields
-recordFields = fields (4 ∷ 1 ∷ 1 ∷ 2 ∷ [])
+recordFields = fields recordWidths
 
 unfoldable pub recordLayout : Layout Record
 unfolding recordFields via

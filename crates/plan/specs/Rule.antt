@@ -27,9 +27,12 @@ ruleOfKind kind p q = cond (eqb kind 1) (Relabel p q) (cond (eqb kind 2) (Cap q)
 abbrev pub ruleOf : List ℕ → Rule
 ruleOf ns = ruleOfKind (getD ns 0 0) (getD ns 1 0) (getD ns 2 0)
 
+abbrev pub ruleWidths : List ℕ
+ruleWidths = 1 ∷ 1 ∷ 2 ∷ []
+
 unfoldable pub ruleFields : Layout (List ℕ)
 unfolding fields
-ruleFields = fields (1 ∷ 1 ∷ 2 ∷ [])
+ruleFields = fields ruleWidths
 
 unfoldable pub ruleLayout : Layout Rule
 unfolding ruleFields via

@@ -7,8 +7,8 @@ use lib.Dec.{leb, ltb, eqb}
 use Rattle.plan.specs.declared.Record.{Record}
 use Rattle.plan.specs.declared.Channel.{Channel}
 use Rattle.plan.specs.Record.{materialFits}
-use Rattle.plan.specs.Plan.{Plan, planBytes, nodeCount, channelCount, channelAt, entering, leaving, isSource, isSink}
-use Rattle.plan.specs.Check.{planRefusal}
+use Rattle.plan.specs.Plan.{Plan, nodeCount, channelCount, channelAt, entering, leaving, isSource, isSink}
+use Rattle.plan.specs.Check.{planFits}
 use Rattle.rules.specs.Lists.{keep, allOf, anyOf, joined, greatestOf, upTo}
 use Rattle.rules.specs.Line.{logLimit, queueLimit, heldLimit, targetLimit, stepLimit, Origin, fed, made, Message, Entry, Held, Target, Status, up, down, replay, Node, Lane, Line, nodeAt, laneAt, parents, isUp, isDown, isReplay}
 use Rattle.rules.specs.Recover.{lowOf, targetsOf, sameTarget, conflict, noTargets, recovered, rowsComplete}
@@ -30,8 +30,8 @@ someChannel l f = anyOf f (channelNumbersOf l)
 
 -- "the plan would be refused"
 unfoldable pub planBroken : Line → Bool
-unfolding planBytes planRefusal
-planBroken l = not (eqb (planRefusal (planBytes (l .plan))) 0)
+unfolding planFits
+planBroken l = not (planFits (l .plan))
 
 -- A node for each rule, a lane for each channel, an entry heard for each parent of its sender.
 unfoldable pub misshapen : Line → Bool

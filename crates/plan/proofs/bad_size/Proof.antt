@@ -1,12 +1,12 @@
 use native.Mathlib.Omega.{arith}
 use Rattle.plan.specs.Check.{badSize}
-use Rattle.plan.specs.Plan.{planSize}
+use Rattle.plan.proofs.PlanLaws.{plan-size}
 use Rattle.plan.proofs.bad_size.Statement.{statement}
 use Rattle.plan.proofs.bad_size.Tie as tie
 
 returns : tie.Need-returns
-unfolding badSize planSize
-returns c = rw (c .channel-count .ensures .0, c .before .node-count .ensures .0)
+unfolding badSize
+returns c = rw (c .channel-count .ensures .0, c .before .node-count .ensures .0, plan-size)
 
 pub bad-size-spec : {M : Type 1} → statement M
 bad-size-spec =
