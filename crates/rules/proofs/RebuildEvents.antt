@@ -120,8 +120,12 @@ module _ (l : Line) (g : Ghost) (cut base : ℕ → ℕ) (fed : List Act) (recei
       last-held (no z) =
           let (m, i, e, q) = goal-message b h (λ y. z (omega arith)) in
           let at : m .time ≡ laneAt l b .taken = omega (arith, q, R .to-goal, r .complete b h) in
-          inr (m, in-keep (λ (x : Message). leb (x .time) (laneAt l b .taken)) i (le-leb (m .time) (laneAt l b .taken) (omega (arith, at))), e,
-          within-higher timeOf (omega (arith, at)) (within-until timeOf (laneAt l b .taken) (put (l .plan) g b)))
+          inr (
+            m,
+            in-keep (λ (x : Message). leb (x .time) (laneAt l b .taken)) i (le-leb (m .time) (laneAt l b .taken) (omega (arith, at))),
+            e,
+            within-higher timeOf (omega (arith, at)) (within-until timeOf (laneAt l b .taken) (put (l .plan) g b)),
+          )
 
   -- What it got of each entering channel.
   pub got-rebuilt : (b : ℕ) → Enters (l .plan) n b → gotOf b events ≡ row b
