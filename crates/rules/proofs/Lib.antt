@@ -33,3 +33,4 @@ pub mod Carried
 pub mod Targets
 pub mod Children
 pub mod PlanOrder
+pub mod LoadInv
