@@ -34,3 +34,4 @@ pub mod Targets
 pub mod Children
 pub mod PlanOrder
 pub mod LoadInv
+pub mod CountedInv
