@@ -35,3 +35,4 @@ pub mod Children
 pub mod PlanOrder
 pub mod LoadInv
 pub mod CountedInv
+pub mod QuietRest
