@@ -36,3 +36,4 @@ pub mod PlanOrder
 pub mod LoadInv
 pub mod CountedInv
 pub mod QuietRest
+pub mod Accepted
