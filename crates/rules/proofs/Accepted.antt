@@ -55,8 +55,8 @@ pub passed : (l : Line) (f : Frame) → lineRefusal l f ≡ 0 → Passed l f
 unfolding lineRefusal noStepsLeft noPlacing
 passed l f e =
     let tests : List (Bool × ℕ) =
-        (noStepsLeft l, 11) ∷ (noSuch l f, 12) ∷ (wrongNode l f, 13) ∷ (wrongStatus l f, 14) ∷ (besideCrashed l f, 15) ∷ (badRecord f, 16) ∷ (nothingThere l f, 17) ∷ (queueFull l f, 18) ∷ (rowDone l f, 19) ∷ (noSpace l f, 20)
-        ∷ (noPlacing l f, 23) ∷ [] in
+    (noStepsLeft l, 11) ∷ (noSuch l f, 12) ∷ (wrongNode l f, 13) ∷ (wrongStatus l f, 14) ∷ (besideCrashed l f, 15) ∷ (badRecord f, 16) ∷ (nothingThere l f, 17) ∷ (queueFull l f, 18) ∷ (rowDone l f, 19) ∷ (noSpace l f, 20)
+    ∷ (noPlacing l f, 23) ∷ [] in
     let (steps, (number, (node, (status, (beside, (good, (offer, (room, (row, (space, (placed, last))))))))))) = none-of tests 0 e .0 in
     let (k, q) = something-there (effect l f) placed in
     record {
