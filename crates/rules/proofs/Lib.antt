@@ -37,3 +37,4 @@ pub mod LoadInv
 pub mod CountedInv
 pub mod QuietRest
 pub mod Accepted
+pub mod PlanKept
