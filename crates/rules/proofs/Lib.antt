@@ -38,3 +38,4 @@ pub mod CountedInv
 pub mod QuietRest
 pub mod Accepted
 pub mod PlanKept
+pub mod StepInv
