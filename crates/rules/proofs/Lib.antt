@@ -39,3 +39,4 @@ pub mod QuietRest
 pub mod Accepted
 pub mod PlanKept
 pub mod StepInv
+pub mod Order
