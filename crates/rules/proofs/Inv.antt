@@ -10,11 +10,12 @@ use Rattle.plan.specs.declared.Record.{Record}
 use Rattle.plan.specs.Plan.{Plan, ruleAt, channelAt, nodeCount, channelCount, isSource, isSink}
 use Rattle.plan.specs.Rule.{applied}
 use Rattle.plan.specs.Channel.{takes}
-use Rattle.rules.specs.Lists.{keep, anyOf, greatestOf}
+use Rattle.rules.specs.Lists.{keep, greatestOf}
 use Rattle.rules.specs.Line.{Message, Entry, Held, Target, Status, up, down, replay, Node, Lane, Line, nodeAt, laneAt}
 use Rattle.rules.specs.Recover.{rowGoal}
 use Rattle.rules.specs.Plain.{Act, Receipt}
 use Rattle.rules.specs.Claim.{receivedBy}
+pub use Rattle.rules.specs.Claim.{named}
 use Rattle.rules.proofs.Rising.{until, past, Rises, Within}
 use Rattle.rules.proofs.PlainRun.{Input, receiptsIn}
 use Rattle.rules.proofs.Witness.{fedOnto, noInputs, Feeds, Taken}
@@ -33,9 +34,6 @@ pub record Ordered (p : Plan) : Type 0 where
 
 abbrev pub isUp : Line → ℕ → Type 0
 isUp l n = nodeAt l n .status ≡ up
-
-abbrev pub named : ℕ → List ℕ → Bool
-named n ns = anyOf (eqb n) ns
 
 -- The crash marks, as far as refusals 14 and 16 keep them apart.
 pub record Marks (l : Line) (crashes : List ℕ) : Type 0 where

@@ -39,3 +39,10 @@ pub mod RebuildInv
 pub mod EndInv
 pub mod HoldInv
 pub mod RecoverInv
+pub mod LoadInv
+pub mod CountedInv
+pub mod QuietRest
+pub mod Accepted
+pub mod PlanKept
+pub mod StepInv
+pub mod Order

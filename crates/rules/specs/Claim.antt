@@ -7,7 +7,7 @@ use Rattle.plan.specs.declared.Record.{Record}
 use Rattle.plan.specs.Layout.{Layout}
 use Rattle.plan.specs.Record.{recordLayout}
 use Rattle.plan.specs.Plan.{channelCount, nodeCount, channelAt}
-use Rattle.rules.specs.Lists.{keep, allOf, upTo}
+use Rattle.rules.specs.Lists.{keep, allOf, anyOf, upTo}
 use Rattle.rules.specs.Line.{Message, Line, nodeAt, laneAt, isUp}
 use Rattle.rules.specs.Frame.{Frame, feed, send, take, crash, recover, frameOf}
 use Rattle.rules.specs.Step.{Answer, step, sendable, isNothing, noMessages}
@@ -40,6 +40,9 @@ crashOf (send b) = []
 crashOf (take b) = []
 crashOf (crash n) = n ∷ []
 crashOf (recover n) = []
+
+abbrev pub named : ℕ → List ℕ → Bool
+named n ns = anyOf (eqb n) ns
 
 -- What a list of frames, given to Step one after the other, leaves and did.
 pub record Story : Type 0 where

@@ -10,5 +10,6 @@ pub mod Damaged
 pub mod Plain
 pub mod Sheet
 pub mod Claim
+pub mod Order
 pub mod Marked
 pub mod Examples

@@ -1,0 +1,74 @@
+-- The order theorem: after every list of frames one run of the plain line gives what was received.
+use Prim.Native.Nat.{ℕ}
+use mathlib.Core.Path.{_≡_, refl, ap, subst, _∙_}
+use mathlib.Core.Logic.{_≢_}
+use mathlib.Core.List.{List, [], _∷_, _++_}
+use native.Mathlib.Decide.{ℕ-discrete}
+use borrow.Author.Tests.{ne-eqb}
+use Rattle.plan.specs.Plan.{Plan, planOf}
+use Rattle.rules.specs.Line.{initialLine}
+use Rattle.rules.specs.Frame.{frameOf}
+use Rattle.rules.specs.Step.{refusal, step}
+use Rattle.rules.specs.Claim.{Story, startOf, ifZero, told, storyFrom, feedOf, receiptOf, crashOf}
+use Rattle.rules.specs.Order.{OneRun, InOrder}
+use Rattle.rules.proofs.ListLaws.{nil-right}
+use Rattle.rules.proofs.Conclusion.{run, run-gives}
+use Rattle.rules.proofs.QuietRest.{quiet-rests}
+use Rattle.rules.proofs.LoadInv.{load-inv}
+use Rattle.rules.proofs.Accepted.{step-accepted, step-refused}
+use Rattle.rules.proofs.PlanKept.{step-plan}
+use Rattle.rules.proofs.StepInv.{Kept, kept-same, Steps}
+
+-- What an accepted frame adds, and a refused one does not.
+if-accepted : {A : Type 0} (n : ℕ) (xs ys : List A) → n ≡ 0 → ys ++ ifZero n xs ≡ ys ++ xs
+if-accepted n xs ys e = ap (λ (k : ℕ). ys ++ ifZero k xs) e
+
+if-refused : {A : Type 0} (n : ℕ) (xs ys : List A) → n ≢ 0 → ys ++ ifZero n xs ≡ ys
+if-refused n xs ys d = rw (ne-eqb n 0 d, ifZero) (nil-right ys)
+
+abbrev Told : Story → Type 0
+Told s = Kept (s .line) (s .fedActs) (s .receipts) (s .crashes)
+
+-- A history that keeps the invariant is one run.
+one-run : (s : Story) → Told s → OneRun (s .line .plan) s
+one-run s (g, cut, base, inv) =
+    let witness = run (s .line) g cut (s .fedActs) (s .receipts) (s .crashes) (inv .nodes) (inv .channels) in
+    record {
+      acts = witness .0;
+      feeds = witness .1;
+      received = λ n e. run-gives (s .line) g cut (s .fedActs) (s .receipts) (s .crashes) (inv .nodes) (inv .channels) n (inv .marks .were-named n e);
+      rests = λ still. quiet-rests (s .line) g cut base (s .fedActs) (s .receipts) (s .crashes) inv still;
+    }
+
+story-plan : (fs : List (List ℕ)) (s : Story) → storyFrom s fs .line .plan ≡ s .line .plan
+unfolding told
+story-plan [] s = refl
+story-plan (f ∷ fs) s = story-plan fs (told s f) ∙ step-plan (s .line) f
+
+module _ (step-inv : Steps) where
+  told-more : (s : Story) (f : List ℕ) → Told s → Told (told s f)
+  unfolding told
+  told-more s f (g, cut, base, inv) =
+      let number = step (s .line) f .number in
+      let feeds = feedOf (frameOf f) in
+      let receipts = receiptOf (s .line) (frameOf f) in
+      let crashes = crashOf (frameOf f) in
+      elim (ℕ-discrete (refusal (s .line) f) 0) [
+        | yes e ↦
+            (let (zero, next) = step-accepted (s .line) f e in
+            kept-same refl (if-accepted number feeds (s .fedActs) zero) (if-accepted number receipts (s .receipts) zero) (if-accepted number crashes (s .crashes) zero)
+            (step-inv (s .line) g cut base (s .fedActs) (s .receipts) (s .crashes) inv f e))
+        | no d ↦
+            (let (refused, same) = step-refused (s .line) f d in
+            kept-same same (if-refused number feeds (s .fedActs) refused) (if-refused number receipts (s .receipts) refused) (if-refused number crashes (s .crashes) refused) (g, cut, base, inv))
+      ]
+
+  told-all : (fs : List (List ℕ)) (s : Story) → Told s → Told (storyFrom s fs)
+  told-all [] s h = h
+  told-all (f ∷ fs) s h = told-all fs (told s f) (told-more s f h)
+
+  pub in-order : InOrder
+  unfolding initialLine
+  in-order plan frames z =
+      let start = startOf (initialLine (planOf plan)) in
+      subst (λ (p : Plan). OneRun p (storyFrom start frames)) (story-plan frames start) (one-run (storyFrom start frames) (told-all frames start (_, _, _, load-inv plan z)))
