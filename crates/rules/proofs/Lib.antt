@@ -44,5 +44,6 @@ pub mod CountedInv
 pub mod QuietRest
 pub mod Accepted
 pub mod PlanKept
+pub mod ReplayTakeInv
 pub mod StepInv
 pub mod Order

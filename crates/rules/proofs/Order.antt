@@ -17,7 +17,7 @@ use Rattle.rules.proofs.QuietRest.{quiet-rests}
 use Rattle.rules.proofs.LoadInv.{load-inv}
 use Rattle.rules.proofs.Accepted.{step-accepted, step-refused}
 use Rattle.rules.proofs.PlanKept.{step-plan}
-use Rattle.rules.proofs.StepInv.{Kept, kept-same, Steps}
+use Rattle.rules.proofs.StepInv.{Kept, kept-same, step-inv}
 
 -- What an accepted frame adds, and a refused one does not.
 if-accepted : {A : Type 0} (n : ℕ) (xs ys : List A) → n ≡ 0 → ys ++ ifZero n xs ≡ ys ++ xs
@@ -45,30 +45,29 @@ unfolding told
 story-plan [] s = refl
 story-plan (f ∷ fs) s = story-plan fs (told s f) ∙ step-plan (s .line) f
 
-module _ (step-inv : Steps) where
-  told-more : (s : Story) (f : List ℕ) → Told s → Told (told s f)
-  unfolding told
-  told-more s f (g, cut, base, inv) =
-      let number = step (s .line) f .number in
-      let feeds = feedOf (frameOf f) in
-      let receipts = receiptOf (s .line) (frameOf f) in
-      let crashes = crashOf (frameOf f) in
-      elim (ℕ-discrete (refusal (s .line) f) 0) [
-        | yes e ↦
-            (let (zero, next) = step-accepted (s .line) f e in
-            kept-same refl (if-accepted number feeds (s .fedActs) zero) (if-accepted number receipts (s .receipts) zero) (if-accepted number crashes (s .crashes) zero)
-            (step-inv (s .line) g cut base (s .fedActs) (s .receipts) (s .crashes) inv f e))
-        | no d ↦
-            (let (refused, same) = step-refused (s .line) f d in
-            kept-same same (if-refused number feeds (s .fedActs) refused) (if-refused number receipts (s .receipts) refused) (if-refused number crashes (s .crashes) refused) (g, cut, base, inv))
-      ]
+told-more : (s : Story) (f : List ℕ) → Told s → Told (told s f)
+unfolding told
+told-more s f (g, cut, base, inv) =
+    let number = step (s .line) f .number in
+    let feeds = feedOf (frameOf f) in
+    let receipts = receiptOf (s .line) (frameOf f) in
+    let crashes = crashOf (frameOf f) in
+    elim (ℕ-discrete (refusal (s .line) f) 0) [
+      | yes e ↦
+          (let (zero, next) = step-accepted (s .line) f e in
+          kept-same refl (if-accepted number feeds (s .fedActs) zero) (if-accepted number receipts (s .receipts) zero) (if-accepted number crashes (s .crashes) zero)
+          (step-inv (s .line) g cut base (s .fedActs) (s .receipts) (s .crashes) inv f e))
+      | no d ↦
+          (let (refused, same) = step-refused (s .line) f d in
+          kept-same same (if-refused number feeds (s .fedActs) refused) (if-refused number receipts (s .receipts) refused) (if-refused number crashes (s .crashes) refused) (g, cut, base, inv))
+    ]
 
-  told-all : (fs : List (List ℕ)) (s : Story) → Told s → Told (storyFrom s fs)
-  told-all [] s h = h
-  told-all (f ∷ fs) s h = told-all fs (told s f) (told-more s f h)
+told-all : (fs : List (List ℕ)) (s : Story) → Told s → Told (storyFrom s fs)
+told-all [] s h = h
+told-all (f ∷ fs) s h = told-all fs (told s f) (told-more s f h)
 
-  pub in-order : InOrder
-  unfolding initialLine
-  in-order plan frames z =
-      let start = startOf (initialLine (planOf plan)) in
-      subst (λ (p : Plan). OneRun p (storyFrom start frames)) (story-plan frames start) (one-run (storyFrom start frames) (told-all frames start (_, _, _, load-inv plan z)))
+pub in-order : InOrder
+unfolding initialLine
+in-order plan frames z =
+    let start = startOf (initialLine (planOf plan)) in
+    subst (λ (p : Plan). OneRun p (storyFrom start frames)) (story-plan frames start) (one-run (storyFrom start frames) (told-all frames start (_, _, _, load-inv plan z)))

@@ -2,7 +2,7 @@
 use Prim.Native.Nat.{ℕ, suc, _<_}
 use mathlib.Core.Path.{_≡_, refl, sym, ap, subst, _∙_}
 use mathlib.Core.Logic.{_≢_, _⊎_, inl, inr}
-use mathlib.Core.Bool.{false}
+use mathlib.Core.Bool.{true, false}
 use mathlib.Core.List.{List, [], _∷_, _++_}
 use mathlib.Core.Option.{Option, none, some}
 use native.Mathlib.Omega.{arith}
@@ -12,8 +12,8 @@ use Rattle.plan.specs.Plan.{channelAt, nodeCount, channelCount, isSource, isSin
 use Rattle.rules.specs.Line.{Message, Entry, Status, up, down, replay, Line, nodeAt, laneAt, parents, isReplay}
 use Rattle.rules.specs.Frame.{Frame, feed, send, take, crash, recover, frameOf}
 use Rattle.rules.specs.Clock.{firstTaken, raiseHeard}
-use Rattle.rules.specs.Recover.{rowGoal}
-use Rattle.rules.specs.Step.{sendable, senderOf, receiverOf, replaying, fedLine, sentLine, takenUp, takenLane, takenFirst, takenLine, effect, refusal, accepted, step}
+use Rattle.rules.specs.Replay.{endedIfComplete}
+use Rattle.rules.specs.Step.{sendable, senderOf, receiverOf, replaying, fedLine, sentLine, takenUp, takenLane, takenReplaying, takenFirst, takenLine, recoveredLine, effect, refusal, accepted, step}
 use Rattle.rules.specs.Plain.{Act, feeds, Receipt}
 use Rattle.rules.specs.Claim.{firstReceipt, receiptOf, feedOf, crashOf}
 use Rattle.rules.proofs.ListLaws.{nil-right}
@@ -24,6 +24,8 @@ use Rattle.rules.proofs.FeedInv.{feed-inv}
 use Rattle.rules.proofs.SendInv.{send-inv}
 use Rattle.rules.proofs.TakeInv.{take-inv}
 use Rattle.rules.proofs.CrashInv.{crash-inv}
+use Rattle.rules.proofs.ReplayTakeInv.{replay-take-inv}
+use Rattle.rules.proofs.RecoverInv.{recover-inv}
 use Rattle.rules.proofs.CountedInv.{counted-inv}
 use Rattle.rules.proofs.Accepted.{Passed, passed, CanFeed, can-feed, CanSend, can-send, CanTake, can-take, CanCrash, can-crash, can-recover, line-passed, step-accepted}
 
@@ -52,6 +54,9 @@ up-or-replay : (s : Status) → s ≢ down → (s ≡ up) ⊎ (s ≡ replay)
 up-or-replay up d = inl refl
 up-or-replay down d = absurd (d refl)
 up-or-replay replay d = inr refl
+
+first-again : (b : ℕ) (m : Message) (rest : List Message) (l : Line) → replaying l (receiverOf l b) ≡ true → takenFirst b (m ∷ rest) l ≡ endedIfComplete (receiverOf l b) (takenReplaying b m (takenLane b m rest l))
+first-again b m rest l e = rw (e, takenFirst)
 
 first-up : (b : ℕ) (m : Message) (rest : List Message) (l : Line) → replaying l (receiverOf l b) ≡ false → takenFirst b (m ∷ rest) l ≡ some (takenUp b m (takenLane b m rest l))
 first-up b m rest l e = rw (e, takenFirst)
@@ -109,46 +114,45 @@ module _ (l : Line) (g : Ghost) (cut base : ℕ → ℕ) (fed : List Act) (recei
         (subst (λ (x : Line). Inv x (later g n (tookAt b m (suc (nodeAt l n .time)))) (changed cut b (m .time)) base fed (receipts ++ record { receiver = n; what = m .what; sender = channelAt (l .plan) b .sender } ∷ []) crashes) (some-line (sym taken-is ∙ e))
         (take-inv l g cut base fed receipts crashes inv b (can .here) m (can .rest) heard (can .first) (sender-gives b m (can .rest) (can .here) (can .first)) alive))
 
--- What is left to the replay: a Take while the receiver replays, and Recover.
-abbrev pub TakeReplays : Type 0
-TakeReplays =
-    (l : Line) (g : Ghost) (cut base : ℕ → ℕ) (fed : List Act) (receipts : List Receipt) (crashes : List ℕ) → Inv l g cut base fed receipts crashes
-    → (b : ℕ) (m : Message) (rest : List Message) → b < channelCount (l .plan) → laneAt l b .queue ≡ m ∷ rest → isUp l (channelAt (l .plan) b .sender) → nodeAt l (channelAt (l .plan) b .receiver) .status ≡ replay
-    → laneAt l b .taken < rowGoal (nodeAt l (channelAt (l .plan) b .receiver) .targets) (channelAt (l .plan) b .sender)
-    → (k : Line) → effect l (take b) ≡ some k → Kept k fed (receipts ++ receiptOf l (take b)) crashes
+  module _ (b : ℕ) (can : CanTake l b) (again : nodeAt l (channelAt (l .plan) b .receiver) .status ≡ replay) where
+    again-is : effect l (take b) ≡ endedIfComplete (channelAt (l .plan) b .receiver) (takenReplaying b (can .message) (takenLane b (can .message) (can .rest) l))
+    unfolding effect takenLine
+    again-is = ap (λ (q : List Message). takenFirst b q l) (can .first) ∙ first-again b (can .message) (can .rest) l (ap isReplay again)
 
-abbrev pub Recovers : Type 0
-Recovers =
-    (l : Line) (g : Ghost) (cut base : ℕ → ℕ) (fed : List Act) (receipts : List Receipt) (crashes : List ℕ) → Inv l g cut base fed receipts crashes
-    → (n : ℕ) → n < nodeCount (l .plan) → isSource (l .plan) n ≡ false → isSink (l .plan) n ≡ false → nodeAt l n .status ≡ down
-    → (k : Line) → effect l (recover n) ≡ some k → Kept k fed receipts crashes
+    pub take-again-step : (k : Line) → effect l (take b) ≡ some k → Kept k fed (receipts ++ receiptOf l (take b)) crashes
+    take-again-step k e =
+        let one : receiptOf l (take b) ≡ record { receiver = channelAt (l .plan) b .receiver; what = can .message .what; sender = channelAt (l .plan) b .sender } ∷ [] = ap (firstReceipt l b) (can .first) in
+        let (g′, cut′, i) = replay-take-inv l g cut base fed receipts crashes inv b (can .here) (can .message) (can .rest) (can .first) (sender-gives b (can .message) (can .rest) (can .here) (can .first)) again (can .below-goal again) k (sym again-is ∙ e) in
+        kept-same refl refl (ap (λ (x : List Receipt). receipts ++ x) one) refl (g′, cut′, base, i)
 
+  recover-is : (n : ℕ) → effect l (recover n) ≡ recoveredLine n l
+  unfolding effect
+  recover-is n = refl
+
+-- Every accepted frame keeps the invariant.
 abbrev pub Steps : Type 0
 Steps =
     (l : Line) (g : Ghost) (cut base : ℕ → ℕ) (fed : List Act) (receipts : List Receipt) (crashes : List ℕ) → Inv l g cut base fed receipts crashes
     → (f : List ℕ) → refusal l f ≡ 0 → Kept (step l f .line) (fed ++ feedOf (frameOf f)) (receipts ++ receiptOf l (frameOf f)) (crashes ++ crashOf (frameOf f))
 
-module _ (take-replays : TakeReplays) (recovers : Recovers) where
-  module _ (l : Line) (g : Ghost) (cut base : ℕ → ℕ) (fed : List Act) (receipts : List Receipt) (crashes : List ℕ) (inv : Inv l g cut base fed receipts crashes) where
-    take-step : (b : ℕ) → CanTake l b → (k : Line) → effect l (take b) ≡ some k → Kept k fed (receipts ++ receiptOf l (take b)) crashes
-    take-step b can k e = elim (up-or-replay (nodeAt l (channelAt (l .plan) b .receiver) .status) (can .receiver)) [
-      | inl alive ↦ (_, _, _, take-up-step l g cut base fed receipts crashes inv b can alive k e)
-      | inr q ↦
-          take-replays l g cut base fed receipts crashes inv b (can .message) (can .rest) (can .here) (can .first) (sender-gives l g cut base fed receipts crashes inv b (can .message) (can .rest) (can .here) (can .first)) q
-          (can .below-goal q) k e
-    ]
+module _ (l : Line) (g : Ghost) (cut base : ℕ → ℕ) (fed : List Act) (receipts : List Receipt) (crashes : List ℕ) (inv : Inv l g cut base fed receipts crashes) where
+  take-step : (b : ℕ) → CanTake l b → (k : Line) → effect l (take b) ≡ some k → Kept k fed (receipts ++ receiptOf l (take b)) crashes
+  take-step b can k e = elim (up-or-replay (nodeAt l (channelAt (l .plan) b .receiver) .status) (can .receiver)) [
+    | inl alive ↦ (_, _, _, take-up-step l g cut base fed receipts crashes inv b can alive k e)
+    | inr q ↦ take-again-step l g cut base fed receipts crashes inv b can q k e
+  ]
 
-    effect-inv : (f : Frame) → Passed l f → (k : Line) → effect l f ≡ some k → Kept k (fed ++ feedOf f) (receipts ++ receiptOf l f) (crashes ++ crashOf f)
-    effect-inv (feed n r) p k e = kept-same refl refl (nil-right receipts) (nil-right crashes) (_, _, _, feed-step l g cut base fed receipts crashes inv n r (can-feed p) k e)
-    effect-inv (send b) p k e = kept-same refl (nil-right fed) (nil-right receipts) (nil-right crashes) (_, _, _, send-step l g cut base fed receipts crashes inv b (can-send p) k e)
-    effect-inv (take b) p k e = kept-same refl (nil-right fed) refl (nil-right crashes) (take-step b (can-take p) k e)
-    effect-inv (crash n) p k e = kept-same refl (nil-right fed) (nil-right receipts) refl (_, _, _, crash-step l g cut base fed receipts crashes inv n (can-crash p) k e)
-    effect-inv (recover n) p k e =
-        let can = can-recover p in
-        kept-same refl (nil-right fed) (nil-right receipts) (nil-right crashes) (recovers l g cut base fed receipts crashes inv n (can .here) (can .no-source) (can .no-sink) (can .stopped) k e)
+  effect-inv : (f : Frame) → Passed l f → (k : Line) → effect l f ≡ some k → Kept k (fed ++ feedOf f) (receipts ++ receiptOf l f) (crashes ++ crashOf f)
+  effect-inv (feed n r) p k e = kept-same refl refl (nil-right receipts) (nil-right crashes) (_, _, _, feed-step l g cut base fed receipts crashes inv n r (can-feed p) k e)
+  effect-inv (send b) p k e = kept-same refl (nil-right fed) (nil-right receipts) (nil-right crashes) (_, _, _, send-step l g cut base fed receipts crashes inv b (can-send p) k e)
+  effect-inv (take b) p k e = kept-same refl (nil-right fed) refl (nil-right crashes) (take-step b (can-take p) k e)
+  effect-inv (crash n) p k e = kept-same refl (nil-right fed) (nil-right receipts) refl (_, _, _, crash-step l g cut base fed receipts crashes inv n (can-crash p) k e)
+  effect-inv (recover n) p k e =
+      let can = can-recover p in
+      kept-same refl (nil-right fed) (nil-right receipts) (nil-right crashes) (recover-inv l g cut base fed receipts crashes inv n (can .here) (can .stopped) k (sym (recover-is l g cut base fed receipts crashes inv n) ∙ e))
 
-  pub step-inv : Steps
-  step-inv l g cut base fed receipts crashes inv f e =
-      let p = passed l (frameOf f) (line-passed l f e) in
-      let (g′, cut′, base′, inv′) = effect-inv l g cut base fed receipts crashes inv (frameOf f) p (p .next) (p .leads) in
-      kept-same (step-accepted l f e .1 ∙ ap (accepted l) (p .leads)) refl refl refl (g′, cut′, base′, counted-inv inv′)
+pub step-inv : Steps
+step-inv l g cut base fed receipts crashes inv f e =
+    let p = passed l (frameOf f) (line-passed l f e) in
+    let (g′, cut′, base′, inv′) = effect-inv l g cut base fed receipts crashes inv (frameOf f) p (p .next) (p .leads) in
+    kept-same (step-accepted l f e .1 ∙ ap (accepted l) (p .leads)) refl refl refl (g′, cut′, base′, counted-inv inv′)
