@@ -1,6 +1,7 @@
 -- A quiet line: nothing put on a channel is still to come, so the run of its history is at rest.
 use Prim.Native.Nat.{ℕ, zero, suc, _+_, _<_, _≤_}
 use mathlib.Core.Path.{_≡_, refl, sym, ap, subst, _∙_}
+use mathlib.Core.Logic.{_≢_}
 use mathlib.Core.Bool.{Bool, true, false, _&&_, true≢false}
 use mathlib.Core.List.{List, [], _∷_, _++_, map}
 use native.Mathlib.Omega.{arith}
@@ -100,9 +101,10 @@ module _ (l : Line) (g : Ghost) (cut base : ℕ → ℕ) (fed : List Act) (recei
         let mark = laneAt l b .mark in
         let taken = laneAt l b .taken in
         let puts = put (l .plan) g b in
-        let (ordered, late, queue) = s .queue (λ e. up-not-down (sym receiver-up ∙ e)) in
-        let before : until timeOf mark (past timeOf taken puts) ≡ [] = ap (until timeOf mark) (sym (s .to-come)) ∙ sym queue ∙ no-messages (laneAt l b .queue) (idle .1) in
-        let after : past timeOf mark (past timeOf taken puts) ≡ [] = ap (past timeOf mark) (sym (s .to-come)) ∙ past-past timeOf taken mark ordered (logPut l b) ∙ none-late in
+        let receiving : nodeAt l (channelAt (l .plan) b .receiver) .status ≢ down = λ e. up-not-down (sym receiver-up ∙ e) in
+        let (ordered, late, queue) = s .queue receiving in
+        let before : until timeOf mark (past timeOf taken puts) ≡ [] = ap (until timeOf mark) (sym (s .to-come receiving)) ∙ sym queue ∙ no-messages (laneAt l b .queue) (idle .1) in
+        let after : past timeOf mark (past timeOf taken puts) ≡ [] = ap (past timeOf mark) (sym (s .to-come receiving)) ∙ past-past timeOf taken mark ordered (logPut l b) ∙ none-late in
         ap (λ (t : ℕ). past timeOf t puts) (c .cut-up receiver-up) ∙ cut-at timeOf mark (rises-past timeOf taken (c .rises)) ∙ ap (λ (x : List Message). x ++ past timeOf mark (past timeOf taken puts)) before ∙ after
 
   pub quiet-rests : atRest (plainRun (l .plan) (run l g cut fed receipts crashes (inv .nodes) (inv .channels) .0) .queues) ≡ true
