@@ -2,6 +2,7 @@
 use Prim.Native.Nat.{ℕ, zero, suc, _^_}
 use mathlib.Core.Bool.{Bool, true, false, not, _&&_, _||_}
 use mathlib.Core.List.{List, [], _∷_, _++_, map}
+use mathlib.Core.Option.{Option, none, some}
 use lib.ListN.{length}
 use lib.Dec.{leb, ltb, eqb}
 use Rattle.plan.specs.declared.Record.{Record}
@@ -11,9 +12,9 @@ use Rattle.plan.specs.Plan.{Plan, planBytes, nodeCount, channelCount, channelAt
 use Rattle.plan.specs.Check.{planRefusal}
 use Rattle.rules.specs.Lists.{keep, allOf, anyOf, joined, greatestOf, upTo}
 use Rattle.rules.specs.Line.{logLimit, queueLimit, heldLimit, targetLimit, stepLimit, Origin, fed, made, Message, Entry, Held, Target, Status, up, down, replay, Node, Lane, Line, nodeAt, laneAt, parents, isUp, isDown, isReplay}
-use Rattle.rules.specs.Recover.{lowOf, targetsOf, sameTarget, conflict, noTargets, recovered, rowsComplete}
+use Rattle.rules.specs.Recover.{sameTarget}
 use Rattle.rules.specs.Replay.{passedOn}
-use Rattle.rules.specs.Step.{endDown, noMessages}
+use Rattle.rules.specs.Step.{endDown, noMessages, recoverGives}
 
 abbrev pub nodeNumbers : Line → List ℕ
 nodeNumbers l = upTo 0 (nodeCount (l .plan))
@@ -184,16 +185,15 @@ sameTargets [] (u ∷ us) = false
 sameTargets (t ∷ ts) [] = false
 sameTargets (t ∷ ts) (u ∷ us) = sameTarget t u && sameTargets ts us
 
--- Recover, were the node down, would be accepted (12 aside) and leave it replaying.
-unfoldable pub wouldReplay : Line → ℕ → Bool
-unfolding targetsOf recovered rowsComplete
-wouldReplay l n = leb (length (targetsOf l n)) targetLimit && not (conflict (targetsOf l n)) && not (noTargets (targetsOf l n)) && not (rowsComplete (recovered n l) n)
+-- Whether node n replays in a line that Recover gives, with the time and the targets of a node.
+abbrev pub replaysAs : ℕ → Node → Option Line → Bool
+replaysAs n x none = false
+replaysAs n x (some k) = isReplay (nodeAt k n .status) && eqb (x .time) (nodeAt k n .time) && sameTargets (x .targets) (nodeAt k n .targets)
 
 -- "a replaying node's time or targets are not what Recover would give"
 unfoldable pub replayWrong : Line → Bool
-unfolding wouldReplay lowOf targetsOf
-replayWrong l =
-    someNode l (λ (n : ℕ). isReplay (nodeAt l n .status) && not (wouldReplay l n && eqb (nodeAt l n .time) (lowOf l n) && sameTargets (nodeAt l n .targets) (targetsOf l n)))
+unfolding recoverGives
+replayWrong l = someNode l (λ (n : ℕ). isReplay (nodeAt l n .status) && not (replaysAs n (nodeAt l n) (recoverGives l n)))
 
 abbrev pub isEmpty : {A : Type 0} → List A → Bool
 isEmpty [] = true

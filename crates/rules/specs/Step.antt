@@ -209,6 +209,11 @@ recoveredLine n l =
       | false ↦ elim (noTargets (targetsOf l n)) [ true ↦ some (recovered n l) | false ↦ endedIfComplete n (recovered n l) ]
     ]
 
+-- What Recover of a node would give, were it down, 12 to 20 aside: nothing where 21 or 24 applies.
+unfoldable pub recoverGives : Line → ℕ → Option Line
+unfolding targetsOf recoveredLine
+recoverGives l n = elim (noSpace l (recover n)) [ true ↦ none | false ↦ recoveredLine n l ]
+
 -- The line that a frame leads to, steps not counted; nothing where 24 applies.
 unfoldable pub effect : Line → Frame → Option Line
 unfolding fedLine sentOn withLane sendable takenLine crashedLine recoveredLine
