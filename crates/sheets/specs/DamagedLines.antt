@@ -1,14 +1,15 @@
 -- Lines with one thing wrong, and near misses: which conditions of "Damaged" each meets.
 use Prim.Native.Nat.{ℕ, suc}
 use mathlib.Core.Path.{_≡_, refl}
-use mathlib.Core.Bool.{Bool, true, false}
+use mathlib.Core.Bool.{Bool, true, false, not}
 use mathlib.Core.List.{List, [], _∷_, map}
 use Rattle.plan.specs.declared.Record.{Record}
 use Rattle.plan.specs.declared.Channel.{Channel}
-use Rattle.rules.specs.Line.{Origin, fed, made, Message, Entry, Held, Target, Node, Lane, Line, nodeAt, laneAt, withNode, withLane}
+use Rattle.rules.specs.Line.{Origin, fed, made, Message, Entry, Held, Target, Node, Lane, Line, nodeAt, laneAt, withNode, withLane, initialLine}
 use Rattle.rules.specs.Claim.{storyFrom, told}
-use Rattle.rules.specs.Marked.{replayBegun, replayEnded}
-use Rattle.rules.specs.Damaged.{planBroken, misshapen, pastLimits, wrongParent, timePastSteps, timeZero, makerWrong, logWrong, pastClock, heldWrong, heldNotPassed, laneWrong, marksWrong, replayWrong, leftOver, damaged}
+use Rattle.rules.specs.Marked.{replayPlan, replayBegun, replayEnded}
+use Rattle.rules.specs.Examples.{chain}
+use Rattle.rules.specs.Damaged.{someNode, someChannel, planBroken, misshapen, stepsPast, nodePastLimits, nodeWrongParent, nodeTimePast, nodeTimeZero, nodeMakerWrong, logWrong, pastClock, heldWrong, heldNotPassed, markMissing, markOnEnd, replayWrong, nodeHolds, channelPastLimits, channelWrongParent, channelTimePast, channelTimeZero, channelMakerWrong, queueWrong, marksJoined, channelHolds, isEmpty, damaged}
 
 -- The conditions in the order in which `damaged` has them; `met` gives the numbers, from 1, of those that hold.
 abbrev numbersOf : ℕ → List Bool → List ℕ
@@ -16,9 +17,42 @@ numbersOf k [] = []
 numbersOf k (true ∷ bs) = k ∷ numbersOf (suc k) bs
 numbersOf k (false ∷ bs) = numbersOf (suc k) bs
 
+abbrev atNode : Line → (ℕ → Node → Bool) → Bool
+atNode l f = someNode l (λ (n : ℕ). f n (nodeAt l n))
+
+abbrev atChannel : Line → (ℕ → Lane → Bool) → Bool
+atChannel l f = someChannel l (λ (b : ℕ). f b (laneAt l b))
+
 unfoldable pub met : Line → List ℕ
-unfolding planBroken misshapen pastLimits wrongParent timePastSteps timeZero makerWrong logWrong pastClock heldWrong heldNotPassed laneWrong marksWrong replayWrong leftOver
-met l = numbersOf 1 (planBroken l ∷ misshapen l ∷ pastLimits l ∷ wrongParent l ∷ timePastSteps l ∷ timeZero l ∷ makerWrong l ∷ logWrong l ∷ pastClock l ∷ heldWrong l ∷ heldNotPassed l ∷ laneWrong l ∷ marksWrong l ∷ replayWrong l ∷ leftOver l ∷ [])
+unfolding planBroken misshapen stepsPast nodePastLimits nodeWrongParent nodeTimePast nodeTimeZero nodeMakerWrong logWrong pastClock heldWrong heldNotPassed markMissing markOnEnd replayWrong nodeHolds channelPastLimits channelWrongParent channelTimePast channelTimeZero channelMakerWrong queueWrong marksJoined channelHolds
+met l =
+    let p = l .plan in
+    numbersOf 1 (
+      planBroken l
+      ∷ misshapen l
+      ∷ stepsPast l
+      ∷ atNode l (λ n x. nodePastLimits x)
+      ∷ atNode l (nodeWrongParent p)
+      ∷ atNode l (λ n x. nodeTimePast (l .steps) x)
+      ∷ atNode l (λ n x. nodeTimeZero x)
+      ∷ atNode l (nodeMakerWrong p)
+      ∷ atNode l (λ n x. logWrong x)
+      ∷ someNode l (pastClock l)
+      ∷ someNode l (heldWrong l)
+      ∷ atNode l (heldNotPassed p)
+      ∷ atNode l (λ n x. markMissing x)
+      ∷ atNode l (markOnEnd p)
+      ∷ someNode l (replayWrong l)
+      ∷ atNode l (λ n x. nodeHolds x)
+      ∷ atChannel l (λ b s. channelPastLimits s)
+      ∷ atChannel l (channelWrongParent p)
+      ∷ atChannel l (λ b s. channelTimePast (l .steps) s)
+      ∷ atChannel l (λ b s. channelTimeZero s)
+      ∷ atChannel l (channelMakerWrong p)
+      ∷ someChannel l (queueWrong l)
+      ∷ someChannel l (marksJoined l)
+      ∷ someChannel l (channelHolds l)
+      ∷ [])
 
 unfoldable pub begun : Line
 unfolding replayBegun
@@ -69,45 +103,69 @@ moved m t s = record { mark = m; taken = t; heard = s .heard; queue = s .queue }
 abbrev held : ℕ → ℕ → Held
 held material time = record { what = piece 1 material; sender = 0; time = time; before = fed }
 
-unfoldable pub lines : List Line
-unfolding begun ended fallen withNode withLane
-lines =
-    begun
-    ∷ ended
-    ∷ fallen
-    ∷ steps 1_000_000 begun
-    ∷ steps 1_000_001 begun
-    ∷ steps 1 begun
-    ∷ lane 0 (λ (s : Lane). record { mark = 1; taken = 0; heard = s .heard; queue = record { what = piece 1 16; time = 1; origin = fed } ∷ [] }) begun
-    ∷ lane 3 (origins (made 0 0)) ended
-    ∷ lane 3 (origins (made 3 1)) ended
-    ∷ lane 3 (origins fed) ended
-    ∷ node 0 (timed 1) ended
-    ∷ node 3 (logs (λ (e : Entry). record { what = e .what; time = e .time; origin = made 2 3; before = e .before })) ended
-    ∷ node 3 (logs (λ (e : Entry). record { what = e .what; time = e .time; origin = e .origin; before = made 0 2 })) ended
-    ∷ node 2 (holds (held 1 1 ∷ [])) (lane 0 (moved 1 1) begun)
-    ∷ node 2 (holds (held 1 1 ∷ [])) begun
-    ∷ node 2 (holds (held 1 1 ∷ held 1 1 ∷ [])) (lane 0 (moved 1 1) begun)
-    ∷ node 2 (holds (held 3 1 ∷ [])) (lane 0 (moved 1 1) begun)
-    ∷ lane 0 (moved 0 1) begun
-    ∷ lane 3 (moved 1 0) ended
-    ∷ node 2 (marked false) begun
-    ∷ node 3 (marked true) begun
-    ∷ node 2 (timed 1) begun
-    ∷ node 2 (aims []) begun
-    ∷ node 3 (aims (record { time = 1; parent = 2; parentTime = 1 } ∷ [])) begun
-    ∷ node 2 (timed 1) fallen
-    ∷ lane 3 (moved 1 0) fallen
-    ∷ lane 0 (moved 0 1) fallen
-    ∷ lane 2 (moved 0 2) fallen
-    ∷ lane 0 (λ (s : Lane). record { mark = s .mark; taken = s .taken; heard = 0 ∷ s .heard; queue = s .queue }) begun
-    ∷ record { plan = record { rules = begun .plan .rules; channels = map (λ (c : Channel). record { sender = c .sender; receiver = c .receiver; mask = c .mask; modulus = 0; remainder = 0 }) (begun .plan .channels) }; steps = begun .steps; nodes = begun .nodes; lanes = begun .lanes }
+abbrev before : Origin → Entry → Entry
+before o e = record { what = e .what; time = e .time; origin = e .origin; before = o }
+
+-- A line and the conditions that it meets.
+pub record Trial : Type 0 where
+  pub line : Line
+  pub meets : List ℕ
+
+abbrev trial : Line → List ℕ → Trial
+trial l ms = record { line = l; meets = ms }
+
+unfoldable pub trials : List Trial
+unfolding replayPlan chain initialLine begun ended fallen withNode withLane
+trials =
+    trial begun []
+    ∷ trial ended []
+    ∷ trial fallen []
+    ∷ trial (steps 1_000_000 begun) []
+    ∷ trial (node 2 (holds (held 1 1 ∷ [])) (lane 0 (moved 1 1) begun)) []
+    -- a down node's child keeps its clock
+    ∷ trial (lane 2 (moved 0 2) fallen) []
+    -- the line
+    ∷ trial (record { plan = record { rules = begun .plan .rules; channels = map (λ (c : Channel). record { sender = c .sender; receiver = c .receiver; mask = c .mask; modulus = 0; remainder = 0 }) (begun .plan .channels) }; steps = begun .steps; nodes = begun .nodes; lanes = begun .lanes }) (1 ∷ [])
+    ∷ trial (lane 0 (λ (s : Lane). record { mark = s .mark; taken = s .taken; heard = 0 ∷ s .heard; queue = s .queue }) begun) (2 ∷ [])
+    ∷ trial (steps 1_000_001 begun) (3 ∷ [])
+    -- a node
+    ∷ trial (node 3 (logs (λ (e : Entry). record { what = piece 1 16; time = e .time; origin = e .origin; before = e .before })) ended) (4 ∷ [])
+    ∷ trial (node 3 (logs (before (made 3 1))) ended) (5 ∷ [])
+    ∷ trial (node 0 (timed 100) ended) (6 ∷ [])
+    ∷ trial (node 3 (logs (before (made 0 0))) ended) (7 ∷ [])
+    ∷ trial (node 3 (logs (before fed)) ended) (8 ∷ [])
+    ∷ trial (node 0 (timed 1) ended) (9 ∷ [])
+    ∷ trial (node 3 (logs (λ (e : Entry). record { what = e .what; time = e .time; origin = made 2 3; before = e .before })) ended) (10 ∷ [])
+    ∷ trial (node 3 (logs (before (made 0 2))) ended) (10 ∷ [])
+    ∷ trial (node 2 (holds (held 1 1 ∷ [])) begun) (10 ∷ [])
+    ∷ trial (node 2 (holds (held 1 1 ∷ held 1 1 ∷ [])) (lane 0 (moved 1 1) begun)) (11 ∷ [])
+    ∷ trial (node 2 (holds (held 3 1 ∷ [])) (lane 0 (moved 1 1) begun)) (12 ∷ [])
+    ∷ trial (node 2 (marked false) begun) (13 ∷ [])
+    ∷ trial (node 3 (marked true) (initialLine replayPlan)) (14 ∷ [])
+    ∷ trial (node 2 (timed 1) begun) (15 ∷ [])
+    ∷ trial (node 2 (aims []) begun) (15 ∷ [])
+    ∷ trial (node 3 (aims (record { time = 1; parent = 2; parentTime = 1 } ∷ [])) begun) (16 ∷ [])
+    ∷ trial (node 2 (timed 1) fallen) (16 ∷ [])
+    -- a channel
+    ∷ trial (lane 0 (λ (s : Lane). record { mark = 1; taken = 0; heard = s .heard; queue = record { what = piece 1 16; time = 1; origin = fed } ∷ [] }) begun) (17 ∷ [])
+    ∷ trial (lane 3 (origins (made 3 1)) ended) (18 ∷ [])
+    ∷ trial (lane 0 (moved 100 1) ended) (19 ∷ [])
+    ∷ trial (lane 3 (origins (made 0 0)) ended) (20 ∷ [])
+    ∷ trial (lane 3 (origins fed) ended) (21 ∷ [])
+    ∷ trial (lane 0 (moved 0 1) begun) (22 ∷ [])
+    ∷ trial (lane 3 (moved 1 0) ended) (22 ∷ [])
+    ∷ trial (node 1 (marked true) (node 2 (marked true) (initialLine chain))) (23 ∷ [])
+    ∷ trial (lane 3 (moved 1 0) fallen) (24 ∷ [])
+    ∷ trial (lane 0 (moved 0 1) fallen) (24 ∷ [])
+    -- times of nodes and channels past the steps; a marked sink beside a marked node
+    ∷ trial (steps 1 begun) (6 ∷ 19 ∷ [])
+    ∷ trial (node 3 (marked true) begun) (14 ∷ 23 ∷ [])
     ∷ []
 
-each-condition : map met lines ≡ [] ∷ [] ∷ [] ∷ [] ∷ (3 ∷ []) ∷ (5 ∷ []) ∷ (3 ∷ []) ∷ (6 ∷ []) ∷ (4 ∷ []) ∷ (7 ∷ []) ∷ (8 ∷ []) ∷ (9 ∷ []) ∷ (9 ∷ []) ∷ [] ∷ (9 ∷ []) ∷ (10 ∷ []) ∷ (11 ∷ []) ∷ (12 ∷ []) ∷ (12 ∷ []) ∷ (13 ∷ []) ∷ (13 ∷ []) ∷ (14 ∷ []) ∷ (14 ∷ []) ∷ (15 ∷ []) ∷ (15 ∷ []) ∷ (15 ∷ []) ∷ (15 ∷ []) ∷ [] ∷ (2 ∷ []) ∷ (1 ∷ []) ∷ []
-unfolding lines met
+each-condition : map (λ (t : Trial). met (t .line)) trials ≡ map (λ (t : Trial). t .meets) trials
+unfolding trials met
 each-condition = refl
 
-any-of-them : map damaged lines ≡ false ∷ false ∷ false ∷ false ∷ true ∷ true ∷ true ∷ true ∷ true ∷ true ∷ true ∷ true ∷ true ∷ false ∷ true ∷ true ∷ true ∷ true ∷ true ∷ true ∷ true ∷ true ∷ true ∷ true ∷ true ∷ true ∷ true ∷ false ∷ true ∷ true ∷ []
-unfolding lines damaged
+any-of-them : map (λ (t : Trial). damaged (t .line)) trials ≡ map (λ (t : Trial). not (isEmpty (t .meets))) trials
+unfolding trials damaged
 any-of-them = refl
