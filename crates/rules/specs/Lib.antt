@@ -12,3 +12,5 @@ pub mod Sheet
 pub mod Claim
 pub mod Marked
 pub mod Examples
+pub mod DamagedLines
+pub mod ReplayRefusals

@@ -48,20 +48,20 @@ unfolding answer columnsLeft unplaceable chosenColumns malformed lengthsAgree ta
 placed low high rows times fixed floors lent = answer low high rows times fixed floors lent ∷ columnsLeft low high rows times fixed floors lent
 
 -- P9: "0 and 1 feed 2; 2 sends material 1 to 3, materials 1 and 2 to 4."
-abbrev channel : ℕ → ℕ → ℕ → Channel
+abbrev pub channel : ℕ → ℕ → ℕ → Channel
 channel sender receiver mask = record { sender = sender; receiver = receiver; mask = mask; modulus = 1; remainder = 0 }
 
 unfoldable pub replayPlan : Plan
 replayPlan = record { rules = Keep ∷ Keep ∷ Keep ∷ Keep ∷ Keep ∷ []; channels = channel 0 2 65535 ∷ channel 1 2 65535 ∷ channel 2 3 2 ∷ channel 2 4 6 ∷ [] }
 
-abbrev feedFrame : ℕ → ℕ → ℕ → List ℕ
+abbrev pub feedFrame : ℕ → ℕ → ℕ → List ℕ
 feedFrame node piece material = 0 ∷ 13 ∷ 1 ∷ 1 ∷ node ∷ 0 ∷ 0 ∷ 0 ∷ piece ∷ material ∷ 0 ∷ 0 ∷ 0 ∷ []
 
-abbrev frame : ℕ → ℕ → List ℕ
+abbrev pub frame : ℕ → ℕ → List ℕ
 frame kind number = 0 ∷ 5 ∷ 1 ∷ kind ∷ number ∷ []
 
 -- A Send and a Take on a channel.
-abbrev moved : ℕ → List (List ℕ)
+abbrev pub moved : ℕ → List (List ℕ)
 moved b = frame 2 b ∷ frame 3 b ∷ []
 
 -- "Pieces 1 (material 1) and 2 (material 2) enter at 0, piece 3 (material 2) at 1. Node 2 takes 3, 1, 2; node 3 takes piece 1; 2 crashes and recovers."
@@ -90,7 +90,7 @@ replayAfter = storyFrom replayEnded (moved 3 ++ (frame 3 1 ∷ (moved 0 ++ (move
 abbrev targetNumbers : List Target → List ℕ
 targetNumbers ts = joined (map (λ (t : Target). t .time ∷ t .parent ∷ t .parentTime ∷ []) ts)
 
-abbrev logNumbers : List Entry → List ℕ
+abbrev pub logNumbers : List Entry → List ℕ
 logNumbers es = joined (map (λ (e : Entry). e .time ∷ e .what .piece ∷ []) es)
 
 abbrev receiptNumbers : List Receipt → List ℕ

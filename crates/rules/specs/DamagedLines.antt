@@ -28,31 +28,31 @@ unfolding planBroken misshapen stepsPast nodePastLimits nodeWrongParent nodeTime
 met l =
     let p = l .plan in
     numbersOf 1 (
-      planBroken l
-      ∷ misshapen l
-      ∷ stepsPast l
-      ∷ atNode l (λ n x. nodePastLimits x)
-      ∷ atNode l (nodeWrongParent p)
-      ∷ atNode l (λ n x. nodeTimePast (l .steps) x)
-      ∷ atNode l (λ n x. nodeTimeZero x)
-      ∷ atNode l (nodeMakerWrong p)
-      ∷ atNode l (λ n x. logWrong x)
-      ∷ someNode l (pastClock l)
-      ∷ someNode l (heldWrong l)
-      ∷ atNode l (heldNotPassed p)
-      ∷ atNode l (λ n x. markMissing x)
-      ∷ atNode l (markOnEnd p)
-      ∷ someNode l (replayWrong l)
-      ∷ atNode l (λ n x. nodeHolds x)
-      ∷ atChannel l (λ b s. channelPastLimits s)
-      ∷ atChannel l (channelWrongParent p)
-      ∷ atChannel l (λ b s. channelTimePast (l .steps) s)
-      ∷ atChannel l (λ b s. channelTimeZero s)
-      ∷ atChannel l (channelMakerWrong p)
-      ∷ someChannel l (queueWrong l)
-      ∷ someChannel l (marksJoined l)
-      ∷ someChannel l (channelHolds l)
-      ∷ [])
+    planBroken l
+    ∷ misshapen l
+    ∷ stepsPast l
+    ∷ atNode l (λ n x. nodePastLimits x)
+    ∷ atNode l (nodeWrongParent p)
+    ∷ atNode l (λ n x. nodeTimePast (l .steps) x)
+    ∷ atNode l (λ n x. nodeTimeZero x)
+    ∷ atNode l (nodeMakerWrong p)
+    ∷ atNode l (λ n x. logWrong x)
+    ∷ someNode l (pastClock l)
+    ∷ someNode l (heldWrong l)
+    ∷ atNode l (heldNotPassed p)
+    ∷ atNode l (λ n x. markMissing x)
+    ∷ atNode l (markOnEnd p)
+    ∷ someNode l (replayWrong l)
+    ∷ atNode l (λ n x. nodeHolds x)
+    ∷ atChannel l (λ b s. channelPastLimits s)
+    ∷ atChannel l (channelWrongParent p)
+    ∷ atChannel l (λ b s. channelTimePast (l .steps) s)
+    ∷ atChannel l (λ b s. channelTimeZero s)
+    ∷ atChannel l (channelMakerWrong p)
+    ∷ someChannel l (queueWrong l)
+    ∷ someChannel l (marksJoined l)
+    ∷ someChannel l (channelHolds l)
+    ∷ [])
 
 unfoldable pub begun : Line
 unfolding replayBegun
@@ -76,7 +76,7 @@ lane b f l = withLane b (f (laneAt l b)) l
 abbrev steps : ℕ → Line → Line
 steps k l = record { plan = l .plan; steps = k; nodes = l .nodes; lanes = l .lanes }
 
-abbrev piece : ℕ → ℕ → Record
+abbrev pub piece : ℕ → ℕ → Record
 piece k m = record { piece = k; material = m; mass = 0 }
 
 abbrev origins : Origin → Lane → Lane
