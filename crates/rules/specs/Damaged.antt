@@ -9,17 +9,11 @@ use Rattle.plan.specs.declared.Record.{Record}
 use Rattle.plan.specs.Record.{materialFits}
 use Rattle.plan.specs.Plan.{Plan, planBytes, nodeCount, channelCount, channelAt, entering, isSource, isSink}
 use Rattle.plan.specs.Check.{planRefusal}
-use Rattle.rules.specs.Lists.{allOf, anyOf, joined, upTo}
-use Rattle.rules.specs.Line.{logLimit, queueLimit, heldLimit, targetLimit, stepLimit, Origin, fed, made, Message, Entry, Held, Target, Status, up, down, replay, Node, Lane, Line, nodeAt, laneAt, parents, isUp, isReplay}
+use Rattle.rules.specs.Lists.{isEmpty, allOf, anyOf, joined}
+use Rattle.rules.specs.Line.{logLimit, queueLimit, heldLimit, targetLimit, stepLimit, Origin, fed, made, Message, Entry, Held, Target, Status, up, down, replay, Node, Lane, Line, nodeAt, laneAt, nodeNumbers, channelNumbersOf, senderOf, receiverOf, parents, isUp, isReplay}
 use Rattle.rules.specs.Recover.{sameTarget}
 use Rattle.rules.specs.Replay.{passedOn, entryAt, heldByRow}
-use Rattle.rules.specs.Step.{endDown, nodeDown, senderOf, receiverOf, replaying, recoverGives}
-
-abbrev pub nodeNumbers : Line → List ℕ
-nodeNumbers l = upTo 0 (nodeCount (l .plan))
-
-abbrev pub channelNumbersOf : Line → List ℕ
-channelNumbersOf l = upTo 0 (channelCount (l .plan))
+use Rattle.rules.specs.Step.{endDown, nodeDown, replaying, recoverGives}
 
 -- Something holds of a node, or of a channel.
 abbrev pub someNode : Line → (ℕ → Bool) → Bool
@@ -207,10 +201,6 @@ replaysAs n x (some k) = isReplay (nodeAt k n .status) && eqb (x .time) (nodeAt 
 unfoldable pub replayWrong : Line → ℕ → Bool
 unfolding recoverGives
 replayWrong l n = replaying l n && not (replaysAs n (nodeAt l n) (recoverGives l n))
-
-abbrev pub isEmpty : {A : Type 0} → List A → Bool
-isEmpty [] = true
-isEmpty (x ∷ xs) = false
 
 -- "a down node's belts or emptied parts, an up node's targets or held list, a replaying node's log or leaving belts hold anything": what stands at the node, and what on its channels. A down node's clock is on those that enter it.
 abbrev pub holdsByStatus : Status → Node → Bool

@@ -6,10 +6,11 @@ use mathlib.Core.List.{List, [], _∷_, map}
 use Rattle.plan.specs.declared.Record.{Record}
 use Rattle.plan.specs.declared.Channel.{Channel}
 use Rattle.rules.specs.Line.{Origin, fed, made, Message, Entry, Held, Target, Node, Lane, Line, nodeAt, laneAt, withNode, withLane, initialLine}
+use Rattle.rules.specs.Lists.{isEmpty}
 use Rattle.rules.specs.Claim.{storyFrom, told}
 use Rattle.rules.specs.Marked.{replayPlan, replayBegun, replayEnded}
 use Rattle.rules.specs.Examples.{chain}
-use Rattle.rules.specs.Damaged.{someNode, someChannel, planBroken, misshapen, stepsPast, nodePastLimits, nodeWrongParent, nodeTimePast, nodeTimeZero, nodeMakerWrong, logWrong, pastClock, heldWrong, heldNotPassed, markMissing, markOnEnd, replayWrong, nodeHolds, channelPastLimits, channelWrongParent, channelTimePast, channelTimeZero, channelMakerWrong, queueWrong, marksJoined, channelHolds, isEmpty, damaged}
+use Rattle.rules.specs.Damaged.{someNode, someChannel, planBroken, misshapen, stepsPast, nodePastLimits, nodeWrongParent, nodeTimePast, nodeTimeZero, nodeMakerWrong, logWrong, pastClock, heldWrong, heldNotPassed, markMissing, markOnEnd, replayWrong, nodeHolds, channelPastLimits, channelWrongParent, channelTimePast, channelTimeZero, channelMakerWrong, queueWrong, marksJoined, channelHolds, damaged}
 
 -- The conditions in the order in which `damaged` has them; `met` gives the numbers, from 1, of those that hold.
 abbrev numbersOf : ℕ → List Bool → List ℕ

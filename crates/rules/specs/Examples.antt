@@ -3,14 +3,13 @@ use Prim.Native.Nat.{ℕ}
 use mathlib.Core.Path.{_≡_, refl}
 use mathlib.Core.List.{List, [], _∷_, _++_, map}
 use lib.ListN.{replicate}
-use Rattle.plan.specs.declared.Rule.{Rule}
 use Rattle.plan.specs.declared.Rule.the-variants.{Keep}
 use Rattle.plan.specs.Plan.{Plan}
 use Rattle.plan.specs.Check.{planRefusal}
 use Rattle.rules.specs.Lists.{joined}
-use Rattle.rules.specs.Line.{made, Line, initialLine}
+use Rattle.rules.specs.Line.{made, initialLine}
 use Rattle.rules.specs.Clock.{raiseHeard}
-use Rattle.rules.specs.Claim.{Story, startOf, storyFrom, told}
+use Rattle.rules.specs.Claim.{startOf, storyFrom, told}
 use Rattle.rules.specs.Marked.{Row, channel, feedFrame, frame}
 
 -- The plan 0 to 1 with one byte changed.

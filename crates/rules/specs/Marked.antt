@@ -2,7 +2,6 @@
 use Prim.Native.Nat.{ℕ}
 use mathlib.Core.Path.{_≡_, refl}
 use mathlib.Core.List.{List, [], _∷_, _++_, map}
-use Rattle.plan.specs.declared.Rule.{Rule}
 use Rattle.plan.specs.declared.Rule.the-variants.{Keep}
 use Rattle.plan.specs.declared.Channel.{Channel}
 use Rattle.plan.specs.Plan.{Plan}
@@ -11,7 +10,7 @@ use Rattle.placing.specs.Answer.{answer, columnsLeft, unplaceable, chosenColumn
 use Rattle.placing.specs.Table.{malformed, lengthsAgree, tableFits, boundsFit, itemFits, fixedFits, comesAfter}
 use Rattle.placing.specs.Walk.{walked, begun, rowsOf, chosenRow, lastColumn}
 use Rattle.rules.specs.Lists.{joined}
-use Rattle.rules.specs.Line.{Entry, Target, Node, Line, nodeAt, laneAt, initialLine}
+use Rattle.rules.specs.Line.{Entry, Target, nodeAt, laneAt, initialLine}
 use Rattle.rules.specs.Recover.{lowOf, highOf}
 use Rattle.rules.specs.Plain.{Receipt}
 use Rattle.rules.specs.Claim.{Story, startOf, storyFrom, told, receivedBy}
