@@ -10,7 +10,11 @@ use Rattle.rules.specs.Lists.{joined}
 use Rattle.rules.specs.Line.{made, initialLine}
 use Rattle.rules.specs.Clock.{raiseHeard}
 use Rattle.rules.specs.Claim.{startOf, storyFrom, told}
-use Rattle.rules.specs.Marked.{Row, channel, feedFrame, frame}
+use Rattle.rules.specs.Marked.{channel, feedFrame, frame}
+
+pub record Example : Type 0 where
+  pub given : List ℕ
+  pub expected : List ℕ
 
 -- The plan 0 to 1 with one byte changed.
 abbrev smallPlan : ℕ → ℕ → ℕ → ℕ → ℕ → List ℕ
@@ -34,25 +38,25 @@ answers steps frames =
     let l = initialLine chain in
     storyFrom (startOf (record { plan = l .plan; steps = steps; nodes = l .nodes; lanes = l .lanes })) frames .numbers
 
-unfoldable pub exampleTable : List Row
+unfoldable pub exampleTable : List Example
 unfolding planRefusal answers
 exampleTable =
-    record { given = map planRefusal ((0 ∷ 5 ∷ 1 ∷ []) ∷ smallPlan 19 0 2 0 0 ∷ smallPlan 19 1 13 0 0 ∷ (0 ∷ 18 ∷ 1 ∷ 2 ∷ 1 ∷ replicate 13 0) ∷ smallPlan 19 1 2 3 0 ∷ smallPlan 19 1 2 0 1 ∷ widePlan ∷ smallPlan 19 1 2 0 0 ∷ []); marked = 1 ∷ 2 ∷ 3 ∷ 4 ∷ 5 ∷ 6 ∷ 7 ∷ 0 ∷ [] }
+    record { given = map planRefusal ((0 ∷ 5 ∷ 1 ∷ []) ∷ smallPlan 19 0 2 0 0 ∷ smallPlan 19 1 13 0 0 ∷ (0 ∷ 18 ∷ 1 ∷ 2 ∷ 1 ∷ replicate 13 0) ∷ smallPlan 19 1 2 3 0 ∷ smallPlan 19 1 2 0 1 ∷ widePlan ∷ smallPlan 19 1 2 0 0 ∷ []); expected = 1 ∷ 2 ∷ 3 ∷ 4 ∷ 5 ∷ 6 ∷ 7 ∷ 0 ∷ [] }
     -- 9, 10, 11: "`00 05 01 02`", "third byte 0", "Send of 13 bytes"
-    ∷ record { given = answers 0 ((0 ∷ 5 ∷ 1 ∷ 2 ∷ []) ∷ (0 ∷ 5 ∷ 0 ∷ 2 ∷ 0 ∷ []) ∷ (0 ∷ 13 ∷ 1 ∷ 2 ∷ 0 ∷ replicate 8 0) ∷ []); marked = 9 ∷ 10 ∷ 11 ∷ [] }
+    ∷ record { given = answers 0 ((0 ∷ 5 ∷ 1 ∷ 2 ∷ []) ∷ (0 ∷ 5 ∷ 0 ∷ 2 ∷ 0 ∷ []) ∷ (0 ∷ 13 ∷ 1 ∷ 2 ∷ 0 ∷ replicate 8 0) ∷ []); expected = 9 ∷ 10 ∷ 11 ∷ [] }
     -- 12: "one more Crash", before all that comes after it
-    ∷ record { given = answers 1_000_000 (frame 4 1 ∷ frame 4 99 ∷ []); marked = 12 ∷ 12 ∷ [] }
+    ∷ record { given = answers 1_000_000 (frame 4 1 ∷ frame 4 99 ∷ []); expected = 12 ∷ 12 ∷ [] }
     -- 13 to 18: "belt 24", "Crash 0", "Crash twice", "parent of a crashed node", "material 16", "empty belt"
-    ∷ record { given = answers 0 (frame 2 24 ∷ frame 4 0 ∷ frame 4 2 ∷ frame 4 2 ∷ frame 4 1 ∷ feedFrame 0 1 16 ∷ frame 3 0 ∷ []); marked = 13 ∷ 14 ∷ 0 ∷ 15 ∷ 16 ∷ 17 ∷ 18 ∷ [] }
+    ∷ record { given = answers 0 (frame 2 24 ∷ frame 4 0 ∷ frame 4 2 ∷ frame 4 2 ∷ frame 4 1 ∷ feedFrame 0 1 16 ∷ frame 3 0 ∷ []); expected = 13 ∷ 14 ∷ 0 ∷ 15 ∷ 16 ∷ 17 ∷ 18 ∷ [] }
     -- 19: "ninth Send"; a full belt with nothing more to send is 18
-    ∷ record { given = answers 0 (replicate 9 (feedFrame 0 1 1) ++ replicate 9 (frame 2 0)); marked = replicate 17 0 ++ 19 ∷ [] }
-    ∷ record { given = answers 0 (replicate 8 (feedFrame 0 1 1) ++ replicate 9 (frame 2 0)); marked = replicate 16 0 ++ 18 ∷ [] }
+    ∷ record { given = answers 0 (replicate 9 (feedFrame 0 1 1) ++ replicate 9 (frame 2 0)); expected = replicate 17 0 ++ 19 ∷ [] }
+    ∷ record { given = answers 0 (replicate 8 (feedFrame 0 1 1) ++ replicate 9 (frame 2 0)); expected = replicate 16 0 ++ 18 ∷ [] }
     -- 21: "65th Feed"
-    ∷ record { given = answers 0 (replicate 65 (feedFrame 0 1 1)); marked = replicate 64 0 ++ 21 ∷ [] }
+    ∷ record { given = answers 0 (replicate 65 (feedFrame 0 1 1)); expected = replicate 64 0 ++ 21 ∷ [] }
     -- a clock entry is raised: the greatest time heard stays
-    ∷ record { given = raiseHeard (0 ∷ 1 ∷ []) (5 ∷ 2 ∷ []) (made 0 3); marked = 5 ∷ 2 ∷ [] }
+    ∷ record { given = raiseHeard (0 ∷ 1 ∷ []) (5 ∷ 2 ∷ []) (made 0 3); expected = 5 ∷ 2 ∷ [] }
     ∷ []
 
-pub examples-hold : map (λ (r : Row). r .given) exampleTable ≡ map (λ (r : Row). r .marked) exampleTable
+pub examples-hold : map (λ (r : Example). r .given) exampleTable ≡ map (λ (r : Example). r .expected) exampleTable
 unfolding exampleTable
 examples-hold = refl

@@ -1,14 +1,12 @@
 -- The marked sheets P1 to P9 of document 01: one table, and the statement that every row of it holds.
-use Prim.Native.Nat.{ℕ}
+use Prim.Native.Nat.{ℕ, suc}
 use mathlib.Core.Path.{_≡_, refl}
 use mathlib.Core.List.{List, [], _∷_, _++_, map}
 use Rattle.plan.specs.declared.Rule.the-variants.{Keep}
 use Rattle.plan.specs.declared.Channel.{Channel}
-use Rattle.plan.specs.Plan.{Plan}
+use Rattle.plan.specs.Plan.{Plan, planBytes}
 use Rattle.plan.specs.Check.{planRefusal}
-use Rattle.placing.specs.Answer.{answer, columnsLeft, unplaceable, chosenColumns}
-use Rattle.placing.specs.Table.{malformed, lengthsAgree, tableFits, boundsFit, itemFits, fixedFits, comesAfter}
-use Rattle.placing.specs.Walk.{walked, begun, rowsOf, chosenRow, lastColumn}
+use Rattle.placing.specs.Marked.{Mark, Case, markOf, marked as placingMarked}
 use Rattle.rules.specs.Lists.{joined}
 use Rattle.rules.specs.Line.{Entry, Target, nodeAt, laneAt, initialLine}
 use Rattle.rules.specs.Recover.{lowOf, highOf}
@@ -16,10 +14,11 @@ use Rattle.rules.specs.Plain.{Receipt}
 use Rattle.rules.specs.Claim.{Story, startOf, storyFrom, told, receivedBy}
 use Rattle.rules.specs.Sheet.{sheet}
 
--- What the rules give, and what the paper marks, as numbers.
+-- A sheet's number, what the rules give and what the paper marks, in lists of numbers.
 pub record Row : Type 0 where
-  pub given : List ℕ
-  pub marked : List ℕ
+  pub number : ℕ
+  pub given : List (List ℕ)
+  pub marked : List (List ℕ)
 
 -- P1: the sheet of the paper.
 unfoldable pub sheetBytes : List ℕ
@@ -41,10 +40,13 @@ sheetText =
     76 ∷ 32 ∷ 49 ∷ 32 ∷ 49 ∷ 32 ∷ 48 ∷ 32 ∷ 49 ∷ 32 ∷ 55 ∷ 32 ∷ 49 ∷ 32 ∷ 50 ∷ 53 ∷ 48 ∷ 10 ∷
     84 ∷ 32 ∷ 49 ∷ 58 ∷ 49 ∷ 91 ∷ 48 ∷ 58 ∷ 49 ∷ 93 ∷ 10 ∷ []
 
--- P3 to P8: a replay table in four slices, on lent columns of 9; the number answered and the columns left.
-unfoldable pub placed : ℕ → ℕ → List ℕ → List ℕ → List ℕ → List ℕ → List ℕ → List ℕ
-unfolding answer columnsLeft unplaceable chosenColumns malformed lengthsAgree tableFits boundsFit itemFits fixedFits comesAfter walked begun rowsOf chosenRow lastColumn
-placed low high rows times fixed floors lent = answer low high rows times fixed floors lent ∷ columnsLeft low high rows times fixed floors lent
+-- P3 to P8 are the placing's own table: the number answered and the columns left.
+abbrev markLists : Mark → List (List ℕ)
+markLists m = (m .number ∷ []) ∷ m .columns ∷ []
+
+abbrev placingRows : ℕ → List Case → List Row
+placingRows k [] = []
+placingRows k (c ∷ cs) = record { number = k; given = markLists (markOf (c .sheet)); marked = markLists (c .mark) } ∷ placingRows (suc k) cs
 
 -- P9: "0 and 1 feed 2; 2 sends material 1 to 3, materials 1 and 2 to 4."
 abbrev pub channel : ℕ → ℕ → ℕ → Channel
@@ -95,25 +97,45 @@ logNumbers es = joined (map (λ (e : Entry). e .time ∷ e .what .piece ∷ []) 
 abbrev receiptNumbers : List Receipt → List ℕ
 receiptNumbers rs = joined (map (λ (r : Receipt). r .what .piece ∷ r .sender ∷ []) rs)
 
+unfoldable pub replayRow : Row
+unfolding planBytes planRefusal replayPlan lowOf highOf replayBegun replayRefused replayEnded replayAfter
+replayRow =
+    record {
+      number = 9;
+      given =
+          (planRefusal (planBytes replayPlan) ∷ [])
+          ∷ targetNumbers (nodeAt (replayBegun .line) 2 .targets)
+          ∷ (lowOf (replayBegun .line) 2 ∷ highOf (replayBegun .line) 2 ∷ [])
+          ∷ (laneAt (replayBegun .line) 2 .mark ∷ laneAt (replayBegun .line) 3 .mark ∷ [])
+          ∷ replayRefused .numbers
+          ∷ (nodeAt (replayEnded .line) 2 .time ∷ logNumbers (nodeAt (replayEnded .line) 2 .log))
+          ∷ receiptNumbers (receivedBy 4 (replayAfter .receipts))
+          ∷ [];
+      marked =
+          -- the plan is accepted
+          (0 ∷ [])
+          -- "target (2, 0, 1)"
+          ∷ (2 ∷ 0 ∷ 1 ∷ [])
+          -- "Low 0, high 2"
+          ∷ (0 ∷ 2 ∷ [])
+          -- "belt marks 2 to node 3, 0 to node 4"
+          ∷ (2 ∷ 0 ∷ [])
+          -- every step before is answered 0, the "Take from 1" 20
+          ∷ (0 ∷ 0 ∷ 0 ∷ 0 ∷ 0 ∷ 0 ∷ 0 ∷ 0 ∷ 0 ∷ 0 ∷ 0 ∷ 0 ∷ 0 ∷ 0 ∷ 20 ∷ [])
+          -- node 2's time, then its log: time 2, piece 1
+          ∷ (2 ∷ 2 ∷ 1 ∷ [])
+          -- pieces and senders that node 4 received
+          ∷ (1 ∷ 2 ∷ 3 ∷ 2 ∷ 2 ∷ 2 ∷ [])
+          ∷ [];
+    }
+
+-- P1 to P9.
 unfoldable pub markedTable : List Row
-unfolding sheet sheetBytes sheetText planRefusal placed lowOf highOf replayBegun replayRefused replayEnded replayAfter
+unfolding sheet sheetBytes sheetText planRefusal markOf placingMarked replayRow
 markedTable =
-    record { given = sheet sheetBytes; marked = sheetText }
-    ∷ record { given = planRefusal (0 ∷ 5 ∷ 1 ∷ []) ∷ []; marked = 1 ∷ [] }
-    ∷ record { given = placed 1 6 (1 ∷ 1 ∷ 2 ∷ 2 ∷ []) (1 ∷ 2 ∷ 1 ∷ 2 ∷ []) (0 ∷ 5 ∷ 0 ∷ 6 ∷ []) (3 ∷ 0 ∷ 1 ∷ 0 ∷ []) (9 ∷ 9 ∷ 9 ∷ 9 ∷ []); marked = 0 ∷ 4 ∷ 5 ∷ 2 ∷ 6 ∷ [] }
-    ∷ record { given = placed 1 6 (1 ∷ 1 ∷ 2 ∷ 2 ∷ []) (1 ∷ 2 ∷ 1 ∷ 2 ∷ []) (0 ∷ 5 ∷ 0 ∷ 6 ∷ []) (4 ∷ 0 ∷ 1 ∷ 0 ∷ []) (9 ∷ 9 ∷ 9 ∷ 9 ∷ []); marked = 24 ∷ 9 ∷ 9 ∷ 9 ∷ 9 ∷ [] }
-    ∷ record { given = placed 0 3 (0 ∷ 1 ∷ 1 ∷ []) (1 ∷ 1 ∷ 2 ∷ []) (0 ∷ 0 ∷ 2 ∷ []) (0 ∷ 0 ∷ 0 ∷ []) (9 ∷ 9 ∷ 9 ∷ []); marked = 0 ∷ 3 ∷ 1 ∷ 2 ∷ [] }
-    ∷ record { given = placed 0 2 (0 ∷ 1 ∷ []) (1 ∷ 1 ∷ []) (0 ∷ 0 ∷ []) (0 ∷ 0 ∷ []) (9 ∷ 9 ∷ []); marked = 0 ∷ 1 ∷ 2 ∷ [] }
-    ∷ record { given = placed 5 5 [] [] [] [] (9 ∷ []); marked = 0 ∷ 9 ∷ [] }
-    ∷ record { given = placed 4 4 (0 ∷ []) (1 ∷ []) (0 ∷ []) (0 ∷ []) (9 ∷ []); marked = 24 ∷ 9 ∷ [] }
-    -- P9: the target's triple; low and high; the marks to nodes 3 and 4; the last answer, to the Take from 1; node 2's log, times and pieces; what node 4 received, pieces and senders
-    ∷ record { given = targetNumbers (nodeAt (replayBegun .line) 2 .targets); marked = 2 ∷ 0 ∷ 1 ∷ [] }
-    ∷ record { given = lowOf (replayBegun .line) 2 ∷ highOf (replayBegun .line) 2 ∷ []; marked = 0 ∷ 2 ∷ [] }
-    ∷ record { given = laneAt (replayBegun .line) 2 .mark ∷ laneAt (replayBegun .line) 3 .mark ∷ []; marked = 2 ∷ 0 ∷ [] }
-    ∷ record { given = replayRefused .numbers; marked = 0 ∷ 0 ∷ 0 ∷ 0 ∷ 0 ∷ 0 ∷ 0 ∷ 0 ∷ 0 ∷ 0 ∷ 0 ∷ 0 ∷ 0 ∷ 0 ∷ 20 ∷ [] }
-    ∷ record { given = nodeAt (replayEnded .line) 2 .time ∷ logNumbers (nodeAt (replayEnded .line) 2 .log); marked = 2 ∷ 2 ∷ 1 ∷ [] }
-    ∷ record { given = receiptNumbers (receivedBy 4 (replayAfter .receipts)); marked = 1 ∷ 2 ∷ 3 ∷ 2 ∷ 2 ∷ 2 ∷ [] }
-    ∷ []
+    record { number = 1; given = sheet sheetBytes ∷ []; marked = sheetText ∷ [] }
+    ∷ record { number = 2; given = (planRefusal (0 ∷ 5 ∷ 1 ∷ []) ∷ []) ∷ []; marked = (1 ∷ []) ∷ [] }
+    ∷ (placingRows 3 placingMarked ++ replayRow ∷ [])
 
 -- Every row holds.
 pub marks-hold : map (λ (r : Row). r .given) markedTable ≡ map (λ (r : Row). r .marked) markedTable
