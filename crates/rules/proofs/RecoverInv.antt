@@ -11,10 +11,10 @@ use lib.ListN.{length, length-set}
 use lib.Dec.{eqb, leb}
 use borrow.Author.Tests.{eq-eqb, ne-eqb, leb-true}
 use Rattle.plan.specs.Plan.{Plan, channelAt, nodeCount, channelCount, isSource, entering, leaving}
-use Rattle.rules.specs.Lists.{keep, greatestOf}
+use Rattle.rules.specs.Lists.{keep, greatestOf, isEmpty}
 use Rattle.rules.specs.Line.{Message, Entry, Held, Target, Status, up, down, replay, Node, Lane, Line, nodeAt, laneAt, withNode, withLane, withLanes, freshLane}
 use Rattle.rules.specs.Clock.{messageOf}
-use Rattle.rules.specs.Recover.{lowOf, targetsOf, restored, recovered, statusOf, rowGoal, conflict, noTargets}
+use Rattle.rules.specs.Recover.{lowOf, targetsOf, restored, recovered, statusOf, rowGoal, conflict}
 use Rattle.rules.specs.Replay.{endedIfComplete}
 use Rattle.rules.specs.Step.{recoveredLine}
 use Rattle.rules.specs.Plain.{Act, Receipt}
@@ -360,7 +360,7 @@ module _ (l : Line) (g : Ghost) (cut base : ℕ → ℕ) (fed : List Act) (recei
   unfolding recoveredLine
   recover-inv k = go (conflict (targetsOf l n)) (targetsOf l n) refl
     where
-      go : (clash : Bool) (ts : List Target) → targetsOf l n ≡ ts → (elim clash [ true ↦ none | false ↦ elim (noTargets ts) [ true ↦ some (recovered n l) | false ↦ endedIfComplete n (recovered n l) ] ]) ≡ some k → Goes-on k
+      go : (clash : Bool) (ts : List Target) → targetsOf l n ≡ ts → (elim clash [ true ↦ none | false ↦ elim (isEmpty ts) [ true ↦ some (recovered n l) | false ↦ endedIfComplete n (recovered n l) ] ]) ≡ some k → Goes-on k
       go true ts q e = none-some e
       go false [] q e =
           let (g′, cut′, i) = up-inv q in
