@@ -8,7 +8,7 @@ use Rattle.plan.specs.declared.Channel.{Channel}
 use Rattle.rules.specs.Line.{Origin, fed, made, Message, Entry, Held, Target, Node, Lane, Line, nodeAt, laneAt, withNode, withLane, initialLine}
 use Rattle.rules.specs.Lists.{isEmpty}
 use Rattle.rules.specs.Claim.{storyFrom, told}
-use Rattle.rules.specs.Marked.{replayPlan, replayBegun, replayEnded}
+use Rattle.rules.specs.Marked.{frame, replayPlan, replayBegun, replayEnded}
 use Rattle.rules.specs.Examples.{chain}
 use Rattle.rules.specs.Damaged.{someNode, someChannel, planBroken, misshapen, stepsPast, nodePastLimits, nodeWrongParent, nodeTimePast, nodeTimeZero, nodeMakerWrong, logWrong, pastClock, heldWrong, heldNotPassed, markMissing, markOnEnd, replayWrong, nodeHolds, channelPastLimits, channelWrongParent, channelTimePast, channelTimeZero, channelMakerWrong, queueWrong, marksJoined, channelHolds, damaged}
 
@@ -62,11 +62,11 @@ begun = replayBegun .line
 -- P9's replay ended, and a message on the channel 2 to 4; the same, node 2 crashed again instead
 unfoldable pub ended : Line
 unfolding replayEnded told
-ended = storyFrom replayEnded ((0 ∷ 5 ∷ 1 ∷ 2 ∷ 3 ∷ []) ∷ []) .line
+ended = storyFrom replayEnded (frame 2 3 ∷ []) .line
 
 unfoldable pub fallen : Line
 unfolding replayEnded told
-fallen = storyFrom replayEnded ((0 ∷ 5 ∷ 1 ∷ 4 ∷ 2 ∷ []) ∷ []) .line
+fallen = storyFrom replayEnded (frame 4 2 ∷ []) .line
 
 abbrev node : ℕ → (Node → Node) → Line → Line
 node n f l = withNode n (f (nodeAt l n)) l

@@ -64,7 +64,7 @@ bracketed (w ∷ ws) = 91 ∷ spaced (w ∷ ws) ++ 93 ∷ []
 abbrev pub nodeAndTime : ℕ → ℕ → List ℕ
 nodeAndTime n t = decimal n ++ 58 ∷ decimal t
 
--- "The clock is listed root first, each parent's part listed the same way inside brackets, parents rising, one space between; a node without parents, or in the third layer, has no brackets." A node, its time and its parents' times, with so many layers below it; a parent's parents are heard through its channel.
+-- "The clock is listed root first, each parent's part listed the same way inside brackets, parents rising, one space between; a node without parents, or in the third layer, has no brackets." A node, its time and its parents' times, with so many layers left below it; a parent's parents are heard through its channel.
 abbrev pub listed : Line → ℕ → ℕ → ℕ → List ℕ → List ℕ
 listed l zero n t ts = nodeAndTime n t
 listed l (suc layers) n t ts = nodeAndTime n t ++ bracketed (zipWith (λ b u. listed l layers (senderOf l b) u (laneAt l b .heard)) (entering (l .plan) n) ts)
