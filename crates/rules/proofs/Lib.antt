@@ -47,3 +47,9 @@ pub mod PlanKept
 pub mod ReplayTakeInv
 pub mod StepInv
 pub mod Order
+pub mod Standing
+pub mod Restored
+pub mod TestLaws
+pub mod UndamagedNode
+pub mod Undamaged
+pub mod StartSound
