@@ -53,3 +53,7 @@ pub mod TestLaws
 pub mod UndamagedNode
 pub mod Undamaged
 pub mod StartSound
+pub mod SoundStays
+pub mod RecordsWithin
+pub mod LogSound
+pub mod FeedSound
