@@ -57,3 +57,4 @@ pub mod SoundStays
 pub mod RecordsWithin
 pub mod LogSound
 pub mod FeedSound
+pub mod SendSound
