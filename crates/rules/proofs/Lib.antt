@@ -58,3 +58,5 @@ pub mod RecordsWithin
 pub mod LogSound
 pub mod FeedSound
 pub mod SendSound
+pub mod HeardLaws
+pub mod TakeSound
