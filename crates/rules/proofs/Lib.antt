@@ -60,3 +60,4 @@ pub mod FeedSound
 pub mod SendSound
 pub mod HeardLaws
 pub mod TakeSound
+pub mod CrashSound
