@@ -61,3 +61,4 @@ pub mod SendSound
 pub mod HeardLaws
 pub mod TakeSound
 pub mod CrashSound
+pub mod PlacedLog

@@ -81,6 +81,20 @@ module _ (l : Line) (steps : ℕ) (nodes : List Node) (lanes : List Lane) (h : l
         rows = λ b j. subst (λ (x : Node). Rises heldTime 0 (heldFrom (channelAt (l .plan) b .sender) (x .held))) (sym same) (f .rows b j);
       }
 
+  -- A channel whose state, and whose ends' marks, are as they were, with no end newly down and no sender newly replaying.
+  pub channel-like : (b : ℕ) → endDown k b ≡ endDown l b → (nodeAt k (channelAt (l .plan) b .receiver) .status ≡ down → nodeAt l (channelAt (l .plan) b .receiver) .status ≡ down) → (nodeAt k (channelAt (l .plan) b .sender) .status ≡ replay → nodeAt l (channelAt (l .plan) b .sender) .status ≡ replay)
+      → nodeAt k (channelAt (l .plan) b .sender) .crashed ≡ nodeAt l (channelAt (l .plan) b .sender) .crashed → nodeAt k (channelAt (l .plan) b .receiver) .crashed ≡ nodeAt l (channelAt (l .plan) b .receiver) .crashed
+      → laneAt k b ≡ laneAt l b → ChannelSound l b → ChannelSound k b
+  channel-like b ends goes replays from to lane f =
+      record {
+        fits = subst (LaneFits (l .plan) steps b) (sym lane) (lane-later (l .plan) h b (laneAt l b) (f .fits));
+        flows = λ e. subst Flows (sym lane) (f .flows (sym ends ∙ e));
+        apart = λ e. to ∙ f .apart (sym from ∙ e);
+        stopped = λ e. (let (a, c) = f .stopped (sym ends ∙ e) in (ap (λ (s : Lane). s .mark) lane ∙ a, ap (λ (s : Lane). s .queue) lane ∙ c));
+        cleared = λ e t i. f .cleared (goes e) t (subst (λ (s : Lane). In t (s .taken ∷ s .heard)) lane i);
+        silent = λ e. ap (λ (s : Lane). s .queue) lane ∙ f .silent (replays e);
+      }
+
   -- A channel whose state, and whose ends' status and marks, are as they were.
   module _ (b : ℕ) (sender : nodeAt k (channelAt (l .plan) b .sender) .status ≡ nodeAt l (channelAt (l .plan) b .sender) .status) (receiver : nodeAt k (channelAt (l .plan) b .receiver) .status ≡ nodeAt l (channelAt (l .plan) b .receiver) .status) where
     pub ends-same : endDown k b ≡ endDown l b
@@ -88,15 +102,7 @@ module _ (l : Line) (steps : ℕ) (nodes : List Node) (lanes : List Lane) (h : l
 
     pub channel-stays : nodeAt k (channelAt (l .plan) b .sender) .crashed ≡ nodeAt l (channelAt (l .plan) b .sender) .crashed → nodeAt k (channelAt (l .plan) b .receiver) .crashed ≡ nodeAt l (channelAt (l .plan) b .receiver) .crashed
         → laneAt k b ≡ laneAt l b → ChannelSound l b → ChannelSound k b
-    channel-stays from to lane f =
-        record {
-          fits = subst (LaneFits (l .plan) steps b) (sym lane) (lane-later (l .plan) h b (laneAt l b) (f .fits));
-          flows = λ e. subst Flows (sym lane) (f .flows (sym ends-same ∙ e));
-          apart = λ e. to ∙ f .apart (sym from ∙ e);
-          stopped = λ e. (let (a, c) = f .stopped (sym ends-same ∙ e) in (ap (λ (s : Lane). s .mark) lane ∙ a, ap (λ (s : Lane). s .queue) lane ∙ c));
-          cleared = λ e t i. f .cleared (sym receiver ∙ e) t (subst (λ (s : Lane). In t (s .taken ∷ s .heard)) lane i);
-          silent = λ e. ap (λ (s : Lane). s .queue) lane ∙ f .silent (sym sender ∙ e);
-        }
+    channel-stays = channel-like b ends-same (λ e. sym receiver ∙ e) (λ e. sym sender ∙ e)
 
   -- A replay whose node, and what its children have of it, is as it was.
   pub replays-stay : (n : ℕ) → nodeAt k n .time ≡ nodeAt l n .time → nodeAt k n .targets ≡ nodeAt l n .targets → ((c : ℕ) → Leaves (l .plan) n c → laneAt k c .taken ≡ laneAt l c .taken)
