@@ -62,3 +62,4 @@ pub mod HeardLaws
 pub mod TakeSound
 pub mod CrashSound
 pub mod PlacedLog
+pub mod EndSound

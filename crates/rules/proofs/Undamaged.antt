@@ -52,7 +52,7 @@ in-rows : (hs : List Held) (l : Line) {b : ℕ} {bs : List ℕ} → In b bs → 
 in-rows hs l here = here
 in-rows hs l (there i) = there (in-rows hs l i)
 
-rows-in : (hs : List Held) (l : Line) (bs : List ℕ) {row : List Held} → In row (heldByRow hs l bs) → (b : ℕ) × In b bs × (row ≡ heldFrom (channelAt (l .plan) b .sender) hs)
+pub rows-in : (hs : List Held) (l : Line) (bs : List ℕ) {row : List Held} → In row (heldByRow hs l bs) → (b : ℕ) × In b bs × (row ≡ heldFrom (channelAt (l .plan) b .sender) hs)
 rows-in hs l [] i = absurd (in-none i)
 rows-in hs l (b ∷ bs) i = elim (in-first i) [ inl q ↦ (b, here, q) | inr j ↦ (let (c, k, q) = rows-in hs l bs j in (c, there k, q)) ]
 
