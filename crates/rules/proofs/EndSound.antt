@@ -201,3 +201,25 @@ module _ (l : Line) (s : Standing l) (n : ℕ) (inside : n < nodeCount (l .plan)
       go : (complete : Bool) → rowsComplete l n ≡ complete → (elim complete [ true ↦ replayEnd n l | false ↦ some l ]) ≡ some k → Sound k
       go true c e = end-sound k e
       go false c e = subst Sound (some-same e) (record { standing = s; replays = λ m h q. elim (ℕ-discrete m n) [ yes z ↦ subst (Replays l) (sym z) (own c) | no d ↦ others m h d q ] })
+
+-- The end of a replay counts no step.
+module _ (l : Line) (n : ℕ) where
+  abbrev heldRows : List (List Held)
+  heldRows = heldByRow (nodeAt l n .held) l (entering (l .plan) n)
+
+  end-steps : (k : Line) → replayEnd n l ≡ some k → k .steps ≡ l .steps
+  unfolding replayEnd withNode
+  end-steps k = go (allOf (isHeld (nodeAt l n .held)) (nodeAt l n .targets)) (placing (nodeAt l n .time) (highOf l n) (itemsByRow l n 0 heldRows))
+    where
+      go : (held : Bool) (chosen : Option (List ℕ)) → (elim held [ false ↦ none | true ↦ elim chosen [ none ↦ none | some columns ↦ some (withNode n (nodePlaced l n (joined heldRows) columns) l) ] ]) ≡ some k → k .steps ≡ l .steps
+      go false chosen e = none-some e
+      go true none e = none-some e
+      go true (some columns) e = ap (λ (y : Line). y .steps) (sym (some-same e))
+
+  pub ended-steps : (k : Line) → endedIfComplete n l ≡ some k → k .steps ≡ l .steps
+  unfolding endedIfComplete
+  ended-steps k = go (rowsComplete l n)
+    where
+      go : (complete : Bool) → (elim complete [ true ↦ replayEnd n l | false ↦ some l ]) ≡ some k → k .steps ≡ l .steps
+      go true e = end-steps k e
+      go false e = ap (λ (y : Line). y .steps) (sym (some-same e))

@@ -63,3 +63,4 @@ pub mod TakeSound
 pub mod CrashSound
 pub mod PlacedLog
 pub mod EndSound
+pub mod HoldSound

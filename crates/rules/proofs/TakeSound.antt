@@ -193,9 +193,8 @@ module _ (l : Line) (sound : Sound l) (b : ℕ) (p : Passed l (take b)) (can : C
       ]
 
   -- What the receiver makes of the message.
-  pub taken-entry : (t : ℕ) → EntryFits (l .plan) (suc (l .steps)) n (record { what = madeBy l n (m .what); time = t; origin = made from (m .time); before = m .origin })
-  taken-entry t =
-      let later : l .steps ≤ suc (l .steps) = omega arith in
+  pub taken-entry : (steps : ℕ) → l .steps ≤ steps → (t : ℕ) → EntryFits (l .plan) steps n (record { what = madeBy l n (m .what); time = t; origin = made from (m .time); before = m .origin })
+  taken-entry steps later t =
       record {
         limits = made-within (l .plan) (s .plan-fits) n (m .what) (taken-message .limits);
         origin = (enters-parent (l .plan) n b (can .here, refl), no-source (l .plan) b (can .here), taken-message .later, omega (arith, taken-message .within));
@@ -213,7 +212,7 @@ module _ (l : Line) (sound : Sound l) (b : ℕ) (p : Passed l (take b)) (can : C
     unfolding counted takenUp takenLane withNode withLane
     taken-sound =
         let what = madeBy l n (m .what) in
-        let new = taken-entry (suc (nodeAt l n .time)) in
+        let new = taken-entry (suc (l .steps)) (omega arith) (suc (nodeAt l n .time)) in
         let origin : Origin = made from (m .time) in
         let steps = suc (l .steps) in
         let nodes = after l sound (p .steps-left) n inside is-up room what origin (m .origin) new lanes .nodes in
