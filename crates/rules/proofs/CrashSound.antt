@@ -172,9 +172,8 @@ module _ (l : Line) (sound : Sound l) (n : ℕ) (can : CanCrash l n) where
     replays-on =
         let same : l .steps ≤ l .steps = omega arith in
         let node = node-other m other in
-        replays-stay l (l .steps) (after .nodes) (after .lanes) same m (ap (λ (x : Node). x .time) node) (ap (λ (x : Node). x .targets) node)
-        (λ c j. ap (λ (x : Lane). x .taken) (lane-other c (child-other c j) (λ q. other (sym (j .1) ∙ q))))
-        (λ c j. ap (λ (x : Node). triples m (x .log)) (node-other (channelAt (l .plan) c .receiver) (child-other c j))) (sound .replays m h was)
+        replays-stay l (l .steps) (after .nodes) (after .lanes) same m (λ c j. ap (λ (x : Lane). x .taken) (lane-other c (child-other c j) (λ q. other (sym (j .1) ∙ q))))
+        (λ c j. ap (λ (x : Node). triples m (x .log)) (node-other (channelAt (l .plan) c .receiver) (child-other c j))) (ap (λ (x : Node). x .time) node) (ap (λ (x : Node). x .targets) node) (sound .replays m h was)
 
   crashed-sound : Sound after
   crashed-sound =

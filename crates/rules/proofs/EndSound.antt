@@ -40,6 +40,10 @@ high-within l s n = elim (greatest-in (childTimes l n)) [
       omega (arith, s .channels c (leaving-in (l .plan) n c j .0) .fits .taken))
 ]
 
+-- Two joined nodes are not both marked.
+pub marked-apart : (l : Line) → Standing l → (m n : ℕ) → nodeAt l m .crashed ≡ true → nodeAt l n .crashed ≡ true → (c : ℕ) → Leaves (l .plan) m c → channelAt (l .plan) c .receiver ≢ n
+marked-apart l s m n from to c (i, q) z = true≢false (sym to ∙ ap (λ (y : ℕ). nodeAt l y .crashed) (sym z) ∙ s .channels c i .apart (ap (λ (y : ℕ). nodeAt l y .crashed) q ∙ from))
+
 module _ (l : Line) (s : Standing l) (n : ℕ) (inside : n < nodeCount (l .plan)) (again : nodeAt l n .status ≡ replay) (others : (m : ℕ) → m < nodeCount (l .plan) → m ≢ n → nodeAt l m .status ≡ replay → Replays l m) where
   abbrev x : Node
   x = nodeAt l n
@@ -144,20 +148,16 @@ module _ (l : Line) (s : Standing l) (n : ℕ) (inside : n < nodeCount (l .plan)
       was : nodeAt l m .status ≡ replay
       was = sym (ap (λ (y : Node). y .status) (node-other m other)) ∙ replays
 
-      -- Two joined nodes are not both marked.
       child-other : (c : ℕ) → Leaves (l .plan) m c → channelAt (l .plan) c .receiver ≢ n
-      child-other c (i, q) z =
-          let marked = stopped-marked l s m h (λ e. up-not-replay (sym e ∙ was)) in
-          let own = stopped-marked l s n inside (λ e. up-not-replay (sym e ∙ again)) in
-          true≢false (sym own ∙ ap (λ (y : ℕ). nodeAt l y .crashed) (sym z) ∙ s .channels c i .apart (ap (λ (y : ℕ). nodeAt l y .crashed) q ∙ marked))
+      child-other = marked-apart l s m n (stopped-marked l s m h (λ e. up-not-replay (sym e ∙ was))) (stopped-marked l s n inside (λ e. up-not-replay (sym e ∙ again)))
 
       replays-on : Replays after m
       unfolding withNode
       replays-on =
           let same : l .steps ≤ l .steps = omega arith in
           let node = node-other m other in
-          replays-stay l (l .steps) (after .nodes) (l .lanes) same m (ap (λ (y : Node). y .time) node) (ap (λ (y : Node). y .targets) node) (λ c j. refl)
-          (λ c j. ap (λ (y : Node). triples m (y .log)) (node-other (channelAt (l .plan) c .receiver) (child-other c j))) (others m h other was)
+          replays-stay l (l .steps) (after .nodes) (l .lanes) same m (λ c j. refl) (λ c j. ap (λ (y : Node). triples m (y .log)) (node-other (channelAt (l .plan) c .receiver) (child-other c j)))
+          (ap (λ (y : Node). y .time) node) (ap (λ (y : Node). y .targets) node) (others m h other was)
 
     placed-sound : Sound after
     unfolding withNode

@@ -176,8 +176,8 @@ module _ (l : Line) (sound : Sound l) (b : ℕ) (p : Passed l (take b)) (can : C
           };
           replays = λ j i q.
               (let was : nodeAt l j .status ≡ replay = sym (status j) ∙ q in
-              replays-stay l (l .steps) nodes (lanes l sound b p can) same j (same-part (λ (y : Node). y .time) refl j) (same-part (λ (y : Node). y .targets) refl j) (entries l sound b p can (l .steps) nodes j was)
-              (λ c k. same-part (λ (y : Node). triples j (y .log)) refl (channelAt (l .plan) c .receiver)) (sound .replays j i was));
+              replays-stay l (l .steps) nodes (lanes l sound b p can) same j (entries l sound b p can (l .steps) nodes j was) (λ c k. same-part (λ (y : Node). triples j (y .log)) refl (channelAt (l .plan) c .receiver))
+              (same-part (λ (y : Node). y .time) refl j) (same-part (λ (y : Node). y .targets) refl j) (sound .replays j i was));
         }
 
     goes-on : (k : Line) → endedIfComplete n after ≡ some k → Sound (counted k)

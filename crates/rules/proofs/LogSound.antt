@@ -131,6 +131,6 @@ module _ (l : Line) (sound : Sound l) (counts : l .steps < stepLimit) (n : ℕ) 
           replays = λ m h e.
               (let old : nodeAt l m .status ≡ replay = sym (status-same m) ∙ e in
               let d : m ≢ n = λ q. up-not-replay (sym is-up ∙ ap (λ (z : ℕ). nodeAt l z .status) (sym q) ∙ old) in
-              replays-stay l (suc (l .steps)) (after .nodes) lanes later m (ap (λ (x : Node). x .time) (node-other m d)) (ap (λ (x : Node). x .targets) (node-other m d)) (entries m old)
-              (λ c _. triples-stay m (others m old) (channelAt (l .plan) c .receiver)) (sound .replays m h old));
+              replays-stay l (suc (l .steps)) (after .nodes) lanes later m (entries m old) (λ c _. triples-stay m (others m old) (channelAt (l .plan) c .receiver))
+              (ap (λ (x : Node). x .time) (node-other m d)) (ap (λ (x : Node). x .targets) (node-other m d)) (sound .replays m h old));
         }

@@ -167,7 +167,7 @@ module _ (l : Line) (sound : Sound l) (b : ℕ) (p : Passed l (send b)) where
             | no d ↦ channel-stays l (l .steps) (l .nodes) (after .lanes) same c refl refl refl refl (beside c d) (s .channels c h)
           ];
         };
-        replays = λ m h q. replays-stay l (l .steps) (l .nodes) (after .lanes) same m refl refl (λ c j. taken-same c) (λ c j. refl) (sound .replays m h q);
+        replays = λ m h q. replays-stay l (l .steps) (l .nodes) (after .lanes) same m (λ c j. taken-same c) (λ c j. refl) refl refl (sound .replays m h q);
       }
 
   pub send-sound : (k : Line) → effect l (send b) ≡ some k → Sound (counted k)

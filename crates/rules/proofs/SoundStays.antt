@@ -104,25 +104,35 @@ module _ (l : Line) (steps : ℕ) (nodes : List Node) (lanes : List Lane) (h : l
         → laneAt k b ≡ laneAt l b → ChannelSound l b → ChannelSound k b
     channel-stays = channel-like b ends-same (λ e. sym receiver ∙ e) (λ e. sym sender ∙ e)
 
-  -- A replay whose node, and what its children have of it, is as it was.
-  pub replays-stay : (n : ℕ) → nodeAt k n .time ≡ nodeAt l n .time → nodeAt k n .targets ≡ nodeAt l n .targets → ((c : ℕ) → Leaves (l .plan) n c → laneAt k c .taken ≡ laneAt l c .taken)
-      → ((c : ℕ) → Leaves (l .plan) n c → triples n (nodeAt k (channelAt (l .plan) c .receiver) .log) ≡ triples n (nodeAt l (channelAt (l .plan) c .receiver) .log)) → Replays l n → Replays k n
-  replays-stay n time targets entries logs f =
-      let p = l .plan in
-      let lows : lowOf k n ≡ lowOf l n = low-same l k n refl (λ c on leaves. entries c (on, leaves)) in
-      let found : childTriples k n ≡ childTriples l n = triples-same l k n refl (λ c on leaves. logs c (on, leaves)) in
-      let same = targets-same l k n lows found in
-      record {
-        time = time ∙ f .time ∙ sym lows;
-        targets = targets ∙ f .targets ∙ sym same;
-        few = rw same (f .few);
-        agreed = ap conflict same ∙ f .agreed;
-        some = ap isEmpty same ∙ f .some;
-        open-row =
-            all-same (λ (c : ℕ). leb (rowGoal (targetsOf k n) (channelAt p c .sender)) (restored k n (channelAt p c .sender))) (λ (c : ℕ). leb (rowGoal (targetsOf l n) (channelAt p c .sender)) (restored l n (channelAt p c .sender))) (entering p n)
-            (λ c i. rw (same, restored-same l k n lows found (channelAt p c .sender)))
-            ∙ f .open-row;
-      }
+  -- What Recover would find of node n is as it was, where its children have the same of it.
+  module _ (n : ℕ) (entries : (c : ℕ) → Leaves (l .plan) n c → laneAt k c .taken ≡ laneAt l c .taken)
+      (logs : (c : ℕ) → Leaves (l .plan) n c → triples n (nodeAt k (channelAt (l .plan) c .receiver) .log) ≡ triples n (nodeAt l (channelAt (l .plan) c .receiver) .log)) where
+    pub low-kept : lowOf k n ≡ lowOf l n
+    low-kept = low-same l k n refl (λ c on leaves. entries c (on, leaves))
+
+    triples-kept : childTriples k n ≡ childTriples l n
+    triples-kept = triples-same l k n refl (λ c on leaves. logs c (on, leaves))
+
+    pub targets-kept : targetsOf k n ≡ targetsOf l n
+    targets-kept = targets-same l k n low-kept triples-kept
+
+    pub rows-kept : restoredComplete k n ≡ restoredComplete l n
+    rows-kept =
+        let p = l .plan in
+        all-same (λ (c : ℕ). leb (rowGoal (targetsOf k n) (channelAt p c .sender)) (restored k n (channelAt p c .sender))) (λ (c : ℕ). leb (rowGoal (targetsOf l n) (channelAt p c .sender)) (restored l n (channelAt p c .sender))) (entering p n)
+        (λ c i. rw (targets-kept, restored-same l k n low-kept triples-kept (channelAt p c .sender)))
+
+    -- A replay whose node is as it was, too.
+    pub replays-stay : nodeAt k n .time ≡ nodeAt l n .time → nodeAt k n .targets ≡ nodeAt l n .targets → Replays l n → Replays k n
+    replays-stay time targets f =
+        record {
+          time = time ∙ f .time ∙ sym low-kept;
+          targets = targets ∙ f .targets ∙ sym targets-kept;
+          few = rw targets-kept (f .few);
+          agreed = ap conflict targets-kept ∙ f .agreed;
+          some = ap isEmpty targets-kept ∙ f .some;
+          open-row = rows-kept ∙ f .open-row;
+        }
 
 -- One more step counted.
 pub counted-sound : (l : Line) → l .steps < stepLimit → Sound l → Sound (counted l)
@@ -139,5 +149,5 @@ counted-sound l h f =
         nodes = λ n i. node-stays l steps (l .nodes) (l .lanes) later n refl (λ b j o before c. c) (s .nodes n i);
         channels = λ b i. channel-stays l steps (l .nodes) (l .lanes) later b refl refl refl refl refl (s .channels b i);
       };
-      replays = λ n i e. replays-stay l steps (l .nodes) (l .lanes) later n refl refl (λ c j. refl) (λ c j. refl) (f .replays n i e);
+      replays = λ n i e. replays-stay l steps (l .nodes) (l .lanes) later n (λ c j. refl) (λ c j. refl) refl refl (f .replays n i e);
     }
