@@ -64,3 +64,5 @@ pub mod CrashSound
 pub mod PlacedLog
 pub mod EndSound
 pub mod HoldSound
+pub mod RecoverSound
+pub mod StepSound
