@@ -1,15 +1,14 @@
 -- Crash keeps a line sound.
-use Prim.Native.Nat.{ℕ, zero, suc, _<_, _≤_}
+use Prim.Native.Nat.{ℕ, _<_, _≤_}
 use mathlib.Core.Path.{_≡_, refl, sym, ap, subst, _∙_}
-use mathlib.Core.Logic.{_≢_, inl, inr}
-use mathlib.Core.Bool.{Bool, true, false, _||_, true≢false}
+use mathlib.Core.Logic.{_≢_}
+use mathlib.Core.Bool.{true, true≢false}
 use mathlib.Core.List.{List, [], _∷_}
 use mathlib.Core.Option.{some}
 use native.Mathlib.Omega.{arith}
 use native.Mathlib.Decide.{ℕ-discrete}
-use lib.ListN.{length, length-set}
-use Rattle.plan.specs.Plan.{Plan, nodeCount, channelCount, channelAt, isSource, isSink}
-use Rattle.rules.specs.Line.{Origin, fed, made, Status, up, down, replay, Node, Lane, Line, nodeAt, laneAt, parents, withNode, freshLane, counted, isDown}
+use Rattle.plan.specs.Plan.{Plan, nodeCount, channelAt}
+use Rattle.rules.specs.Line.{Origin, fed, made, up, down, replay, Node, Lane, Line, nodeAt, laneAt, parents, withNode, freshLane, counted}
 use Rattle.rules.specs.Frame.{crash}
 use Rattle.rules.specs.Recover.{triples}
 use Rattle.rules.specs.Damaged.{pastHeard, workedOn}
@@ -24,7 +23,7 @@ use Rattle.rules.proofs.InvLaws.{up-not-down, up-not-replay, replay-not
 use Rattle.rules.proofs.MarkedLaws.{at-ends}
 use Rattle.rules.proofs.Accepted.{Passed, CanCrash, can-crash}
 use Rattle.rules.proofs.EndInv.{some-same}
-use Rattle.rules.proofs.Standing.{NodeFits, NodeSound, Covers, LaneFits, Flows, ChannelSound, Standing, Replays, Sound}
+use Rattle.rules.proofs.Standing.{NodeFits, NodeSound, Covers, LaneFits, ChannelSound, Standing, Replays, Sound}
 use Rattle.rules.proofs.SoundStays.{node-stays, channel-stays, replays-stay, counted-sound}
 use Rattle.rules.proofs.StartSound.{fresh-fits, fresh-flows, fresh-cleared}
 use Rattle.rules.proofs.Undamaged.{ordered-fit}
@@ -189,9 +188,9 @@ module _ (l : Line) (sound : Sound l) (n : ℕ) (can : CanCrash l n) where
           ];
           channels = λ c h. at-ends (l .plan) n c h (channel-enters c) (channel-leaves c)
               (λ d e.
-                  (let from = node-other (channelAt (l .plan) c .sender) e in
-                  let to = node-other (channelAt (l .plan) c .receiver) d in
-                  channel-stays l (l .steps) (after .nodes) (after .lanes) same c (ap (λ (x : Node). x .status) from) (ap (λ (x : Node). x .status) to) (ap (λ (x : Node). x .crashed) from) (ap (λ (x : Node). x .crashed) to) (lane-other c d e) (s .channels c h)));
+              (let from = node-other (channelAt (l .plan) c .sender) e in
+              let to = node-other (channelAt (l .plan) c .receiver) d in
+              channel-stays l (l .steps) (after .nodes) (after .lanes) same c (ap (λ (x : Node). x .status) from) (ap (λ (x : Node). x .status) to) (ap (λ (x : Node). x .crashed) from) (ap (λ (x : Node). x .crashed) to) (lane-other c d e) (s .channels c h)));
         };
         replays = replays-on;
       }

@@ -1,33 +1,31 @@
 -- The end of a replay keeps a line sound, and so does a replay that goes on where its rows are not complete.
-use Prim.Native.Nat.{ℕ, zero, suc, _<_, _≤_}
+use Prim.Native.Nat.{ℕ, _<_, _≤_}
 use mathlib.Core.Path.{_≡_, refl, sym, ap, subst, _∙_}
-use mathlib.Core.Logic.{_≢_, _⊎_, inl, inr}
+use mathlib.Core.Logic.{_≢_, inl, inr}
 use mathlib.Core.Bool.{Bool, true, false, _||_, true≢false}
-use mathlib.Core.List.{List, [], _∷_, _++_, map}
+use mathlib.Core.List.{List, [], _++_}
 use mathlib.Core.Option.{Option, none, some}
 use native.Mathlib.Omega.{arith}
 use native.Mathlib.Decide.{ℕ-discrete}
-use lib.ListN.{length, getD, length-set}
+use lib.ListN.{length-set}
 use lib.Dec.{eqb}
-use Rattle.plan.specs.Plan.{Plan, nodeCount, channelCount, channelAt, entering, leaving}
-use Rattle.rules.specs.Lists.{allOf, joined, greatestOf}
-use Rattle.rules.specs.Line.{logLimit, Origin, made, Entry, Held, Status, up, down, replay, Node, Lane, Line, nodeAt, laneAt, withNode, isDown}
+use Rattle.plan.specs.Plan.{nodeCount, channelAt, entering, leaving}
+use Rattle.rules.specs.Lists.{allOf, joined}
+use Rattle.rules.specs.Line.{Entry, Held, up, replay, Node, Line, nodeAt, laneAt, withNode, isDown}
 use Rattle.rules.specs.Recover.{childTimes, highOf, triples, rowsComplete}
 use Rattle.rules.specs.Replay.{heldByRow, itemsByRow, isHeld, entryAt, placedLog, placing, nodePlaced, replayEnd, endedIfComplete}
-use Rattle.rules.specs.Step.{endDown}
 use Rattle.rules.specs.Damaged.{workedOn}
 use Rattle.rules.proofs.Rising.{Rises, none, rises-lower}
 use Rattle.rules.proofs.Members.{In, in-none, in-map, in-right, append-in, keep-in, map-in, joined-in, greatest-in}
 use Rattle.rules.proofs.LineLaws.{node-there, node-else}
-use Rattle.rules.proofs.Stays.{moved}
 use Rattle.rules.proofs.Joins.{leaving-in}
-use Rattle.rules.proofs.Inv.{Shape, Ordered, Enters, Leaves}
+use Rattle.rules.proofs.Inv.{Leaves}
 use Rattle.rules.proofs.InvLaws.{up-not-down, up-not-replay}
 use Rattle.rules.proofs.EndInv.{some-same, none-some}
-use Rattle.rules.proofs.Standing.{heldTime, heldFrom, EntryFits, NodeFits, Covers, NodeSound, ChannelSound, Standing, Replays, Sound}
+use Rattle.rules.proofs.Standing.{heldTime, heldFrom, EntryFits, NodeFits, Covers, NodeSound, Standing, Replays, Sound}
 use Rattle.rules.proofs.SoundStays.{node-stays, channel-like, replays-stay}
 use Rattle.rules.proofs.Undamaged.{rows-in}
-use Rattle.rules.proofs.PlacedLog.{Placed, placed-from, LogPlaced, log-placed}
+use Rattle.rules.proofs.PlacedLog.{placed-from, log-placed}
 use Rattle.rules.proofs.CrashSound.{stopped-marked}
 
 -- High is no time past the steps.

@@ -1,20 +1,20 @@
 -- Take keeps a line sound where the receiver replays: the record is held or dropped, and the replay may end.
-use Prim.Native.Nat.{ℕ, zero, suc, _+_, _<_, _≤_}
+use Prim.Native.Nat.{ℕ, _+_, _<_, _≤_}
 use mathlib.Core.Path.{_≡_, refl, sym, ap, subst, _∙_}
 use mathlib.Core.Logic.{_≢_, _⊎_, inl, inr}
-use mathlib.Core.Bool.{Bool, true, false, cond, _&&_, true≢false}
+use mathlib.Core.Bool.{Bool, true, false, cond, _&&_}
 use mathlib.Core.List.{List, [], _∷_, _++_, map}
-use mathlib.Core.Option.{Option, none, some}
+use mathlib.Core.Option.{none, some}
 use native.Mathlib.Omega.{arith}
 use native.Mathlib.Decide.{ℕ-discrete}
 use lib.ListN.{length, length-append, set, length-set}
 use lib.Dec.{leb, eqb}
 use borrow.Author.Tests.{leb-false, eqb-true}
-use Rattle.plan.specs.Plan.{Plan, nodeCount, channelCount, channelAt}
-use Rattle.rules.specs.Lists.{keep, keepOne}
-use Rattle.rules.specs.Line.{logLimit, heldLimit, Origin, made, Message, Entry, Held, Status, up, down, replay, Node, Lane, Line, nodeAt, laneAt, receiverOf, withNode, withLane, counted, isReplay}
+use Rattle.plan.specs.Plan.{channelAt}
+use Rattle.rules.specs.Lists.{keepOne}
+use Rattle.rules.specs.Line.{logLimit, heldLimit, Message, Entry, Held, Status, up, replay, Node, Line, nodeAt, laneAt, receiverOf, withNode, withLane, counted, isReplay}
 use Rattle.rules.specs.Frame.{take}
-use Rattle.rules.specs.Recover.{triples, rowsComplete}
+use Rattle.rules.specs.Recover.{triples}
 use Rattle.rules.specs.Replay.{passedOn, holding, entryAt, endedIfComplete}
 use Rattle.rules.specs.Step.{replaying, firstRecord, toHold, takeLacks, madeBy, takenLane, takenReplaying, takenFirst, takenLine, effect}
 use Rattle.rules.specs.Damaged.{workedOn}
@@ -23,13 +23,12 @@ use Rattle.rules.proofs.Rising.{Rises, Within, rises-snoc}
 use Rattle.rules.proofs.Members.{In, here, in-none, in-first, in-left, in-right, append-in, in-map, map-in, keep-in, within-by}
 use Rattle.rules.proofs.LineLaws.{node-there, node-else}
 use Rattle.rules.proofs.Stays.{moved}
-use Rattle.rules.proofs.Inv.{Shape, Enters, Leaves}
+use Rattle.rules.proofs.Inv.{Enters}
 use Rattle.rules.proofs.Accepted.{Passed, CanTake}
-use Rattle.rules.proofs.EndInv.{some-same}
 use Rattle.rules.proofs.TestLaws.{unless}
-use Rattle.rules.proofs.Standing.{heldTime, heldFrom, EntryFits, Empties, NodeFits, Covers, NodeSound, ChannelSound, Standing, Replays, Sound}
+use Rattle.rules.proofs.Standing.{heldTime, heldFrom, EntryFits, Empties, NodeFits, Covers, NodeSound, Standing, Sound}
 use Rattle.rules.proofs.SoundStays.{node-stays, replays-stay, counted-sound}
-use Rattle.rules.proofs.TakeSound.{now, lanes, inside, next, taken-message, taken-entry, raised, own, entries, channels}
+use Rattle.rules.proofs.TakeSound.{now, lanes, inside, next, taken-entry, raised, own, entries, channels}
 use Rattle.rules.proofs.EndSound.{ended-sound, ended-steps}
 
 -- One more at the end, or none.
@@ -116,16 +115,13 @@ module _ (l : Line) (sound : Sound l) (b : ℕ) (p : Passed l (take b)) (can : C
   held-within : (c : ℕ) → eqb from (channelAt (l .plan) c .sender) ≡ true → Within heldTime (laneAt l b .taken) (heldFrom (channelAt (l .plan) c .sender) (x .held))
   held-within c e = within-by heldTime (heldFrom (channelAt (l .plan) c .sender) (x .held))
       (λ g i.
-          (let (j, q) = keep-in (λ (y : Held). eqb (y .sender) (channelAt (l .plan) c .sender)) (x .held) i in
-          let same : from ≡ g .sender = eqb-true from (channelAt (l .plan) c .sender) e ∙ sym (eqb-true (g .sender) (channelAt (l .plan) c .sender) q) in
-          old .clock (entryAt 0 g) (in-right (x .log) (in-map (entryAt 0) j)) b (can .here, refl) same .0))
+      (let (j, q) = keep-in (λ (y : Held). eqb (y .sender) (channelAt (l .plan) c .sender)) (x .held) i in
+      let same : from ≡ g .sender = eqb-true from (channelAt (l .plan) c .sender) e ∙ sym (eqb-true (g .sender) (channelAt (l .plan) c .sender) q) in
+      old .clock (entryAt 0 g) (in-right (x .log) (in-map (entryAt 0) j)) b (can .here, refl) same .0))
 
   held-rows : (c : ℕ) → Enters (l .plan) n c → Rises heldTime 0 (heldFrom (channelAt (l .plan) c .sender) (x .held ++ keepOne goes h []))
   held-rows c i = one goes
     where
-      mine : Held → Bool
-      mine = λ y. eqb (y .sender) (channelAt (l .plan) c .sender)
-
       row : (t : Bool) → eqb from (channelAt (l .plan) c .sender) ≡ t → Rises heldTime 0 (heldFrom (channelAt (l .plan) c .sender) (x .held) ++ keepOne t h [])
       row true e = rises-snoc heldTime h (omega (arith, next l sound b p can .0)) (held-within c e) (next l sound b p can .0) (old .rows c i)
       row false e = rw (nil-right (heldFrom (channelAt (l .plan) c .sender) (x .held))) (old .rows c i)

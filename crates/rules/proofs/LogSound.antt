@@ -8,7 +8,7 @@ use native.Mathlib.Decide.{ℕ-discrete}
 use lib.ListN.{length, length-append, set, length-set}
 use Rattle.plan.specs.declared.Record.{Record}
 use Rattle.plan.specs.Plan.{Plan, nodeCount, channelCount, channelAt}
-use Rattle.rules.specs.Line.{logLimit, stepLimit, Origin, Entry, Held, Target, Status, up, down, replay, Node, Lane, Line, nodeAt, laneAt, withNode}
+use Rattle.rules.specs.Line.{logLimit, stepLimit, Origin, Entry, Status, up, replay, Node, Lane, Line, nodeAt, laneAt, withNode}
 use Rattle.rules.specs.Recover.{triple, triples}
 use Rattle.rules.specs.Replay.{entryAt}
 use Rattle.rules.specs.Clock.{logged}
@@ -17,11 +17,11 @@ use Rattle.rules.proofs.Rising.{rises-snoc, within-snoc, within-higher}
 use Rattle.rules.proofs.Members.{In, in-none, in-first, in-left, in-right, append-in}
 use Rattle.rules.proofs.LineLaws.{node-there, node-else}
 use Rattle.rules.proofs.Stays.{moved}
-use Rattle.rules.proofs.Inv.{Shape, Enters, Leaves}
+use Rattle.rules.proofs.Inv.{Enters, Leaves}
 use Rattle.rules.proofs.InvLaws.{up-not-replay}
 use Rattle.rules.proofs.Targets.{triples-snoc}
-use Rattle.rules.proofs.Standing.{entryTime, EntryFits, Empties, NodeFits, Covers, NodeSound, ChannelSound, Standing, Replays, Sound}
-use Rattle.rules.proofs.SoundStays.{entry-later, node-later, node-stays, replays-stay}
+use Rattle.rules.proofs.Standing.{entryTime, EntryFits, Empties, NodeFits, Covers, NodeSound, ChannelSound, Standing, Sound}
+use Rattle.rules.proofs.SoundStays.{node-later, node-stays, replays-stay}
 
 -- One more of what was worked on.
 worked-more : (x : Node) (e : Entry) {d : Entry} → In d ((x .log ++ e ∷ []) ++ map (entryAt 0) (x .held)) → (d ≡ e) ⊎ In d (workedOn x)

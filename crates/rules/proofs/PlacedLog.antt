@@ -1,10 +1,10 @@
 -- The log that a replay's end places, for any columns that keep the placing's rules: its entries are the held records at their columns, and its times rise between low and high.
-use Prim.Native.Nat.{ℕ, zero, suc, _+_, _<_, _≤_}
-use mathlib.Core.Path.{_≡_, refl, sym, ap, subst, _∙_}
+use Prim.Native.Nat.{ℕ, suc, _<_, _≤_}
+use mathlib.Core.Path.{_≡_, refl, ap, subst, _∙_}
 use mathlib.Core.Logic.{_≢_, _⊎_, inl, inr}
 use mathlib.Core.Bool.{Bool, true, false, not, _&&_}
-use mathlib.Core.List.{List, [], _∷_, _++_, map}
-use mathlib.Core.Option.{Option, none, some}
+use mathlib.Core.List.{List, [], _∷_, map}
+use mathlib.Core.Option.{none, some}
 use native.Mathlib.Omega.{arith}
 use native.Mathlib.Decide.{decLt}
 use lib.ListN.{length, getD, length-append, length-map}
@@ -112,12 +112,12 @@ placing-keeps low high table columns = go (tableFits low high table) (unplaceabl
     go true true f u e = none-some e
     go false lacks f u e = none-some e
 
-pub record LogPlaced (low high : ℕ) (hs : List Held) (log : List Entry) : Type 0 where
+pub record LogPlaced (low high : ℕ) (log : List Entry) : Type 0 where
   pub few : length log ≤ mostItems
   pub rises : Rises entryTime low log
   pub within : Within entryTime high log
 
-pub log-placed : (l : Line) (b : ℕ) (rows : List (List Held)) (low high : ℕ) (columns : List ℕ) → placing low high (itemsByRow l b 0 rows) ≡ some columns → LogPlaced low high (joined rows) (placedLog (joined rows) columns)
+pub log-placed : (l : Line) (b : ℕ) (rows : List (List Held)) (low high : ℕ) (columns : List ℕ) → placing low high (itemsByRow l b 0 rows) ≡ some columns → LogPlaced low high (placedLog (joined rows) columns)
 log-placed l b rows low high columns e =
     let table = itemsByRow l b 0 rows in
     let (keeps, few) = placing-keeps low high table columns e in

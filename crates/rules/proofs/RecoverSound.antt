@@ -1,18 +1,18 @@
 -- Recover keeps a line sound: the node is up, replays, or has ended its replay at once.
-use Prim.Native.Nat.{ℕ, zero, suc, _<_, _≤_}
+use Prim.Native.Nat.{ℕ, _<_, _≤_}
 use mathlib.Core.Path.{_≡_, refl, sym, ap, subst, _∙_}
-use mathlib.Core.Logic.{_≢_, _⊎_, inl, inr}
-use mathlib.Core.Bool.{Bool, true, false, _&&_, _||_, true≢false}
-use mathlib.Core.List.{List, [], _∷_, _++_, map}
-use mathlib.Core.Option.{Option, none, some}
+use mathlib.Core.Logic.{_≢_, inl, inr}
+use mathlib.Core.Bool.{Bool, true, false, _&&_, true≢false}
+use mathlib.Core.List.{List, [], _∷_, map}
+use mathlib.Core.Option.{none, some}
 use native.Mathlib.Omega.{arith}
 use native.Mathlib.Decide.{ℕ-discrete}
 use lib.ListN.{length}
 use lib.Dec.{leb, eqb}
 use borrow.Author.Tests.{ltb-false}
-use Rattle.plan.specs.Plan.{Plan, nodeCount, channelCount, channelAt}
-use Rattle.rules.specs.Lists.{keep, isEmpty, greatestOf}
-use Rattle.rules.specs.Line.{targetLimit, Origin, fed, made, Entry, Target, Status, up, down, replay, Node, Lane, Line, nodeAt, laneAt, freshLane, counted, isDown}
+use Rattle.plan.specs.Plan.{nodeCount, channelAt}
+use Rattle.rules.specs.Lists.{keep, isEmpty}
+use Rattle.rules.specs.Line.{targetLimit, Origin, made, Target, Status, up, down, replay, Node, Lane, Line, nodeAt, laneAt, freshLane, counted, isDown}
 use Rattle.rules.specs.Frame.{recover}
 use Rattle.rules.specs.Recover.{childTriples, lowOf, restored, targetsOf, conflict, rowsComplete, recovered, statusOf, triples}
 use Rattle.rules.specs.Replay.{endedIfComplete}
@@ -20,13 +20,13 @@ use Rattle.rules.specs.Step.{endDown, recoveredLine, effect}
 use Rattle.rules.specs.Damaged.{workedOn}
 use Rattle.rules.proofs.Rising.{Rises, none, none-in}
 use Rattle.rules.proofs.Members.{In, in-none, in-left, keep-in, map-in, greatest-in}
-use Rattle.rules.proofs.Targets.{TripleAt, triples-at-in, low-high, targets-from}
-use Rattle.rules.proofs.Inv.{Shape, Ordered, Enters, Leaves}
+use Rattle.rules.proofs.Targets.{triples-at-in, low-high, targets-from}
+use Rattle.rules.proofs.Inv.{Ordered, Enters, Leaves}
 use Rattle.rules.proofs.InvLaws.{up-not-down, up-not-replay, replay-not-down, if-marked}
 use Rattle.rules.proofs.MarkedLaws.{at-ends}
 use Rattle.rules.proofs.Accepted.{Passed, CanRecover, can-recover}
 use Rattle.rules.proofs.EndInv.{some-same, none-some}
-use Rattle.rules.proofs.Standing.{heldTime, heldFrom, OriginFits, BeforeFits, TargetFits, Empties, NodeFits, Covers, NodeSound, LaneFits, Flows, ChannelSound, Standing, restoredComplete, Replays, Sound}
+use Rattle.rules.proofs.Standing.{heldTime, heldFrom, OriginFits, BeforeFits, TargetFits, Empties, NodeFits, Covers, NodeSound, LaneFits, Flows, ChannelSound, Standing, Replays, Sound}
 use Rattle.rules.proofs.SoundStays.{node-stays, channel-stays, low-kept, targets-kept, rows-kept, replays-stay, counted-sound}
 use Rattle.rules.proofs.StartSound.{fresh-fits, fresh-flows}
 use Rattle.rules.proofs.Undamaged.{ordered-fit}
@@ -212,10 +212,10 @@ module _ (l : Line) (s : Standing l) (n : ℕ) where
           ];
           channels = λ c h. at-ends (l .plan) n c h (channel-enters c) (channel-leaves c)
               (λ d e.
-                  (let from = node-other (channelAt (l .plan) c .sender) e in
-                  let to = node-other (channelAt (l .plan) c .receiver) d in
-                  channel-stays l (l .steps) (r .nodes) (r .lanes) same c (ap (λ (x : Node). x .status) from) (ap (λ (x : Node). x .status) to) (ap (λ (x : Node). x .crashed) from) (ap (λ (x : Node). x .crashed) to)
-                  (restored-beside l n ordered (s .shape) c d e) (s .channels c h)));
+              (let from = node-other (channelAt (l .plan) c .sender) e in
+              let to = node-other (channelAt (l .plan) c .receiver) d in
+              channel-stays l (l .steps) (r .nodes) (r .lanes) same c (ap (λ (x : Node). x .status) from) (ap (λ (x : Node). x .status) to) (ap (λ (x : Node). x .crashed) from) (ap (λ (x : Node). x .crashed) to)
+              (restored-beside l n ordered (s .shape) c d e) (s .channels c h)));
         }
 
     -- Another node that replays is not joined to this one.

@@ -7,9 +7,9 @@ use mathlib.Core.List.{List, [], _∷_}
 use mathlib.Core.Option.{Option, none, some}
 use lib.ListN.{length}
 use lib.Dec.{leb}
-use Rattle.plan.specs.Plan.{Plan, channelAt, nodeCount, channelCount, entering, leaving}
+use Rattle.plan.specs.Plan.{channelAt, nodeCount, entering}
 use Rattle.rules.specs.Lists.{allOf, joined}
-use Rattle.rules.specs.Line.{Held, Target, Status, up, Node, Lane, Line, nodeAt, laneAt, withNode, withLane, freshLane}
+use Rattle.rules.specs.Line.{Held, up, Node, Lane, Line, nodeAt, laneAt, withNode, freshLane}
 use Rattle.rules.specs.Recover.{lowOf, highOf, targetsOf, restored, recovered, statusOf, rowGoal, rowComplete, rowsComplete}
 use Rattle.rules.specs.Replay.{heldByRow, isHeld, itemsByRow, placing, nodePlaced, replayEnd}
 use Rattle.rules.proofs.Members.{In, here, there}

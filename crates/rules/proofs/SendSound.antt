@@ -1,10 +1,10 @@
 -- Send keeps a line sound.
-use Prim.Native.Nat.{ℕ, suc, _+_, _<_, _≤_}
+use Prim.Native.Nat.{ℕ, _<_, _≤_}
 use mathlib.Core.Path.{_≡_, refl, sym, ap, subst, _∙_}
 use mathlib.Core.Logic.{_≢_, inl, inr}
 use mathlib.Core.Bool.{Bool, true, false, _&&_, true≢false}
-use mathlib.Core.List.{List, [], _∷_, _++_}
-use mathlib.Core.Option.{Option, none, some}
+use mathlib.Core.List.{List, [], _∷_}
+use mathlib.Core.Option.{Option, some}
 use native.Mathlib.Omega.{arith}
 use native.Mathlib.Decide.{ℕ-discrete}
 use lib.ListN.{length, length-append}
@@ -13,17 +13,15 @@ use borrow.Author.Tests.{leb-false, ltb-true}
 use Rattle.basics.specs.Bools.{both-true}
 use Rattle.plan.specs.declared.Channel.{Channel}
 use Rattle.plan.specs.Channel.{takes}
-use Rattle.plan.specs.Plan.{Plan, nodeCount, channelCount, channelAt}
-use Rattle.rules.specs.Line.{queueLimit, Origin, fed, made, Message, Entry, Held, Status, up, down, replay, Node, Lane, Line, nodeAt, laneAt, withLane, counted}
+use Rattle.plan.specs.Plan.{nodeCount, channelAt}
+use Rattle.rules.specs.Line.{queueLimit, Origin, fed, made, Entry, Status, replay, Lane, Line, nodeAt, laneAt, withLane, counted}
 use Rattle.rules.specs.Frame.{send}
-use Rattle.rules.specs.Replay.{entryAt}
 use Rattle.rules.specs.Clock.{messageOf, nextToSend, sentOn}
-use Rattle.rules.specs.Step.{endDown, sendable, sentLine, effect}
+use Rattle.rules.specs.Step.{sendable, sentLine, effect}
 use Rattle.rules.proofs.Rising.{rises-snoc, within-snoc, within-higher}
 use Rattle.rules.proofs.Members.{In, here, there, in-none, in-first, in-left, append-in, within-in}
 use Rattle.rules.proofs.LineLaws.{lane-there, lane-else, lanes-long}
-use Rattle.rules.proofs.Inv.{timeOf, Shape, Ordered}
-use Rattle.rules.proofs.InvLaws.{up-not-replay}
+use Rattle.rules.proofs.Inv.{timeOf, Ordered}
 use Rattle.rules.proofs.Accepted.{Passed, CanSend, can-send}
 use Rattle.rules.proofs.EndInv.{some-same, none-some}
 use Rattle.rules.proofs.Standing.{entryTime, Empties, Covers, LaneFits, MessageFits, Flows, ChannelSound, Standing, Sound}

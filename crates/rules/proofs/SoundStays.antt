@@ -1,24 +1,22 @@
 -- What is sound stays sound where a change does not reach, and as the steps go on.
-use Prim.Native.Nat.{ℕ, zero, suc, _<_, _≤_}
+use Prim.Native.Nat.{ℕ, suc, _<_, _≤_}
 use mathlib.Core.Path.{_≡_, refl, sym, ap, subst, _∙_}
-use mathlib.Core.Logic.{_≢_, _⊎_, inl, inr}
-use mathlib.Core.Bool.{Bool, true, false, _||_}
-use mathlib.Core.List.{List, [], _∷_, _++_, map}
+use mathlib.Core.Bool.{_||_}
+use mathlib.Core.List.{List, _∷_}
 use native.Mathlib.Omega.{arith}
-use lib.ListN.{length}
 use lib.Dec.{leb}
-use Rattle.plan.specs.Plan.{Plan, nodeCount, channelCount, channelAt, entering}
+use Rattle.plan.specs.Plan.{Plan, channelAt, entering}
 use Rattle.rules.specs.Lists.{isEmpty}
-use Rattle.rules.specs.Line.{targetLimit, stepLimit, Origin, fed, made, Message, Entry, Held, Target, Status, up, down, replay, Node, Lane, Line, nodeAt, laneAt, counted, senderOf, receiverOf, isDown}
+use Rattle.rules.specs.Line.{stepLimit, Origin, fed, made, Message, Entry, Target, down, replay, Node, Lane, Line, nodeAt, laneAt, counted, isDown}
 use Rattle.rules.specs.Recover.{triples, targetsOf, lowOf, restored, conflict, rowGoal, childTriples}
 use Rattle.rules.specs.Step.{endDown}
 use Rattle.rules.specs.Damaged.{workedOn}
 use Rattle.rules.proofs.Rising.{Rises}
 use Rattle.rules.proofs.Members.{In}
 use Rattle.rules.proofs.Stays.{moved}
-use Rattle.rules.proofs.Inv.{Shape, Enters, Leaves}
+use Rattle.rules.proofs.Inv.{Enters, Leaves}
 use Rattle.rules.proofs.Targets.{low-same, triples-same, targets-same, restored-same}
-use Rattle.rules.proofs.Standing.{heldTime, OriginFits, BeforeFits, EntryFits, MessageFits, TargetFits, Empties, NodeFits, Covers, heldFrom, NodeSound, LaneFits, Flows, ChannelSound, Standing, restoredComplete, Replays, Sound}
+use Rattle.rules.proofs.Standing.{heldTime, OriginFits, BeforeFits, EntryFits, MessageFits, TargetFits, NodeFits, Covers, heldFrom, NodeSound, LaneFits, Flows, ChannelSound, restoredComplete, Replays, Sound}
 use Rattle.rules.proofs.Restored.{all-same}
 
 -- More steps.

@@ -2,22 +2,20 @@
 use Prim.Native.Nat.{ℕ, zero, suc, _<_, _≤_}
 use mathlib.Core.Path.{_≡_, refl, sym, ap, _∙_}
 use mathlib.Core.Logic.{inl, inr}
-use mathlib.Core.Bool.{Bool, true, false, true≢false}
+use mathlib.Core.Bool.{true, false, true≢false}
 use mathlib.Core.List.{List, [], _∷_, map}
 use native.Mathlib.Omega.{arith}
 use lib.ListN.{length, getD, replicate, length-replicate, length-map, getD-replicate}
 use Rattle.plan.specs.Lawful.{Bytes}
 use Rattle.plan.specs.declared.Channel.{Channel}
-use Rattle.plan.specs.Plan.{Plan, planOf, nodeCount, channelCount, channelAt, noChannel, isSource, isSink}
+use Rattle.plan.specs.Plan.{Plan, planOf, nodeCount, channelCount, channelAt, noChannel}
 use Rattle.plan.specs.Check.{planRefusal, planFits}
 use Rattle.plan.proofs.FitsLaws.{accepted-fits}
-use Rattle.rules.specs.Line.{up, Node, Lane, Line, freshNode, noLane, freshLane, initialLine, nodeAt, laneAt, parents, senderOf, receiverOf, isDown}
-use Rattle.rules.specs.Step.{endDown, nodeDown}
+use Rattle.rules.specs.Line.{up, Node, Line, freshNode, noLane, freshLane, initialLine, nodeAt, laneAt, parents}
 use Rattle.rules.specs.Damaged.{damaged}
 use Rattle.rules.proofs.Rising.{none, none-in}
-use Rattle.rules.proofs.Members.{In, here, there, in-none, in-first}
-use Rattle.rules.proofs.Inv.{Ordered, Shape}
-use Rattle.rules.proofs.InvLaws.{up-not-down, up-not-replay}
+use Rattle.rules.proofs.Members.{In, in-none, in-first}
+use Rattle.rules.proofs.InvLaws.{up-not-replay}
 use Rattle.rules.proofs.Standing.{NodeFits, NodeSound, LaneFits, Flows, ChannelSound, Sound}
 use Rattle.rules.proofs.Undamaged.{ordered-fit, sound-undamaged}
 

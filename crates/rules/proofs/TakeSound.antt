@@ -1,33 +1,33 @@
 -- Take keeps a line sound: the channel, and a receiver that is up.
 use Prim.Native.Nat.{ℕ, suc, max, _<_, _≤_}
 use mathlib.Core.Path.{_≡_, refl, sym, ap, subst, _∙_}
-use mathlib.Core.Logic.{_≢_, inl, inr}
-use mathlib.Core.Bool.{Bool, true, false, cond, _&&_, true≢false}
-use mathlib.Core.List.{List, [], _∷_, _++_}
-use mathlib.Core.Option.{Option, none, some}
+use mathlib.Core.Logic.{_≢_}
+use mathlib.Core.Bool.{true, false, cond, _&&_, true≢false}
+use mathlib.Core.List.{List, [], _∷_}
+use mathlib.Core.Option.{some}
 use native.Mathlib.Omega.{arith}
 use native.Mathlib.Decide.{ℕ-discrete}
 use lib.ListN.{length, set, length-set}
 use lib.Dec.{leb, eqb}
 use borrow.Author.Tests.{leb-false, eq-eqb, ne-eqb}
-use Rattle.plan.specs.Plan.{Plan, nodeCount, channelCount, channelAt, isSource, entering}
-use Rattle.rules.specs.Line.{logLimit, heldLimit, Origin, fed, made, Message, Entry, Held, Target, Status, up, down, replay, Node, Lane, Line, nodeAt, laneAt, parents, senderOf, receiverOf, withNode, withLane, counted, isReplay}
+use Rattle.plan.specs.Plan.{Plan, nodeCount, channelCount, channelAt}
+use Rattle.rules.specs.Line.{logLimit, heldLimit, Origin, fed, made, Message, Status, up, down, replay, Node, Lane, Line, nodeAt, laneAt, parents, receiverOf, withNode, withLane, counted, isReplay}
 use Rattle.rules.specs.Frame.{take}
 use Rattle.rules.specs.Recover.{triple}
 use Rattle.rules.specs.Clock.{raiseHeard, takenFrom}
-use Rattle.rules.specs.Step.{endDown, replaying, firstRecord, toHold, takeLacks, madeBy, takenUp, takenLane, takenFirst, takenLine, effect}
+use Rattle.rules.specs.Step.{replaying, firstRecord, toHold, takeLacks, madeBy, takenUp, takenLane, takenFirst, takenLine, effect}
 use Rattle.rules.specs.Damaged.{isParent, pastHeard}
 use Rattle.rules.proofs.Rising.{Rises, more, Within, within-first}
-use Rattle.rules.proofs.Members.{In, here, there, in-none, in-map}
+use Rattle.rules.proofs.Members.{In, here, there, in-map}
 use Rattle.rules.proofs.LineLaws.{lane-there, lane-else}
 use Rattle.rules.proofs.Stays.{moved}
 use Rattle.rules.proofs.Joins.{in-entering}
-use Rattle.rules.proofs.Inv.{timeOf, Shape, Ordered, Enters, Leaves}
+use Rattle.rules.proofs.Inv.{timeOf, Ordered, Enters, Leaves}
 use Rattle.rules.proofs.TakeKeeps.{no-source}
 use Rattle.rules.proofs.Accepted.{Passed, CanTake}
 use Rattle.rules.proofs.EndInv.{some-same}
 use Rattle.rules.proofs.TestLaws.{any-by}
-use Rattle.rules.proofs.Standing.{OriginFits, EntryFits, MessageFits, Covers, LaneFits, Flows, ChannelSound, Standing, Sound}
+use Rattle.rules.proofs.Standing.{EntryFits, MessageFits, Covers, LaneFits, Flows, ChannelSound, Standing, Sound}
 use Rattle.rules.proofs.SoundStays.{origin-later, lane-later, ends-same, channel-stays}
 use Rattle.rules.proofs.UndamagedNode.{fits-times}
 use Rattle.rules.proofs.Undamaged.{ordered-fit}
@@ -76,9 +76,6 @@ module _ (l : Line) (sound : Sound l) (b : ℕ) (p : Passed l (take b)) (can : C
 
   abbrev pub lanes : List Lane
   lanes = set (l .lanes) b (takenFrom (parents (l .plan) (channelAt (l .plan) b .sender)) (can .message) (can .rest) (laneAt l b))
-
-  pub here-channel : b < channelCount (l .plan)
-  here-channel = can .here
 
   ordered : Ordered (l .plan)
   ordered = ordered-fit (l .plan) (s .plan-fits)

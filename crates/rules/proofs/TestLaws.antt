@@ -1,11 +1,11 @@
 -- Tests over lists and tests joined by "or", taken apart and put together again.
-use Prim.Native.Nat.{ℕ, zero, suc, _+_, _<_, _≤_}
-use mathlib.Core.Path.{_≡_, refl, sym, ap, subst}
+use Prim.Native.Nat.{ℕ, zero, suc, _+_, _<_}
+use mathlib.Core.Path.{_≡_, refl, sym}
 use mathlib.Core.Logic.{inl, inr}
-use mathlib.Core.Bool.{Bool, true, false, not, _&&_, _||_, true≢false}
+use mathlib.Core.Bool.{Bool, true, false, _&&_, _||_, true≢false}
 use mathlib.Core.List.{List, [], _∷_, map}
 use native.Mathlib.Omega.{arith}
-use lib.Dec.{leb, ltb, eqb}
+use lib.Dec.{leb, ltb}
 use borrow.Author.Tests.{ltb-true, leb-true, lt-ltb, le-leb}
 use Rattle.basics.specs.Bools.{both-true, neither-true}
 use Rattle.rules.specs.Lists.{isEmpty, allOf, anyOf, upTo}
@@ -59,9 +59,6 @@ by-unless false b f = refl
 pub empty-is : {A : Type 0} (xs : List A) → isEmpty xs ≡ true → xs ≡ []
 empty-is [] e = refl
 empty-is (x ∷ xs) e = absurd (true≢false (sym e))
-
-pub is-empty : {A : Type 0} (xs : List A) → xs ≡ [] → isEmpty xs ≡ true
-is-empty xs e = ap isEmpty e
 
 -- Times that rise to a last one.
 module _ {A : Type 0} (time : A → ℕ) where

@@ -1,35 +1,33 @@
 -- A line is not damaged exactly if it is sound: each condition of Damaged is the failure of a fact.
-use Prim.Native.Nat.{ℕ, zero, suc, _+_, _<_, _≤_}
+use Prim.Native.Nat.{ℕ, _+_, _<_, _≤_}
 use mathlib.Core.Path.{_≡_, refl, sym, ap, subst, _∙_}
-use mathlib.Core.Logic.{inl, inr, _↔_}
+use mathlib.Core.Logic.{inl, inr}
 use mathlib.Core.Bool.{Bool, true, false, not, _&&_, _||_, true≢false}
 use mathlib.Core.List.{List, [], _∷_, _++_, map}
 use mathlib.Core.Option.{Option, none, some}
 use native.Mathlib.Omega.{arith}
-use native.Mathlib.Nat.{zero-add}
 use lib.ListN.{length}
-use lib.Dec.{leb, ltb, eqb}
+use lib.Dec.{ltb, eqb}
 use borrow.Author.Tests.{ltb-false, le-ltb, eqb-true, eqb-false, eq-eqb, ne-eqb, not-true, not-false}
 use Rattle.basics.specs.Bools.{both-true, neither-true}
 use Rattle.plan.specs.Plan.{Plan, nodeCount, channelCount, channelAt, entering}
 use Rattle.plan.specs.Check.{planFits}
 use Rattle.plan.proofs.FitsLaws.{fitting}
-use Rattle.rules.specs.Lists.{isEmpty, anyOf, joined}
+use Rattle.rules.specs.Lists.{isEmpty, anyOf}
 use Rattle.rules.specs.Line.{queueLimit, targetLimit, stepLimit, Origin, fed, made, Message, Entry, Held, Target, Status, up, down, replay, Node, Lane, Line, nodeAt, laneAt, parents, senderOf, receiverOf, nodeNumbers, channelNumbersOf, isDown, isReplay}
 use Rattle.rules.specs.Recover.{sameTarget, targetsOf, conflict, recovered, statusOf, rowsComplete}
 use Rattle.rules.specs.Replay.{heldByRow, replayEnd, endedIfComplete}
 use Rattle.rules.specs.Step.{endDown, nodeDown, replaying, recoveredLine, recoverGives}
 use Rattle.rules.specs.Damaged.{someNode, someChannel, planBroken, misshapen, workedOn, stepsPast, recordPastLimits, nodePastLimits, channelPastLimits, notParent, nodeWrongParent, channelWrongParent, originTimes, channelNamedTimes, channelOtherTimes, nodeTimePast, channelTimePast, nodeTimeZero, channelTimeZero, originWrong, nodeMakerWrong, channelMakerWrong, rises, risesTo, logWrong, pastHeard, pastLane, pastClock, heldWrong, heldNotPassed, queueWrong, markMissing, markOnEnd, marksJoined, sameTargets, replaysAs, replayWrong, nodeHolds, channelHolds, nodeDamaged, channelDamaged, damaged}
-use Rattle.rules.proofs.Rising.{Rises, Within}
+use Rattle.rules.proofs.Rising.{Rises}
 use Rattle.rules.proofs.Members.{In, here, there, in-none, in-first, in-left, in-right, append-in, in-map, map-in, in-joined, joined-in}
 use Rattle.rules.proofs.Joins.{in-entering, entering-in}
 use Rattle.rules.proofs.Inv.{timeOf, Shape, Ordered, Enters}
-use Rattle.rules.proofs.InvLaws.{up-not-replay}
 use Rattle.rules.proofs.PlanOrder.{ordered-channels}
 use Rattle.rules.proofs.QuietRest.{in-up-to}
-use Rattle.rules.proofs.TestLaws.{none-of, none-by, up-to-in, all-false, unless, by-unless, empty-is, is-empty, rises-of, of-rises, to-of, of-to}
-use Rattle.rules.proofs.Standing.{heldTime, OriginFits, MessageFits, NodeFits, Covers, heldFrom, NodeSound, LaneFits, Flows, ChannelSound, Standing, restoredComplete, Replays, Sound}
-use Rattle.rules.proofs.Restored.{restoredNode, restoredLine, recovered-is, restored-node, restored-shape, restored-complete, ended-up}
+use Rattle.rules.proofs.TestLaws.{none-of, none-by, up-to-in, all-false, unless, by-unless, empty-is, rises-of, of-rises, to-of, of-to}
+use Rattle.rules.proofs.Standing.{heldTime, Covers, heldFrom, NodeSound, LaneFits, Flows, ChannelSound, Replays, Sound}
+use Rattle.rules.proofs.Restored.{restoredNode, recovered-is, restored-node, restored-shape, restored-complete, ended-up}
 use Rattle.rules.proofs.UndamagedNode.{origin-fits, fits-parent, fits-maker, fits-times, node-fits, few-enough, right-parents, within-steps, above-zero, right-makers, log-right, held-passed, mark-there, end-bare, holds-none}
 
 -- The clock.

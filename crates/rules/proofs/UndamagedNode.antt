@@ -10,7 +10,7 @@ use lib.Dec.{ltb, eqb}
 use borrow.Author.Tests.{ltb-false, le-ltb, eqb-true, eqb-false, ne-eqb, not-false}
 use Rattle.basics.specs.Bools.{both-true, neither-true}
 use Rattle.plan.specs.Plan.{Plan, isSource, isSink}
-use Rattle.rules.specs.Lists.{isEmpty, anyOf, joined}
+use Rattle.rules.specs.Lists.{isEmpty, anyOf}
 use Rattle.rules.specs.Line.{logLimit, heldLimit, targetLimit, Origin, fed, made, Entry, Held, Target, Status, up, down, replay, Node, isUp}
 use Rattle.rules.specs.Replay.{passedOn}
 use Rattle.rules.specs.Damaged.{workedOn, recordPastLimits, nodePastLimits, isParent, notParent, beforeNotParent, nodeWrongParent, originTimes, nodeNamedTimes, nodeOtherTimes, nodeTimePast, nodeTimeZero, originWrong, isFed, beforeWrong, nodeMakerWrong, risesTo, logWrong, heldNotPassed, markMissing, markOnEnd, holdsByStatus, nodeHolds}
