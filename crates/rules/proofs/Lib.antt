@@ -51,6 +51,7 @@ pub mod Standing
 pub mod Restored
 pub mod TestLaws
 pub mod UndamagedNode
+pub mod UndamagedChannel
 pub mod Undamaged
 pub mod StartSound
 pub mod SoundStays

@@ -9,6 +9,7 @@ use lib.Dec.{leb, ltb}
 use borrow.Author.Tests.{ltb-true, leb-true, lt-ltb, le-leb}
 use Rattle.basics.specs.Bools.{both-true, neither-true}
 use Rattle.rules.specs.Lists.{isEmpty, allOf, anyOf, upTo}
+use Rattle.rules.specs.Line.{Status, up, down, replay, isDown, isReplay}
 use Rattle.rules.specs.Damaged.{rises, risesTo}
 use Rattle.rules.proofs.Members.{In, here, there, in-none, in-first}
 use Rattle.rules.proofs.Rising.{Rises, none, more, Within, none-in, more-in}
@@ -83,3 +84,14 @@ module _ {A : Type 0} (time : A → ℕ) where
 
   pub of-to : {above last : ℕ} {xs : List A} → Rises time above xs → Within time last xs → risesTo above last (map time xs) ≡ true
   of-to r w = rw (of-rises r, of-within w)
+
+-- A node's status.
+pub is-replay : (s : Status) → isReplay s ≡ true → s ≡ replay
+is-replay up e = absurd (true≢false (sym e))
+is-replay down e = absurd (true≢false (sym e))
+is-replay replay e = refl
+
+pub is-down : (s : Status) → isDown s ≡ true → s ≡ down
+is-down up e = absurd (true≢false (sym e))
+is-down down e = refl
+is-down replay e = absurd (true≢false (sym e))
