@@ -15,6 +15,7 @@ use Rattle.rules.specs.Frame.{Frame, feed, send, take, crash, recover, f
 use Rattle.rules.specs.Recover.{rowGoal, rowComplete}
 use Rattle.rules.specs.Step.{noStepsLeft, noSuch, wrongNode, nodeDown, endDown, wrongStatus, neighbourCrashed, besideCrashed, badRecord, sendable, isNothing, nothingThere, queueFull, rowDone, noSpace, effect, noPlacing, lineRefusal, refusal, accepted, step}
 use Rattle.rules.proofs.Members.{In, here, there}
+use Rattle.rules.proofs.Options.{something-there}
 use Rattle.rules.proofs.Inv.{Enters, Leaves}
 use Rattle.rules.proofs.Joins.{in-entering, in-leaving}
 
@@ -46,10 +47,6 @@ pub record Passed (l : Line) (f : Frame) : Type 0 where
   pub space : noSpace l f ≡ false
   pub next : Line
   pub leads : effect l f ≡ some next
-
-something-there : {A : Type 0} (x : Option A) → isNothing x ≡ false → (y : A) × (x ≡ some y)
-something-there none e = absurd (true≢false e)
-something-there (some y) e = (y, refl)
 
 pub passed : (l : Line) (f : Frame) → lineRefusal l f ≡ 0 → Passed l f
 unfolding lineRefusal noStepsLeft noPlacing

@@ -1,6 +1,7 @@
 pub mod ListLaws
 pub mod Rising
 pub mod Members
+pub mod Options
 pub mod PlainRun
 pub mod Witness
 pub mod Ghost

@@ -20,6 +20,7 @@ use Rattle.rules.specs.Step.{recoveredLine}
 use Rattle.rules.specs.Plain.{Act, Receipt}
 use Rattle.rules.proofs.Rising.{until, past, Rises, none, Within, none-in, past-none, within-until, within-higher, until-none, rises-past}
 use Rattle.rules.proofs.Members.{In, in-none, keep-in}
+use Rattle.rules.proofs.Options.{some-same, none-some}
 use Rattle.rules.proofs.Witness.{Taken, none}
 use Rattle.rules.proofs.LineLaws.{node-there, node-else}
 use Rattle.rules.proofs.Ghost.{Event, tookAt, Ghost, inputOf, entryOf, takesMessage, put, got, gotOf, logPut, map-map}
@@ -36,7 +37,7 @@ use Rattle.rules.proofs.Stays.{moved, channel-stays, ends-stay, events-
 use Rattle.rules.proofs.Swept.{swept, swept-line, swept-long, swept-enters, swept-leaves, swept-else}
 use Rattle.rules.proofs.RebuildEvents.{Rebuilding}
 use Rattle.rules.proofs.RebuildInv.{ghostAfter, cutAfter, rebuild-inv}
-use Rattle.rules.proofs.EndInv.{Goes, ended-inv, none-some, some-same}
+use Rattle.rules.proofs.EndInv.{Goes, ended-inv}
 
 -- The log of a node that never crashed holds all that it put on a channel.
 pub log-whole : {l : Line} {g : Ghost} {fed : List Act} {receipts : List Receipt} → Nodes l g fed receipts → (b : ℕ) → nodeAt l (channelAt (l .plan) b .sender) .crashed ≡ false → logPut l b ≡ put (l .plan) g b

@@ -17,6 +17,7 @@ use Rattle.rules.specs.Line.{Message, Entry, Status, up, down, Node, Lan
 use Rattle.rules.specs.Clock.{nextToSend, sentOn, messageOf}
 use Rattle.rules.specs.Step.{sendable}
 use Rattle.rules.proofs.Rising.{until, past, Rises, Within}
+use Rattle.rules.proofs.Options.{some-same, none-some}
 use Rattle.rules.proofs.LineLaws.{lane-there, lane-else}
 use Rattle.rules.proofs.Ghost.{Ghost, takesMessage, put, got, logPut}
 use Rattle.rules.proofs.Inv.{timeOf, isUp, Shape, SenderUp, Channels}
@@ -24,9 +25,6 @@ use Rattle.rules.proofs.Grow.{sender-sends, sender-same}
 
 abbrev chosenFrom : Channel → ℕ → List Entry → List Message
 chosenFrom c mark log = past timeOf mark (keep (λ (m : Message). takes c (m .what)) (map messageOf log))
-
-some-same : {x y : Entry} → some x ≡ some y → x ≡ y
-some-same e = cc
 
 first-here : (c : Channel) (mark : ℕ) (d : Entry) (log : List Entry) → (ltb mark (d .time) && takes c (d .what)) ≡ true → nextToSend c mark (d ∷ log) ≡ some d
 first-here c mark d log t = rw (t, nextToSend)
@@ -47,7 +45,7 @@ found-step c mark d log e false false a b same ih = rw b (ih refl)
 
 -- What is sent is the first message past the mark that the channel takes.
 first-past : (c : Channel) (mark : ℕ) (log : List Entry) (e : Entry) → nextToSend c mark log ≡ some e → Found c mark log e
-first-past c mark [] e q = let z : _≡_ {A = ℕ} 0 1 = cc in let no : ⊥ = omega arith in absurd no
+first-past c mark [] e q = none-some q
 first-past c mark (d ∷ log) e q =
     found-step c mark d log e (ltb mark (d .time)) (takes c (d .what)) refl refl (λ t. some-same (sym (first-here c mark d log t) ∙ q)) (λ t. first-past c mark log e (sym (first-skip c mark d log t) ∙ q))
 

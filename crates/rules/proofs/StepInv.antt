@@ -17,6 +17,7 @@ use Rattle.rules.specs.Step.{sendable, replaying, fedLine, sentLine, tak
 use Rattle.rules.specs.Plain.{Act, feeds, Receipt}
 use Rattle.rules.specs.Claim.{firstReceipt, receiptOf, feedOf, crashOf}
 use Rattle.rules.proofs.ListLaws.{nil-right}
+use Rattle.rules.proofs.Options.{some-same, none-some}
 use Rattle.rules.proofs.Ghost.{Ghost, fedAt, tookAt, later}
 use Rattle.rules.proofs.Inv.{Inv, isUp}
 use Rattle.rules.proofs.InvLaws.{up-not-down, up-not-replay}
@@ -35,12 +36,6 @@ Kept l fed receipts crashes = (g : Ghost) × (cut : ℕ → ℕ) × (base : ℕ 
 
 pub kept-same : {l k : Line} {fed fed′ : List Act} {receipts receipts′ : List Receipt} {crashes crashes′ : List ℕ} → k ≡ l → fed′ ≡ fed → receipts′ ≡ receipts → crashes′ ≡ crashes → Kept l fed receipts crashes → Kept k fed′ receipts′ crashes′
 kept-same line feds received crashed h = rw (line, feds, received, crashed) h
-
-some-line : {k m : Line} → some k ≡ some m → k ≡ m
-some-line e = cc
-
-none-some : {e : Entry} → none ≡ some e → ⊥
-none-some q = let z : _≡_ {A = ℕ} 0 1 = cc in omega arith
 
 empty-not : {m : Message} {rest : List Message} → [] ≡ m ∷ rest → ⊥
 empty-not q = let z : _≡_ {A = ℕ} 0 1 = cc in omega arith
@@ -66,7 +61,7 @@ module _ (l : Line) (g : Ghost) (cut base : ℕ → ℕ) (fed : List Act) (recei
       → Inv k (later g n (fedAt (recordLayout .read r) (suc (nodeAt l n .time)))) cut base (fed ++ feeds n (recordLayout .read r) ∷ []) receipts crashes
   unfolding effect fedLine
   feed-step n r can k e =
-      subst (λ (x : Line). Inv x (later g n (fedAt (recordLayout .read r) (suc (nodeAt l n .time)))) cut base (fed ++ feeds n (recordLayout .read r) ∷ []) receipts crashes) (some-line e)
+      subst (λ (x : Line). Inv x (later g n (fedAt (recordLayout .read r) (suc (nodeAt l n .time)))) cut base (fed ++ feeds n (recordLayout .read r) ∷ []) receipts crashes) (some-same e)
       (feed-inv l g cut base fed receipts crashes inv n (recordLayout .read r) (can .here) (can .source))
 
   -- A replaying sender has nothing to send, its log is empty.
@@ -74,19 +69,19 @@ module _ (l : Line) (g : Ghost) (cut base : ℕ → ℕ) (fed : List Act) (recei
   unfolding sendable
   sender-sends b e first d = elim (up-or-replay (nodeAt l (channelAt (l .plan) b .sender) .status) d) [
     | inl q ↦ q
-    | inr q ↦ absurd (none-some (sym (ap (nextToSend (channelAt (l .plan) b) (laneAt l b .mark)) (inv .replays (channelAt (l .plan) b .sender) q .log-none)) ∙ first))
+    | inr q ↦ none-some (sym (ap (nextToSend (channelAt (l .plan) b) (laneAt l b .mark)) (inv .replays (channelAt (l .plan) b .sender) q .log-none)) ∙ first)
   ]
 
   pub send-step : (b : ℕ) → CanSend l b → (k : Line) → effect l (send b) ≡ some k → Inv k g cut base fed receipts crashes
   unfolding effect
   send-step b can k e =
-      subst (λ (x : Line). Inv x g cut base fed receipts crashes) (ap (λ (o : Option Entry). sentLine b o l) (sym (can .first)) ∙ some-line e)
+      subst (λ (x : Line). Inv x g cut base fed receipts crashes) (ap (λ (o : Option Entry). sentLine b o l) (sym (can .first)) ∙ some-same e)
       (send-inv l g cut base fed receipts crashes inv b (can .entry) (can .here) (can .first) (sender-sends b (can .entry) (can .first) (can .sender)) (can .receiver))
 
   pub crash-step : (n : ℕ) → CanCrash l n → (k : Line) → effect l (crash n) ≡ some k → Inv k g cut base fed receipts (crashes ++ n ∷ [])
   unfolding effect
   crash-step n can k e =
-      subst (λ (x : Line). Inv x g cut base fed receipts (crashes ++ n ∷ [])) (some-line e)
+      subst (λ (x : Line). Inv x g cut base fed receipts (crashes ++ n ∷ [])) (some-same e)
       (crash-inv l g cut base fed receipts crashes inv n (can .here) (can .no-source) (can .no-sink) (can .parents) (can .children))
 
   -- The sender of a channel with a message on it is up.
@@ -111,7 +106,7 @@ module _ (l : Line) (g : Ghost) (cut base : ℕ → ℕ) (fed : List Act) (recei
         let one : receiptOf l (take b) ≡ record { receiver = n; what = m .what; sender = channelAt (l .plan) b .sender } ∷ [] = ap (firstReceipt l b) (can .first) in
         let heard = raiseHeard (parents (l .plan) (senderOf l b)) (laneAt l b .heard) (m .origin) in
         rw one
-        (subst (λ (x : Line). Inv x (later g n (tookAt b m (suc (nodeAt l n .time)))) (changed cut b (m .time)) base fed (receipts ++ record { receiver = n; what = m .what; sender = channelAt (l .plan) b .sender } ∷ []) crashes) (some-line (sym taken-is ∙ e))
+        (subst (λ (x : Line). Inv x (later g n (tookAt b m (suc (nodeAt l n .time)))) (changed cut b (m .time)) base fed (receipts ++ record { receiver = n; what = m .what; sender = channelAt (l .plan) b .sender } ∷ []) crashes) (some-same (sym taken-is ∙ e))
         (take-inv l g cut base fed receipts crashes inv b (can .here) m (can .rest) heard (can .first) (sender-gives b m (can .rest) (can .here) (can .first)) alive))
 
   module _ (b : ℕ) (can : CanTake l b) (again : nodeAt l (channelAt (l .plan) b .receiver) .status ≡ replay) where

@@ -1,0 +1,16 @@
+-- An optional value: what it is when it is there, and that nothing is not something.
+use mathlib.Core.Path.{_≡_, refl}
+use mathlib.Core.Bool.{false, true≢false}
+use mathlib.Core.Option.{Option, none, some, Option·some-injective, Option·none-ne-some}
+use Rattle.rules.specs.Step.{isNothing}
+
+module _ {A : Type 0} where
+  pub some-same : {x y : A} → some x ≡ some y → x ≡ y
+  some-same {x} {y} e = Option·some-injective x y e
+
+  pub none-some : {B : Type 0} {x : A} → none ≡ some x → B
+  none-some {x = x} e = absurd (Option·none-ne-some x e)
+
+  pub something-there : (o : Option A) → isNothing o ≡ false → (x : A) × (o ≡ some x)
+  something-there none e = absurd (true≢false e)
+  something-there (some x) e = (x, refl)
