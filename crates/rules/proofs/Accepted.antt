@@ -14,7 +14,7 @@ use Rattle.rules.specs.Line.{stepLimit, Message, Entry, Status, up, down
 use Rattle.rules.specs.Frame.{Frame, feed, send, take, crash, recover, frameOf, badFrameLength, badFrameVersion, badKind}
 use Rattle.rules.specs.Recover.{rowGoal, rowComplete}
 use Rattle.rules.specs.Step.{noStepsLeft, noSuch, wrongNode, nodeDown, endDown, wrongStatus, neighbourCrashed, besideCrashed, badRecord, sendable, isNothing, nothingThere, queueFull, rowDone, noSpace, effect, noPlacing, lineRefusal, refusal, accepted, step}
-use Rattle.rules.proofs.Members.{In, here, there}
+use Rattle.rules.proofs.Members.{none-any}
 use Rattle.rules.proofs.Options.{something-there}
 use Rattle.rules.proofs.Inv.{Enters, Leaves}
 use Rattle.rules.proofs.Joins.{in-entering, in-leaving}
@@ -70,10 +70,6 @@ passed l f e =
       next = k;
       leads = q;
     }
-
-none-any : {A : Type 0} (f : A → Bool) {x : A} {xs : List A} → anyOf f xs ≡ false → In x xs → f x ≡ false
-none-any f {x = x} e (here {xs = xs}) = neither-true (f x) (anyOf f xs) e .0
-none-any f e (there {y = y} {xs = xs} i) = none-any f (neither-true (f y) (anyOf f xs) e .1) i
 
 not-down : (s : Status) → isDown s ≡ false → s ≢ down
 not-down s e q = true≢false (sym (ap isDown q) ∙ e)

@@ -27,7 +27,7 @@ use Rattle.rules.specs.Recover.{highOf, rowGoal, rowComplete, rowsComple
 use Rattle.rules.specs.Replay.{fixedAt, floorOf, heldByRow, itemsByRow, isHeld, placedLog, placing, nodePlaced, replayEnd, endedIfComplete}
 use Rattle.rules.specs.Plain.{Act, Receipt}
 use Rattle.rules.proofs.Rising.{until, past, Rises}
-use Rattle.rules.proofs.Members.{In, here, there, in-none, in-keep, keep-in, in-map, map-in, in-greatest, greatest-in, rises-once}
+use Rattle.rules.proofs.Members.{In, here, there, in-none, in-keep, keep-in, in-map, map-in, all-in, any-in, in-greatest, greatest-in, rises-once}
 use Rattle.rules.proofs.Options.{some-same, none-some}
 use Rattle.rules.proofs.LineLaws.{node-there, node-else}
 use Rattle.rules.proofs.Witness.{Taken}
@@ -44,19 +44,6 @@ use Rattle.rules.proofs.MarkedLaws.{own, one-channel, taken-put, got-ri
 use Rattle.rules.proofs.Stays.{moved}
 use Rattle.rules.proofs.RebuildEvents.{Rebuilding}
 use Rattle.rules.proofs.RebuildInv.{ghostAfter, cutAfter, rebuild-inv}
-
--- A test that all pass, and one that some pass.
-pub all-in : {A : Type 0} (f : A → Bool) {x : A} {xs : List A} → allOf f xs ≡ true → In x xs → f x ≡ true
-all-in f e (here {xs = xs}) = both-true (f _) (allOf f xs) e .0
-all-in f e (there {y = y} {xs = xs} i) = all-in f (both-true (f y) (allOf f xs) e .1) i
-
-pub any-in : {A : Type 0} (f : A → Bool) (xs : List A) → anyOf f xs ≡ true → (x : A) × In x xs × (f x ≡ true)
-any-in f [] e = absurd (true≢false (sym e))
-any-in {A} f (x ∷ xs) e = one (f x) refl e (λ z. any-in f xs z)
-  where
-    one : (t : Bool) → f x ≡ t → (t || anyOf f xs) ≡ true → (anyOf f xs ≡ true → (y : A) × In y xs × (f y ≡ true)) → (y : A) × In y (x ∷ xs) × (f y ≡ true)
-    one true q z ih = (x, here, q)
-    one false q z ih = let (y, i, k) = ih z in (y, there i, k)
 
 -- Events that are all takes.
 took-all : (es : List Event) → ((e : Event) → In e es → (b : ℕ) × (m : Message) × (t : ℕ) × (e ≡ tookAt b m t)) → Took es

@@ -2,13 +2,14 @@
 use Prim.Native.Nat.{ℕ, zero, suc, max, _<_, _≤_}
 use mathlib.Core.Path.{_≡_, refl, sym, ap, subst, _∙_}
 use mathlib.Core.Logic.{_⊎_, inl, inr}
-use mathlib.Core.Bool.{Bool, true, false, true≢false}
+use mathlib.Core.Bool.{Bool, true, false, true≢false, _||_}
 use mathlib.Core.List.{List, [], _∷_, _++_, map}
 use native.Mathlib.Omega.{arith}
 use native.Mathlib.Decide.{decLe}
 use lib.Dec.{leb}
 use borrow.Author.Tests.{le-leb}
-use Rattle.rules.specs.Lists.{keep, keepOne, joined, greatestOf}
+use Rattle.basics.specs.Bools.{both-true, neither-true}
+use Rattle.rules.specs.Lists.{keep, keepOne, allOf, anyOf, joined, greatestOf}
 use Rattle.rules.proofs.Rising.{until, Rises, none, more, Within, none-in, more-in, within-until}
 
 pub data In {A : Type 0} (x : A) : List A → Type 0 where
@@ -70,6 +71,23 @@ in-joined i (there {y = ys} j) = in-right ys (in-joined i j)
 pub joined-in : {A : Type 0} {x : A} (xss : List (List A)) → In x (joined xss) → (xs : List A) × In xs xss × In x xs
 joined-in [] i = absurd (in-none i)
 joined-in (xs ∷ xss) i = elim (append-in xs i) [ inl j ↦ (xs, here, j) | inr j ↦ (let (ys, k, h) = joined-in xss j in (ys, there k, h)) ]
+
+-- A test that all pass, one that some pass, and one that none pass.
+pub all-in : {A : Type 0} (f : A → Bool) {x : A} {xs : List A} → allOf f xs ≡ true → In x xs → f x ≡ true
+all-in f {x = x} e (here {xs = xs}) = both-true (f x) (allOf f xs) e .0
+all-in f e (there {y = y} {xs = xs} i) = all-in f (both-true (f y) (allOf f xs) e .1) i
+
+pub any-in : {A : Type 0} (f : A → Bool) (xs : List A) → anyOf f xs ≡ true → (x : A) × In x xs × (f x ≡ true)
+any-in f [] e = absurd (true≢false (sym e))
+any-in {A} f (x ∷ xs) e = one (f x) refl e (λ z. any-in f xs z)
+  where
+    one : (t : Bool) → f x ≡ t → (t || anyOf f xs) ≡ true → (anyOf f xs ≡ true → (y : A) × In y xs × (f y ≡ true)) → (y : A) × In y (x ∷ xs) × (f y ≡ true)
+    one true q z ih = (x, here, q)
+    one false q z ih = let (y, i, k) = ih z in (y, there i, k)
+
+pub none-any : {A : Type 0} (f : A → Bool) {x : A} {xs : List A} → anyOf f xs ≡ false → In x xs → f x ≡ false
+none-any f {x = x} e (here {xs = xs}) = neither-true (f x) (anyOf f xs) e .0
+none-any f e (there {y = y} {xs = xs} i) = none-any f (neither-true (f y) (anyOf f xs) e .1) i
 
 -- The greatest of some numbers is none below any, and one of them or 0.
 pub in-greatest : {n : ℕ} {ns : List ℕ} → In n ns → n ≤ greatestOf ns

@@ -20,16 +20,11 @@ use Rattle.rules.specs.Step.{sendable, isNothing}
 use Rattle.rules.specs.Plain.{Act, Receipt, plainRun, atRest}
 use Rattle.rules.specs.Claim.{quiet}
 use Rattle.rules.proofs.Rising.{until, past, cut-at, rises-past, past-past}
-use Rattle.rules.proofs.Members.{In, here, there}
+use Rattle.rules.proofs.Members.{In, here, there, all-in}
 use Rattle.rules.proofs.Ghost.{Ghost, put, logPut}
 use Rattle.rules.proofs.Inv.{Inv, timeOf}
 use Rattle.rules.proofs.InvLaws.{up-not-down}
 use Rattle.rules.proofs.Conclusion.{run, run-empties}
-
--- What holds of all holds of each.
-pub all-in : {A : Type 0} (f : A → Bool) {x : A} {xs : List A} → allOf f xs ≡ true → In x xs → f x ≡ true
-all-in f {x = x} e (here {xs = xs}) = both-true (f x) (allOf f xs) e .0
-all-in f e (there {y = y} {xs = xs} i) = all-in f (both-true (f y) (allOf f xs) e .1) i
 
 pub in-up-to : (k n i : ℕ) → k ≤ i → i < k + n → In i (upTo k n)
 in-up-to k zero i l h = let no : ⊥ = omega arith in absurd no
