@@ -34,7 +34,7 @@ use Rattle.rules.proofs.Witness.{Taken}
 use Rattle.rules.proofs.Ghost.{Event, fedAt, tookAt, Ghost, eventTime, inputOf, entryOf, put, got, gotOf}
 use Rattle.rules.proofs.Passing.{goesOn, heldOf}
 use Rattle.rules.proofs.Selecting.{rises-keep}
-use Rattle.rules.proofs.Kept.{Took, no-takes, took, taken-by, taken-in, in-got, order-kept}
+use Rattle.rules.proofs.Kept.{Took, no-takes, took, taken-by, taken-in, order-kept}
 use Rattle.rules.proofs.Joins.{in-leaving, leaving-in, in-entering, entering-in, in-taking, takes-passed}
 use Rattle.rules.proofs.Targets.{high-above}
 use Rattle.rules.proofs.PlacedEvents.{PlacedEvents, placed-events}

@@ -112,11 +112,11 @@ pub ins-got : (p : Plan) (g : Ghost) (b : ℕ) → ins p (historyOf g) b ≡ map
 unfolding ins got
 ins-got p g b = ins-got-of b (g (channelAt p b .receiver))
 
--- One more event at node n.
-got-append : (b : ℕ) (es fs : List Event) → gotOf b (es ++ fs) ≡ gotOf b es ++ gotOf b fs
+pub got-append : (b : ℕ) (es fs : List Event) → gotOf b (es ++ fs) ≡ gotOf b es ++ gotOf b fs
 got-append b [] fs = refl
 got-append b (e ∷ es) fs = ap (λ (x : List Message). gotOne b e ++ x) (got-append b es fs) ∙ sym (append-assoc (gotOne b e) (gotOf b es) (gotOf b fs))
 
+-- One more event at node n.
 abbrev pub later : Ghost → ℕ → Event → Ghost
 later g n e = changed g n (g n ++ e ∷ [])
 

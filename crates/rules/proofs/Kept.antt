@@ -18,6 +18,7 @@ use Rattle.rules.proofs.Selecting.{rises-rest, rises-after}
 use Rattle.rules.proofs.Witness.{Taken, none, more}
 use Rattle.rules.proofs.Ghost.{Event, fedAt, tookAt, inputOf, sentOf, gotOne, gotOf}
 use Rattle.rules.proofs.Passing.{passing, goesOn}
+use Rattle.rules.proofs.Carried.{in-got-of}
 use Rattle.rules.proofs.Inv.{timeOf}
 
 -- For each channel b the messages with a time at most base b.
@@ -112,10 +113,6 @@ one-joined : (x : Bool) (m : Message) (ms : List Message) → keepOne x m [] ++ 
 one-joined true m ms = refl
 one-joined false m ms = refl
 
-pub in-got : {b : ℕ} {m : Message} {t : ℕ} {es : List Event} → In (tookAt b m t) es → In m (gotOf b es)
-in-got {b} here = rw (eq-eqb b b refl) here
-in-got {b} (there {y = e} i) = in-right (gotOne b e) (in-got i)
-
 got-rest : {a : ℕ} (b : ℕ) (e : Event) (es : List Event) → Rises timeOf a (gotOf b (e ∷ es)) → Rises timeOf a (gotOf b es)
 got-rest b (fedAt r t) es h = h
 got-rest b (tookAt c m t) es h = rises-rest timeOf (eqb c b) m (gotOf b es) (rw one-joined at h)
@@ -133,7 +130,7 @@ module _ (p : Plan) (n : ℕ) where
   order-kept (e ∷ es) r s here here d f l = omega arith
   order-kept {m = m} (e ∷ es) r s here (there j) d f l =
       let later = rises-in timeOf (rises-after timeOf (goesOn p n m) (sentOf p n e) (passing p n es) d r) (in-passing j f) in omega arith
-  order-kept {b = b} {k = k} {u = u} (e ∷ es) r s (there i) here d f l = let later = rises-in timeOf (got-after b k u es s) (in-got i) in omega arith
+  order-kept {b = b} {k = k} {u = u} (e ∷ es) r s (there i) here d f l = let later = rises-in timeOf (got-after b k u es s) (in-got-of b i) in omega arith
   order-kept {b = b} (e ∷ es) r s (there i) (there j) d f l =
       order-kept es (rises-rest timeOf (passedOn p n (sentOf p n e .what)) (sentOf p n e) (passing p n es) r) (got-rest b e es s) i j d f l
 
@@ -145,7 +142,7 @@ module _ (p : Plan) (n : ℕ) where
         → (m : Message) (t : ℕ) → In (tookAt b m t) es → goesOn p n m ≡ true → Cuts low base b m t
     cuts-at b r reach is m t i d = (
       λ l. elim is [
-        | inl e ↦ (let above = rises-in timeOf r (in-got i) in let no : ⊥ = omega arith in absurd no)
+        | inl e ↦ (let above = rises-in timeOf r (in-got-of b i) in let no : ⊥ = omega arith in absurd no)
         | inr (k, u, j, f, h, e) ↦ (let before = order-kept es rising r i j d f (omega arith) in omega arith)
       ],
       reach m t i d,

@@ -15,7 +15,8 @@ use Rattle.rules.proofs.Members.{In, keep-in}
 use Rattle.rules.proofs.Witness.{Taken}
 use Rattle.rules.proofs.Ghost.{Event, tookAt, Ghost, inputOf, put, got, gotOf}
 use Rattle.rules.proofs.Selecting.{rises-keep}
-use Rattle.rules.proofs.Kept.{taken-in, in-got}
+use Rattle.rules.proofs.Carried.{in-got-of}
+use Rattle.rules.proofs.Kept.{taken-in}
 use Rattle.rules.proofs.Inv.{timeOf, isUp, Enters, Leaves, Channels, Inv}
 use Rattle.rules.proofs.InvLaws.{if-marked, marked-took}
 
@@ -60,4 +61,4 @@ module _ {l : Line} {g : Ghost} {cut base : ℕ → ℕ} {fed : List Act} {recei
 
     -- What it took of a channel was put on it.
     pub taken-put : (b : ℕ) (m : Message) (t : ℕ) → Enters (l .plan) n b → In (tookAt b m t) (g n) → In m (put (l .plan) g b)
-    taken-put b m t h i = keep-in (λ (x : Message). leb (x .time) (cut b)) (put (l .plan) g b) (subst (λ (x : List Message). In m x) (got-here b h) (in-got i)) .0
+    taken-put b m t h i = keep-in (λ (x : Message). leb (x .time) (cut b)) (put (l .plan) g b) (subst (λ (x : List Message). In m x) (got-here b h) (in-got-of b i)) .0

@@ -22,6 +22,7 @@ use Rattle.rules.proofs.Rising.{Rises, none, more, Within}
 use Rattle.rules.proofs.Members.{In, here, there, in-none, in-first, within-by}
 use Rattle.rules.proofs.Ghost.{Event, fedAt, tookAt, eventTime, entryOf, gotOne, gotOf}
 use Rattle.rules.proofs.Passing.{heldOf}
+use Rattle.rules.proofs.Carried.{got-of-in}
 use Rattle.rules.proofs.LanesLaws.{Rising, numbers-rise}
 use Rattle.rules.proofs.TableRows.{Slot, slotHeld, slotItem, messagesOf, slots, rows-held, rows-items, slot-in, same-row, messages-row}
 
@@ -91,16 +92,6 @@ got-first b c m t (d ∷ es) e before = one (ltb t (eventTime d)) refl (got-firs
     one false x q =
         let none = behind d (ltb-false t (eventTime d) x) (λ z u y. before z u (subst (λ (a : Event). In a (d ∷ es)) y here)) in
         rw (none, q)
-
--- A message got of a channel was taken at some time.
-pub got-in : (b : ℕ) (es : List Event) {m : Message} → In m (gotOf b es) → (t : ℕ) × In (tookAt b m t) es
-got-in b [] i = absurd (in-none i)
-got-in b (fedAt r t ∷ es) i = let (u, j) = got-in b es i in (u, there j)
-got-in b (tookAt c q t ∷ es) {m} i = one (eqb c b) refl (λ j. got-in b es j) i
-  where
-    one : (x : Bool) → eqb c b ≡ x → (In m (gotOf b es) → (u : ℕ) × In (tookAt b m u) es) → In m (keepOne x q [] ++ gotOf b es) → (u : ℕ) × In (tookAt b m u) (tookAt c q t ∷ es)
-    one true e ih j = elim (in-first j) [ inl z ↦ (t, rw (z, ← eqb-true c b e) here) | inr k ↦ (let (u, h) = ih k in (u, there h)) ]
-    one false e ih j = let (u, h) = ih j in (u, there h)
 
 -- Where an event stands in the table and among the columns.
 record Seat (f : Slot → Item) (ss : List Slot) (columns : List ℕ) (e : Event) : Type 0 where
@@ -236,7 +227,7 @@ module _ (l : Line) (n : ℕ) (rowOf : ℕ → List Message) (columns : List ℕ
           within = within-placed (slotItem l n) ss columns k;
           got-is = got;
           took = λ e i. (let x = seat (slotItem l n) ss columns i in let (c, m) = slot-in rowOf 0 bs (x .among) in (x .slot .channel, x .slot .message, getD columns (x .place) 0, x .event-is, c, m));
-          placed = λ b m i j. got-in b (placedEvents ss columns) (rw (got b i) j);
+          placed = λ b m i j. got-of-in b (placedEvents ss columns) (rw (got b i) j);
           fixed = fixed-placed l n ss columns k;
           free = free-placed l n ss columns k;
         },

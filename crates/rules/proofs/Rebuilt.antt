@@ -18,7 +18,7 @@ use Rattle.rules.proofs.Rising.{until, past, Rises, Within, cut-at, ris
 use Rattle.rules.proofs.Members.{In, in-none, in-keep}
 use Rattle.rules.proofs.Selecting.{first-above, first-until, first-past}
 use Rattle.rules.proofs.Witness.{Taken, none, more}
-use Rattle.rules.proofs.Ghost.{Event, fedAt, tookAt, inputOf, sentOf, gotOne, gotOf}
+use Rattle.rules.proofs.Ghost.{Event, fedAt, tookAt, inputOf, sentOf, gotOf, got-append}
 use Rattle.rules.proofs.Passing.{passing, goesOn}
 use Rattle.rules.proofs.Inv.{timeOf, Enters}
 use Rattle.rules.proofs.Kept.{kept, kept-got, kept-taken, Cuts, kept-passing, taken-took, taken-append}
@@ -34,10 +34,6 @@ emit row last (fedAt r t ∷ fs) = emit row last fs
 emit row last (tookAt b m t ∷ fs) = tookAll b t (until timeOf (m .time) (past timeOf (last b) (row b))) ++ emit row (changed last b (m .time)) fs
 
 -- Joined histories.
-pub got-of-append : (b : ℕ) (es fs : List Event) → gotOf b (es ++ fs) ≡ gotOf b es ++ gotOf b fs
-got-of-append b [] fs = refl
-got-of-append b (e ∷ es) fs = ap (λ (ms : List Message). gotOne b e ++ ms) (got-of-append b es fs) ∙ sym (append-assoc (gotOne b e) (gotOf b es) (gotOf b fs))
-
 pub passing-append : (p : Plan) (n : ℕ) (es fs : List Event) → passing p n (es ++ fs) ≡ passing p n es ++ passing p n fs
 passing-append p n es fs =
     let goes : Message → Bool = λ m. passedOn p n (m .what) in
@@ -117,7 +113,7 @@ module _ (p : Plan) (n : ℕ) (row : ℕ → List Message) (b : ℕ) (rises : Ri
       let new : List Message = until timeOf (m .time) (past timeOf (last c) (row c)) in
       let next : ℕ → ℕ = changed last c (m .time) in
       let wider = last-rises last c m t fs held in
-      got-of-append b (tookAll c t new) (emit row next fs)
+      got-append b (tookAll c t new) (emit row next fs)
       ∙ ap (λ (ms : List Message). gotOf b (tookAll c t new) ++ ms) (emit-got next fs (held-next last c m t fs held) (λ k l. whole k (omega arith)))
       ∙ brings last c m t fs held
 
@@ -162,7 +158,7 @@ module _ (p : Plan) (n : ℕ) (base : ℕ → ℕ) (row : ℕ → List Message) 
       → ((k : ℕ) → base b ≤ k → keep (goesOn p n) (past timeOf k (row b)) ≡ [] → past timeOf k (row b) ≡ [])
       → gotOf b (rebuilt base row es fs) ≡ row b
   rebuilt-got b rises same held whole =
-      got-of-append b (kept base es) (emit row base fs)
+      got-append b (kept base es) (emit row base fs)
       ∙ ap (λ (ms : List Message). ms ++ gotOf b (emit row base fs)) (kept-got base b es ∙ same)
       ∙ ap (λ (ms : List Message). until timeOf (base b) (row b) ++ ms) (emit-got p n row b rises base fs held whole)
       ∙ sym (cut-at timeOf (base b) rises)

@@ -25,8 +25,8 @@ use Rattle.rules.proofs.Witness.{Taken, none}
 use Rattle.rules.proofs.LineLaws.{node-there, node-else}
 use Rattle.rules.proofs.Ghost.{Event, tookAt, Ghost, inputOf, entryOf, takesMessage, put, got, gotOf, logPut, map-map}
 use Rattle.rules.proofs.Passing.{goesOn, heldOf}
-use Rattle.rules.proofs.Kept.{taken-in, in-got, cuts-at}
-use Rattle.rules.proofs.Carried.{took-enters}
+use Rattle.rules.proofs.Kept.{taken-in, cuts-at}
+use Rattle.rules.proofs.Carried.{in-got-of, took-enters}
 use Rattle.rules.proofs.Targets.{low-below, high-above, targets-from, targets-of}
 use Rattle.rules.proofs.Children.{Child, triples-from, triples-of, restored-reach, restored-is, none-above}
 use Rattle.rules.proofs.Inv.{timeOf, isUp, Enters, Leaves, Reached, targetFrom, Marks, Nodes, Shape, SenderUp, Channels, Events, Ends, Row, Replays, Inv}
@@ -79,7 +79,7 @@ module _ (l : Line) (g : Ghost) (cut base : ℕ → ℕ) (fed : List Act) (recei
       elim (restored-is l g n (inv .ordered) took-own child b (h .0) (h .1)) [
         | inl z ↦ omega arith
         | inr (m, t, i, _, _, e) ↦
-            (let in-cut = keep-in (λ (x : Message). leb (x .time) (cut b)) (put (l .plan) g b) (subst (λ (x : List Message). In m x) (inv .channels b (h .0) .cut-is) (subst (λ (k : ℕ). In m (gotOf b (g k))) (sym (h .1)) (in-got i))) .1 in
+            (let in-cut = keep-in (λ (x : Message). leb (x .time) (cut b)) (put (l .plan) g b) (subst (λ (x : List Message). In m x) (inv .channels b (h .0) .cut-is) (subst (λ (k : ℕ). In m (gotOf b (g k))) (sym (h .1)) (in-got-of b i))) .1 in
             omega (arith, e, leb-true (m .time) (cut b) in-cut))
       ]
 
