@@ -70,12 +70,3 @@ pub taken-event : (p : Plan) (n : ℕ) (es : List Event) {e : Event} → Taken p
 taken-event p n [] k i = absurd (in-none i)
 taken-event p n (tookAt b m t ∷ es) (more h q s k) here = record { channel = b; message = m; time = t; is = refl; on-plan = h; enters = q }
 taken-event p n (tookAt b m t ∷ es) (more h q s k) (there i) = taken-event p n es k i
-
-pub took-enters : (p : Plan) (n : ℕ) (es : List Event) {b : ℕ} {m : Message} {t : ℕ} → Taken p n (map inputOf es) → In (tookAt b m t) es → (b < channelCount p) × (channelAt p b .receiver ≡ n)
-took-enters p n es k i =
-    let from = taken-event p n es k i in
-    let same = channel-same (from .is) in
-    (rw same (from .on-plan), rw same (from .enters))
-  where
-    channel-same : {b c : ℕ} {m x : Message} {t s : ℕ} → tookAt b m t ≡ tookAt c x s → b ≡ c
-    channel-same e = cc

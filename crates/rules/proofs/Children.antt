@@ -21,8 +21,9 @@ use Rattle.rules.proofs.Members.{In, in-none, in-keep, keep-in, in-map,
 use Rattle.rules.proofs.Witness.{Taken}
 use Rattle.rules.proofs.Ghost.{Event, tookAt, Ghost, inputOf, entryOf, sentOf, takesMessage, put, got}
 use Rattle.rules.proofs.Inv.{timeOf, Ordered, targetFrom, Reached}
+use Rattle.rules.proofs.InvLaws.{took-enters}
 use Rattle.rules.proofs.Joins.{passed-takes, takes-passed}
-use Rattle.rules.proofs.Carried.{in-put, put-in, in-got, got-in, taken-event, took-enters}
+use Rattle.rules.proofs.Carried.{in-put, put-in, in-got, got-in, taken-event}
 use Rattle.rules.proofs.Targets.{in-triples-at, triples-at-in, low-below, targets-of}
 
 -- The child at channel c's end: it took all its events and logged them, and its entry is the greatest time that it got.
@@ -151,7 +152,7 @@ module _ (l : Line) (g : Ghost) (n : ℕ) (ordered : Ordered (l .plan)) (own : T
             let (k, e) = keep-in (restoring a) (childTriples l n) j in
             let (parent, upto) = both-true (eqb (u .parent) a) (leb (u .time) (lowOf l n)) e in
             let (d, m, t, event, is, r) = triples-from u k in
-            let (on-plan, into) = took-enters (l .plan) n (g n) own event in
+            let (on-plan, into) = took-enters (g n) d m t own event in
             let row : d ≡ b = ordered .alone d b on-plan h (sym (ap (λ (v : Target). v .parent) is) ∙ eqb-true (u .parent) a parent) (into ∙ sym enters) in
             inr (
               m,

@@ -34,12 +34,12 @@ use Rattle.rules.proofs.Witness.{Taken}
 use Rattle.rules.proofs.Ghost.{Event, fedAt, tookAt, Ghost, eventTime, inputOf, entryOf, put, got, gotOf}
 use Rattle.rules.proofs.Passing.{goesOn, heldOf}
 use Rattle.rules.proofs.Selecting.{rises-keep}
-use Rattle.rules.proofs.Kept.{Took, no-takes, took, taken-by, taken-in, order-kept}
+use Rattle.rules.proofs.Kept.{Took, no-takes, took, taken-by, order-kept}
 use Rattle.rules.proofs.Joins.{in-leaving, leaving-in, in-entering, entering-in, in-taking, takes-passed}
 use Rattle.rules.proofs.Targets.{high-above}
 use Rattle.rules.proofs.PlacedEvents.{PlacedEvents, placed-events}
 use Rattle.rules.proofs.Inv.{timeOf, Enters, Leaves, Reached, targetFrom, Replays, Channels, Inv}
-use Rattle.rules.proofs.InvLaws.{replay-marked}
+use Rattle.rules.proofs.InvLaws.{took-enters, replay-marked}
 use Rattle.rules.proofs.MarkedLaws.{own, one-channel, taken-put, got-rises}
 use Rattle.rules.proofs.Stays.{moved}
 use Rattle.rules.proofs.RebuildEvents.{Rebuilding}
@@ -114,7 +114,7 @@ module _ (l : Line) (g : Ghost) (cut base : ℕ → ℕ) (fed : List Act) (recei
     -- An event past low that has reached a child is a target, is held, and is placed at its time.
     reached-placed : In (tookAt b m t) (g n) → nodeAt l n .time < t → Reached l n m t → In (tookAt b m t) fs
     reached-placed i late reached =
-        let (on, into, _) = taken-in (l .plan) n (g n) (own inv n marked) i in
+        let (on, into) = took-enters (g n) b m t (own inv n marked) i in
         let h : Enters (l .plan) n b = (on, into) in
         let A = channelAt (l .plan) b .sender in
         let ts = nodeAt l n .targets in

@@ -10,7 +10,7 @@ use Rattle.plan.specs.declared.Record.{Record}
 use Rattle.plan.specs.Plan.{Plan, channelAt, channelCount, isSource, isSink}
 use Rattle.rules.specs.Line.{Message, Status, up, down, replay, Line, nodeAt, laneAt}
 use Rattle.rules.specs.Plain.{Act, Receipt}
-use Rattle.rules.proofs.Members.{In, in-none, in-first}
+use Rattle.rules.proofs.Members.{In, here, there}
 use Rattle.rules.proofs.PlainRun.{Input, fedIn, tookIn}
 use Rattle.rules.proofs.Witness.{Taken, none, more}
 use Rattle.rules.proofs.Ghost.{Event, fedAt, tookAt, Ghost, inputOf}
@@ -30,23 +30,10 @@ pub if-marked : {A : Type 0} (b : Bool) → (b ≡ true → A) → (b ≡ false 
 if-marked true f g = f refl
 if-marked false f g = g refl
 
--- Inputs taken by node n came from channels that enter it.
-fed-first : {p : Plan} {n : ℕ} {r : Record} {is : List Input} → Taken p n (fedIn r ∷ is) → ⊥
-fed-first = elim [ ]
-
-took-first : {p : Plan} {n b : ℕ} {r : Record} {is : List Input} → Taken p n (tookIn b r ∷ is) → Enters p n b × Taken p n is
-took-first (more h q s r) = ((h, q), r)
-
-same-channel : {b c : ℕ} {m x : Message} {t u : ℕ} → tookAt b m t ≡ tookAt c x u → c ≡ b
-same-channel e = cc
-
-not-fed : {b : ℕ} {m : Message} {t : ℕ} {r : Record} {u : ℕ} → tookAt b m t ≡ fedAt r u → ⊥
-not-fed e = let z : _≡_ {A = ℕ} 0 1 = cc in omega arith
-
+-- What a node took came by a channel that enters it.
 pub took-enters : {p : Plan} {n : ℕ} (es : List Event) (b : ℕ) (m : Message) (t : ℕ) → Taken p n (map inputOf es) → In (tookAt b m t) es → Enters p n b
-took-enters [] b m t r i = absurd (in-none i)
-took-enters (fedAt x u ∷ es) b m t r i = absurd (fed-first r)
-took-enters {p} {n} (tookAt c x u ∷ es) b m t r i = elim (in-first i) [ inl q ↦ subst (Enters p n) (same-channel q) (took-first r .0) | inr j ↦ took-enters es b m t (took-first r .1) j ]
+took-enters (tookAt c x u ∷ es) b m t (more h q s r) here = (h, q)
+took-enters (tookAt c x u ∷ es) b m t (more h q s r) (there i) = took-enters es b m t r i
 
 module _ {l : Line} {crashes : List ℕ} (marks : Marks l crashes) (n : ℕ) where
   pub marked-unless-up : nodeAt l n .status ≢ up → nodeAt l n .crashed ≡ true

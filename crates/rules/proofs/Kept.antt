@@ -39,10 +39,6 @@ module _ (p : Plan) (n : ℕ) where
   taken-took [] h = no-takes
   taken-took (tookAt b m t ∷ es) (more l q s h) = took (taken-took es h)
 
-  pub taken-in : {b : ℕ} {m : Message} {t : ℕ} (es : List Event) → Taken p n (map inputOf es) → In (tookAt b m t) es → (b < channelCount p) × (channelAt p b .receiver ≡ n) × (channelAt p b .sender < n)
-  taken-in (tookAt b m t ∷ es) (more l q s h) here = (l, q, s)
-  taken-in (tookAt b m t ∷ es) (more l q s h) (there i) = taken-in es h i
-
   pub taken-by : {es : List Event} → Took es → ((b : ℕ) (m : Message) (t : ℕ) → In (tookAt b m t) es → (b < channelCount p) × (channelAt p b .receiver ≡ n) × (channelAt p b .sender < n)) → Taken p n (map inputOf es)
   taken-by no-takes f = none
   taken-by (took {b = b} {m = m} {t = t} h) f = let (l, q, s) = f b m t here in more l q s (taken-by h (λ c k u i. f c k u (there i)))

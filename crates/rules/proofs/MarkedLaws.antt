@@ -16,9 +16,8 @@ use Rattle.rules.proofs.Witness.{Taken}
 use Rattle.rules.proofs.Ghost.{Event, tookAt, Ghost, inputOf, put, got, gotOf}
 use Rattle.rules.proofs.Selecting.{rises-keep}
 use Rattle.rules.proofs.Carried.{in-got-of}
-use Rattle.rules.proofs.Kept.{taken-in}
 use Rattle.rules.proofs.Inv.{timeOf, isUp, Enters, Leaves, Channels, Inv}
-use Rattle.rules.proofs.InvLaws.{if-marked, marked-took}
+use Rattle.rules.proofs.InvLaws.{took-enters, if-marked, marked-took}
 
 -- A channel at either end of a node, or beside it.
 pub at-ends : {A : Type 0} (p : Plan) (n c : ℕ) → c < channelCount p → (Enters p n c → A) → (Leaves p n c → A) → (channelAt p c .receiver ≢ n → channelAt p c .sender ≢ n → A) → A
@@ -50,7 +49,7 @@ module _ {l : Line} {g : Ghost} {cut base : ℕ → ℕ} {fed : List Act} {recei
 
     -- An event came through a channel that is known by its sender.
     pub one-channel : (b c : ℕ) (m : Message) (t : ℕ) → Enters (l .plan) n b → In (tookAt c m t) (g n) → channelAt (l .plan) c .sender ≡ channelAt (l .plan) b .sender → c ≡ b
-    one-channel b c m t h i q = let (on, into, _) = taken-in (l .plan) n (g n) own i in inv .ordered .alone c b on (h .0) q (into ∙ sym (h .1))
+    one-channel b c m t h i q = let (on, into) = took-enters (g n) c m t own i in inv .ordered .alone c b on (h .0) q (into ∙ sym (h .1))
 
     got-here : (b : ℕ) → Enters (l .plan) n b → gotOf b (g n) ≡ until timeOf (cut b) (put (l .plan) g b)
     unfolding got

@@ -22,9 +22,8 @@ use Rattle.rules.proofs.Witness.{Taken}
 use Rattle.rules.proofs.Ghost.{Event, Ghost, inputOf, entryOf, sentOf, takesMessage, put, got, gotOf, logPut, map-map}
 use Rattle.rules.proofs.Passing.{passing}
 use Rattle.rules.proofs.Selecting.{rises-keep}
-use Rattle.rules.proofs.Carried.{took-enters}
 use Rattle.rules.proofs.Inv.{timeOf, isUp, Enters, Leaves, Marks, Nodes, Shape, SenderUp, Channels, Events, Ends, Replays, Inv}
-use Rattle.rules.proofs.InvLaws.{up-not-replay, replay-not-down, replay-marked, marked-took}
+use Rattle.rules.proofs.InvLaws.{took-enters, up-not-replay, replay-not-down, replay-marked, marked-took}
 use Rattle.rules.proofs.MarkedLaws.{at-ends, sender-other, receiver-other, parent-unmarked, child-unmarked}
 use Rattle.rules.proofs.Stays.{moved, channel-stays, ends-stay, events-stay, replays-stay, row-stays}
 use Rattle.rules.proofs.Grow.{sender-same, sender-receiving}
@@ -225,7 +224,7 @@ module _ (l : Line) (g : Ghost) (cut base : ℕ → ℕ) (fed : List Act) (recei
       let apart : (b : ℕ) → Enters (l .plan) m b → channelAt (l .plan) b .sender ≢ n = λ b h q. true≢false (sym mark ∙ ap (λ (x : ℕ). nodeAt l x .crashed) (sym (h .1)) ∙ child-unmarked inv n marked b (h .0, q)) in
       replays-stay l steps nodes (l .lanes) g ghostAfter m same (ghost-other m d) (λ c h. refl) cut cutAfter base base
       (λ b h w. row-stays l steps nodes (l .lanes) g ghostAfter (cut b) (cutAfter b) (base b) (base b) m b same refl (omega (arith, cut-other b (λ q. d (sym (h .1) ∙ q)))) refl (ap (until timeOf (laneAt l b .taken)) (put-other b (apart b h))) w) (λ b h. refl)
-      (λ b y t i. took-enters (l .plan) m (g m) (marked-took (inv .marks) (inv .nodes) m mark) i .1) (inv .replays m old)
+      (λ b y t i. took-enters (g m) b y t (marked-took (inv .marks) (inv .nodes) m mark) i .1) (inv .replays m old)
 
   pub rebuild-inv : Inv k ghostAfter cutAfter base fed receipts crashes
   rebuild-inv =

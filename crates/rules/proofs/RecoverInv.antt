@@ -25,12 +25,12 @@ use Rattle.rules.proofs.Witness.{Taken, none}
 use Rattle.rules.proofs.LineLaws.{node-there, node-else}
 use Rattle.rules.proofs.Ghost.{Event, tookAt, Ghost, inputOf, entryOf, takesMessage, put, got, gotOf, logPut, map-map}
 use Rattle.rules.proofs.Passing.{goesOn, heldOf}
-use Rattle.rules.proofs.Kept.{taken-in, cuts-at}
-use Rattle.rules.proofs.Carried.{in-got-of, took-enters}
+use Rattle.rules.proofs.Kept.{cuts-at}
+use Rattle.rules.proofs.Carried.{in-got-of}
 use Rattle.rules.proofs.Targets.{low-below, high-above, targets-from, targets-of}
 use Rattle.rules.proofs.Children.{Child, triples-from, triples-of, restored-reach, restored-is, none-above}
 use Rattle.rules.proofs.Inv.{timeOf, isUp, Enters, Leaves, Reached, targetFrom, Marks, Nodes, Shape, SenderUp, Channels, Events, Ends, Row, Replays, Inv}
-use Rattle.rules.proofs.InvLaws.{up-not-replay, up-not-down, replay-not-down, marked-unless-up, replay-marked, marked-took}
+use Rattle.rules.proofs.InvLaws.{took-enters, up-not-replay, up-not-down, replay-not-down, marked-unless-up, replay-marked, marked-took}
 use Rattle.rules.proofs.MarkedLaws.{at-ends, sender-other, receiver-other, parent-unmarked, child-unmarked, parent-up, child-up, own, got-rises, taken-put}
 use Rattle.rules.proofs.TakeKeeps.{no-source}
 use Rattle.rules.proofs.Stays.{moved, channel-stays, ends-stay, events-stay, replays-stay, row-stays}
@@ -240,7 +240,7 @@ module _ (l : Line) (g : Ghost) (cut base : ℕ → ℕ) (fed : List Act) (recei
             subst (λ (x : List Target). In (targetFrom (l .plan) b m t) x) (sym targets-now)
             (targets-of l n (targetFrom (l .plan) b m t) (triples-of l g n (inv .ordered) took-own child b m t i (reached-back m t reached)) (omega (arith, time-now)));
         base-cuts = λ b m t i goes.
-            (let (on, into, _) = taken-in (l .plan) n (g n) took-own i in
+            (let (on, into) = took-enters (g n) b m t took-own i in
             let is = base-now b into in
             let (f, f′) = cuts-at (l .plan) n (lowOf l n) baseAfter (g n) (inv .events n .rise) b (got-rises inv n marked b (on, into))
             (λ x u j k late. (let reach = restored-reach l g n (inv .ordered) took-own child b x u j k late in omega (arith, is)))
@@ -265,7 +265,7 @@ module _ (l : Line) (g : Ghost) (cut base : ℕ → ℕ) (fed : List Act) (recei
       replays-stay l (l .steps) (r .nodes) (r .lanes) g g m same refl (λ c h. ap (λ (x : Lane). x .taken) (out c h)) cut cut base baseAfter
       (λ b h w. row-stays l (l .steps) (r .nodes) (r .lanes) g g (cut b) (cut b) (base b) (baseAfter b) m b same (ap (λ (x : Lane). x .taken) (into b h)) (omega arith) (base-other b (λ q. d (sym (h .1) ∙ q))) refl w)
       (λ b q. base-other b (λ z. d (sym q ∙ z)))
-      (λ b y t i. took-enters (l .plan) m (g m) (marked-took (inv .marks) (inv .nodes) m mark) i .1) (inv .replays m old)
+      (λ b y t i. took-enters (g m) b y t (marked-took (inv .marks) (inv .nodes) m mark) i .1) (inv .replays m old)
 
   mark-same : (m : ℕ) → nodeAt r m .crashed ≡ nodeAt l m .crashed
   mark-same m = elim (ℕ-discrete m n) [
