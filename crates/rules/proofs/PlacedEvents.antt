@@ -23,7 +23,7 @@ use Rattle.rules.proofs.Members.{In, here, there, in-none, in-first, wi
 use Rattle.rules.proofs.Ghost.{Event, fedAt, tookAt, eventTime, entryOf, gotOne, gotOf}
 use Rattle.rules.proofs.Passing.{heldOf}
 use Rattle.rules.proofs.Carried.{got-of-in}
-use Rattle.rules.proofs.LanesLaws.{Rising, numbers-rise}
+use Rattle.rules.proofs.Joins.{entering-rise}
 use Rattle.rules.proofs.TableRows.{Slot, slotHeld, slotItem, messagesOf, slots, rows-held, rows-items, slot-in, same-row, messages-row}
 
 -- An event in its place by time.
@@ -172,10 +172,6 @@ pub record PlacedEvents (l : Line) (n : ℕ) (rowOf : ℕ → List Message) (col
   pub placed : (b : ℕ) (m : Message) → In b (entering (l .plan) n) → In m (rowOf b) → (t : ℕ) × In (tookAt b m t) fs
   pub fixed : (b : ℕ) (m : Message) (t : ℕ) → In (tookAt b m t) fs → fixedAt (nodeAt l n .targets) (heldOf (l .plan) n b m) ≢ 0 → t ≡ fixedAt (nodeAt l n .targets) (heldOf (l .plan) n b m)
   pub free : (b : ℕ) (m : Message) (t : ℕ) → In (tookAt b m t) fs → fixedAt (nodeAt l n .targets) (heldOf (l .plan) n b m) ≡ 0 → floorOf l n (applied (ruleAt (l .plan) n) (m .what)) < t
-
-entering-rise : (p : Plan) (n : ℕ) → Rising 0 (entering p n)
-unfolding entering
-entering-rise p n = numbers-rise (λ (c : Channel). eqb (c .receiver) n) 0 (p .channels)
 
 module _ (l : Line) (n : ℕ) (ss : List Slot) (columns : List ℕ) (keeps : KeepsRules (nodeAt l n .time) (highOf l n) (map (slotItem l n) ss) columns) where
   -- One event: its column, and the slot that it comes from.
