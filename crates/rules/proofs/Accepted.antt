@@ -14,6 +14,7 @@ use Rattle.rules.specs.Line.{stepLimit, Message, Entry, Status, up, down
 use Rattle.rules.specs.Frame.{Frame, feed, send, take, crash, recover, frameOf, badFrameLength, badFrameVersion, badKind}
 use Rattle.rules.specs.Recover.{rowGoal, rowComplete}
 use Rattle.rules.specs.Step.{noStepsLeft, noSuch, wrongNode, nodeDown, endDown, wrongStatus, neighbourCrashed, besideCrashed, badRecord, sendable, isNothing, nothingThere, queueFull, rowDone, noSpace, effect, noPlacing, lineRefusal, refusal, accepted, step}
+use Rattle.rules.proofs.ListLaws.{some-first}
 use Rattle.rules.proofs.Members.{none-any}
 use Rattle.rules.proofs.Options.{something-there}
 use Rattle.rules.proofs.Inv.{Enters, Leaves}
@@ -79,10 +80,6 @@ is-down up e = absurd (true≢false (sym e))
 is-down down e = refl
 is-down replay e = absurd (true≢false (sym e))
 
-some-message : (q : List Message) → isEmpty q ≡ false → (m : Message) × (rest : List Message) × (q ≡ m ∷ rest)
-some-message [] e = absurd (true≢false e)
-some-message (m ∷ rest) e = (m, rest, refl)
-
 -- Both ends of a channel are not down.
 module _ (l : Line) (b : ℕ) (e : endDown l b ≡ false) where
   ends-apart : (nodeAt l (channelAt (l .plan) b .sender) .status ≢ down) × (nodeAt l (channelAt (l .plan) b .receiver) .status ≢ down)
@@ -129,7 +126,7 @@ row-below l b e q =
 pub can-take : {l : Line} {b : ℕ} → Passed l (take b) → CanTake l b
 can-take {l} {b} p =
     let (s, r) = ends-apart l b (p .right-status) in
-    let (m, rest, q) = some-message (laneAt l b .queue) (p .something) in
+    let (m, rest, q) = some-first (laneAt l b .queue) (p .something) in
     record { here = leb-false (channelCount (l .plan)) b (p .is-there); sender = s; receiver = r; message = m; rest = rest; first = q; below-goal = row-below l b (p .row-open) }
 
 pub record CanCrash (l : Line) (n : ℕ) : Type 0 where

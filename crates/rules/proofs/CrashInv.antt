@@ -18,7 +18,7 @@ use Rattle.rules.specs.Step.{crashedLine}
 use Rattle.rules.specs.Plain.{Act, Receipt}
 use Rattle.rules.proofs.Rising.{until, past, Within}
 use Rattle.rules.proofs.LineLaws.{node-there, node-else}
-use Rattle.rules.proofs.Ghost.{Ghost, Event, entryOf, sentOf, takesMessage, put, got, logPut, map-map}
+use Rattle.rules.proofs.Ghost.{Ghost, Event, entryOf, sentOf, takesMessage, put, got, logPut}
 use Rattle.rules.proofs.Inv.{Inv, Shape, isUp, named, timeOf, Enters, Leaves, Marks, Nodes, SenderUp, Channels, Ends, Replays}
 use Rattle.rules.proofs.InvLaws.{up-not-down, replay-not-down, up-not-replay, if-marked, replay-marked, marked-took, took-enters}
 use Rattle.rules.proofs.MarkedLaws.{at-ends, sender-other, receiver-other}

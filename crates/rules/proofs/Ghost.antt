@@ -3,7 +3,7 @@ use Prim.Native.Nat.{ℕ, zero, suc, _+_, _<_, _≤_}
 use mathlib.Core.Path.{_≡_, refl, sym, ap, _∙_}
 use mathlib.Core.Logic.{_≢_}
 use mathlib.Core.Bool.{Bool, true, false}
-use mathlib.Core.List.{List, [], _∷_, _++_, map, append-assoc}
+use mathlib.Core.List.{List, [], _∷_, _++_, map, map-map, append-assoc}
 use Rattle.basics.specs.Update.{changed, changed-there, changed-else}
 use lib.ListN.{length}
 use lib.Dec.{eqb}
@@ -15,7 +15,7 @@ use Rattle.plan.specs.Plan.{Plan, ruleAt, channelAt, nodeCount}
 use Rattle.rules.specs.Lists.{keep, keepOne}
 use Rattle.rules.specs.Line.{Origin, fed, made, Message, Entry, Line, nodeAt}
 use Rattle.rules.specs.Clock.{messageOf}
-use Rattle.rules.proofs.ListLaws.{keep-append, map-append, nil-right}
+use Rattle.rules.proofs.ListLaws.{keep-append, keep-map, map-append}
 use Rattle.rules.proofs.PlainRun.{Input, fedIn, tookIn, whatIn, fromChannel, History, ins, outs}
 
 -- An event of a node: a record fed, or a message taken from a channel; and the node's own time for it.
@@ -76,18 +76,6 @@ logPut l b = keep (takesMessage (l .plan) b) (map messageOf (nodeAt l (channelAt
 abbrev pub historyOf : Ghost → History
 historyOf g = λ n. map inputOf (g n)
 
-pub map-map : {A B C : Type 0} (f : A → B) (g : B → C) (xs : List A) → map g (map f xs) ≡ map (λ (x : A). g (f x)) xs
-map-map f g [] = refl
-map-map f g (x ∷ xs) = ap (λ (ys : List _). g (f x) ∷ ys) (map-map f g xs)
-
-keep-one-map : {A B : Type 0} (f : A → B) (b : Bool) (x : A) (xs : List A) (ys : List B) → ys ≡ map f xs → keepOne b (f x) ys ≡ map f (keepOne b x xs)
-keep-one-map f true x xs ys e = ap (λ (zs : List _). f x ∷ zs) e
-keep-one-map f false x xs ys e = e
-
-pub keep-map : {A B : Type 0} (f : A → B) (t : B → Bool) (xs : List A) → keep t (map f xs) ≡ map f (keep (λ (x : A). t (f x)) xs)
-keep-map f t [] = refl
-keep-map f t (x ∷ xs) = keep-one-map f (t (f x)) x (keep (λ (y : _). t (f y)) xs) (keep t (map f xs)) (keep-map f t xs)
-
 abbrev pub whatOf : Message → Record
 whatOf m = m .what
 
@@ -96,7 +84,7 @@ pub outs-put : (p : Plan) (g : Ghost) (b : ℕ) → outs p (historyOf g) b ≡ m
 unfolding outs put
 outs-put p g b =
     let n = channelAt p b .sender in
-    ap (keep (takes (channelAt p b))) (map-map inputOf (λ (i : Input). applied (ruleAt p n) (whatIn i)) (g n) ∙ sym (map-map (sentOf p n) whatOf (g n)))
+    ap (keep (takes (channelAt p b))) (map-map (λ (i : Input). applied (ruleAt p n) (whatIn i)) inputOf (g n) ∙ sym (map-map whatOf (sentOf p n) (g n)))
     ∙ keep-map whatOf (takes (channelAt p b)) (map (sentOf p n) (g n))
 
 ins-got-of : (b : ℕ) (es : List Event) → map whatIn (keep (fromChannel b) (map inputOf es)) ≡ map whatOf (gotOf b es)

@@ -9,7 +9,7 @@ use Rattle.rules.specs.Line.{Message}
 use Rattle.rules.specs.Replay.{passedOn}
 use Rattle.rules.proofs.Rising.{until, past}
 use Rattle.rules.proofs.Joins.{takes-passed}
-use Rattle.rules.proofs.Selecting.{keep-swap, keep-wider}
+use Rattle.rules.proofs.ListLaws.{keep-swap, keep-wider}
 use Rattle.rules.proofs.Ghost.{Event, Ghost, sentOf, takesMessage, put}
 use Rattle.rules.proofs.Passing.{passing}
 use Rattle.rules.proofs.Inv.{timeOf}

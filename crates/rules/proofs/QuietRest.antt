@@ -3,7 +3,7 @@ use Prim.Native.Nat.{ℕ, zero, suc, _+_, _<_, _≤_}
 use mathlib.Core.Path.{_≡_, refl, sym, ap, subst, _∙_}
 use mathlib.Core.Logic.{_≢_}
 use mathlib.Core.Bool.{Bool, true, false, _&&_, true≢false}
-use mathlib.Core.List.{List, [], _∷_, _++_, map}
+use mathlib.Core.List.{List, [], _∷_, _++_, map, cons≢nil}
 use native.Mathlib.Omega.{arith}
 use native.Mathlib.Decide.{ℕ-discrete}
 use lib.ListN.{length, getD}
@@ -19,6 +19,7 @@ use Rattle.rules.specs.Clock.{messageOf, nextToSend}
 use Rattle.rules.specs.Step.{sendable, isNothing}
 use Rattle.rules.specs.Plain.{Act, Receipt, plainRun, atRest}
 use Rattle.rules.specs.Claim.{quiet}
+use Rattle.rules.proofs.ListLaws.{empty-none}
 use Rattle.rules.proofs.Rising.{until, past, cut-at, rises-past, past-past}
 use Rattle.rules.proofs.Members.{In, here, there, all-in}
 use Rattle.rules.proofs.Ghost.{Ghost, put, logPut}
@@ -34,10 +35,6 @@ status-up : (s : Status) → isUp s ≡ true → s ≡ up
 status-up up e = refl
 status-up down e = absurd (true≢false (sym e))
 status-up replay e = absurd (true≢false (sym e))
-
-no-messages : (q : List Message) → isEmpty q ≡ true → q ≡ []
-no-messages [] e = refl
-no-messages (m ∷ q) e = absurd (true≢false (sym e))
 
 -- The messages of a log past the mark that a channel takes.
 abbrev chosenPast : Channel → ℕ → List Entry → List Message
@@ -58,7 +55,7 @@ nothing-past c mark (d ∷ log) e = one (ltb mark (d .time)) (takes c (d .what))
 empty-rests : (qs : List (List Record)) → ((b : ℕ) → b < length qs → getD qs b [] ≡ []) → atRest qs ≡ true
 empty-rests [] f = refl
 empty-rests ([] ∷ qs) f = empty-rests qs (λ b h. f (suc b) (omega arith))
-empty-rests ((r ∷ rest) ∷ qs) f = let e = f 0 (omega arith) in let z : _≡_ {A = ℕ} 0 1 = cc in let no : ⊥ = omega arith in absurd no
+empty-rests ((r ∷ rest) ∷ qs) f = absurd (cons≢nil (f 0 (omega arith)))
 
 module _ (l : Line) (g : Ghost) (cut base : ℕ → ℕ) (fed : List Act) (receipts : List Receipt) (crashes : List ℕ) (inv : Inv l g cut base fed receipts crashes) (still : quiet l ≡ true) where
   abbrev idleChannel : ℕ → Bool
@@ -98,7 +95,7 @@ module _ (l : Line) (g : Ghost) (cut base : ℕ → ℕ) (fed : List Act) (recei
         let puts = put (l .plan) g b in
         let receiving : nodeAt l (channelAt (l .plan) b .receiver) .status ≢ down = λ e. up-not-down (sym receiver-up ∙ e) in
         let (ordered, late, queue) = s .queue receiving in
-        let before : until timeOf mark (past timeOf taken puts) ≡ [] = ap (until timeOf mark) (sym (s .to-come receiving)) ∙ sym queue ∙ no-messages (laneAt l b .queue) (idle .1) in
+        let before : until timeOf mark (past timeOf taken puts) ≡ [] = ap (until timeOf mark) (sym (s .to-come receiving)) ∙ sym queue ∙ empty-none (laneAt l b .queue) (idle .1) in
         let after : past timeOf mark (past timeOf taken puts) ≡ [] = ap (past timeOf mark) (sym (s .to-come receiving)) ∙ past-past timeOf taken mark ordered (logPut l b) ∙ none-late in
         ap (λ (t : ℕ). past timeOf t puts) (c .cut-up receiver-up) ∙ cut-at timeOf mark (rises-past timeOf taken (c .rises)) ∙ ap (λ (x : List Message). x ++ past timeOf mark (past timeOf taken puts)) before ∙ after
 

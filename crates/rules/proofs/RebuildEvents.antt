@@ -16,13 +16,13 @@ use Rattle.rules.specs.Lists.{keep, greatestOf}
 use Rattle.rules.specs.Line.{Message, Target, Status, up, replay, Node, Lane, Line, nodeAt, laneAt}
 use Rattle.rules.specs.Recover.{rowGoal}
 use Rattle.rules.specs.Plain.{Act, Receipt}
-use Rattle.rules.proofs.ListLaws.{keep-append, nil-right}
+use Rattle.rules.proofs.ListLaws.{keep-append, keep-wider}
 use Rattle.rules.proofs.Rising.{until, past, Rises, none, more, Within, none-in, more-in, rises-lower, past-none, within-until, within-higher, until-all, until-none, rises-past}
 use Rattle.rules.proofs.Members.{In, in-keep, keep-in, in-map, map-in, in-left, in-right, append-in, greatest-in, rises-same, within-by}
 use Rattle.rules.proofs.Witness.{Taken}
 use Rattle.rules.proofs.Ghost.{Event, tookAt, Ghost, eventTime, inputOf, sentOf, takesMessage, put, got, gotOf}
 use Rattle.rules.proofs.Passing.{passing, goesOn}
-use Rattle.rules.proofs.Selecting.{keep-wider, rises-keep, within-keep}
+use Rattle.rules.proofs.Selecting.{rises-keep, within-keep}
 use Rattle.rules.proofs.Carried.{put-in, in-put, taken-event}
 use Rattle.rules.proofs.Joins.{takes-passed}
 use Rattle.rules.proofs.Leaving.{put-passing, taken-until}

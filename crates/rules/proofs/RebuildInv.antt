@@ -3,7 +3,7 @@ use Prim.Native.Nat.{ℕ, zero, suc, max, _+_, _<_, _≤_}
 use mathlib.Core.Path.{_≡_, refl, sym, ap, subst, _∙_}
 use mathlib.Core.Logic.{_≢_, _⊎_, inl, inr}
 use mathlib.Core.Bool.{Bool, true, false, true≢false, cond}
-use mathlib.Core.List.{List, [], _∷_, _++_, map}
+use mathlib.Core.List.{List, [], _∷_, _++_, map, map-map}
 use native.Mathlib.Omega.{arith}
 use native.Mathlib.Decide.{ℕ-discrete}
 use lib.ListN.{length}
@@ -19,7 +19,7 @@ use Rattle.rules.proofs.ListLaws.{keep-append}
 use Rattle.rules.proofs.Rising.{until, past, Rises, Within, rises-past, until-none, past-none, within-higher, within-until}
 use Rattle.rules.proofs.PlainRun.{receiptsIn}
 use Rattle.rules.proofs.Witness.{Taken}
-use Rattle.rules.proofs.Ghost.{Event, Ghost, inputOf, entryOf, sentOf, takesMessage, put, got, gotOf, logPut, map-map}
+use Rattle.rules.proofs.Ghost.{Event, Ghost, inputOf, entryOf, sentOf, takesMessage, put, got, gotOf, logPut}
 use Rattle.rules.proofs.Passing.{passing}
 use Rattle.rules.proofs.Selecting.{rises-keep}
 use Rattle.rules.proofs.Inv.{timeOf, isUp, Enters, Leaves, Marks, Nodes, Shape, SenderUp, Channels, Events, Ends, Replays, Inv}
@@ -101,7 +101,7 @@ module _ (l : Line) (g : Ghost) (cut base : ℕ → ℕ) (fed : List Act) (recei
   unfolding logPut
   log-now c h =
       ap (λ (x : ℕ). keep (takesMessage (l .plan) c) (map messageOf (nodeAt k x .log))) (h .1) ∙ ap (λ (x : Node). keep (takesMessage (l .plan) c) (map messageOf (x .log))) now
-      ∙ ap (keep (takesMessage (l .plan) c)) (map-map (entryOf (l .plan) n) messageOf fs)
+      ∙ ap (keep (takesMessage (l .plan) c)) (map-map messageOf (entryOf (l .plan) n) fs)
 
   channel-leaves : (c : ℕ) → Leaves (l .plan) n c → Channels k ghostAfter cutAfter c
   channel-leaves c h =

@@ -3,7 +3,7 @@ use Prim.Native.Nat.{ℕ, zero, suc, max, _+_, _<_, _≤_}
 use mathlib.Core.Path.{_≡_, refl, sym, ap, subst, _∙_}
 use mathlib.Core.Logic.{_≢_, _⊎_, inl, inr}
 use mathlib.Core.Bool.{Bool, true, false, true≢false, cond}
-use mathlib.Core.List.{List, [], _∷_, _++_, map}
+use mathlib.Core.List.{List, [], _∷_, _++_, map, map-map}
 use mathlib.Core.Option.{Option, none, some}
 use native.Mathlib.Omega.{arith}
 use native.Mathlib.Decide.{ℕ-discrete}
@@ -23,7 +23,7 @@ use Rattle.rules.proofs.Members.{In, in-none, keep-in}
 use Rattle.rules.proofs.Options.{some-same, none-some}
 use Rattle.rules.proofs.Witness.{Taken, none}
 use Rattle.rules.proofs.LineLaws.{node-there, node-else}
-use Rattle.rules.proofs.Ghost.{Event, tookAt, Ghost, inputOf, entryOf, takesMessage, put, got, gotOf, logPut, map-map}
+use Rattle.rules.proofs.Ghost.{Event, tookAt, Ghost, inputOf, entryOf, takesMessage, put, got, gotOf, logPut}
 use Rattle.rules.proofs.Passing.{goesOn, heldOf}
 use Rattle.rules.proofs.Kept.{cuts-at}
 use Rattle.rules.proofs.Carried.{in-got-of}
@@ -44,7 +44,7 @@ pub log-whole : {l : Line} {g : Ghost} {fed : List Act} {receipts : List Receipt
 unfolding logPut put
 log-whole {l} {g} nodes b e =
     let n = channelAt (l .plan) b .sender in
-    ap (λ (x : List Entry). keep (takesMessage (l .plan) b) (map messageOf x)) (nodes .logged n e) ∙ ap (keep (takesMessage (l .plan) b)) (map-map (entryOf (l .plan) n) messageOf (g n))
+    ap (λ (x : List Entry). keep (takesMessage (l .plan) b) (map messageOf x)) (nodes .logged n e) ∙ ap (keep (takesMessage (l .plan) b)) (map-map messageOf (entryOf (l .plan) n) (g n))
 
 module _ (l : Line) (g : Ghost) (cut base : ℕ → ℕ) (fed : List Act) (receipts : List Receipt) (crashes : List ℕ) (inv : Inv l g cut base fed receipts crashes) (n : ℕ) (inside : n < nodeCount (l .plan)) (is-down : nodeAt l n .status ≡ down) where
   marked : nodeAt l n .crashed ≡ true

@@ -7,29 +7,8 @@ use native.Mathlib.Omega.{arith}
 use lib.Dec.{leb, ltb}
 use borrow.Author.Tests.{le-leb, le-ltb}
 use Rattle.rules.specs.Lists.{keep, keepOne}
+use Rattle.rules.proofs.ListLaws.{keep-swap}
 use Rattle.rules.proofs.Rising.{until, past, Rises, none, more, Within, none-in, more-in, rises-lower, until-none, past-all}
-
-module _ {A : Type 0} (f g : A → Bool) where
-  pub keep-swap : (xs : List A) → keep f (keep g xs) ≡ keep g (keep f xs)
-  keep-swap [] = refl
-  keep-swap (x ∷ xs) = one (f x) (g x) refl refl (keep-swap xs)
-    where
-      one : (s t : Bool) → f x ≡ s → g x ≡ t → keep f (keep g xs) ≡ keep g (keep f xs) → keep f (keepOne t x (keep g xs)) ≡ keep g (keepOne s x (keep f xs))
-      one true true d e q = rw (d, e) (ap (λ (ys : List A). x ∷ ys) q)
-      one true false d e q = rw e q
-      one false true d e q = rw d q
-      one false false d e q = q
-
-  -- What one test passes, a wider one has passed before.
-  pub keep-wider : ((x : A) → f x ≡ true → g x ≡ true) → (xs : List A) → keep f (keep g xs) ≡ keep f xs
-  keep-wider h [] = refl
-  keep-wider h (x ∷ xs) = one (f x) (g x) refl refl (keep-wider h xs)
-    where
-      one : (s t : Bool) → f x ≡ s → g x ≡ t → keep f (keep g xs) ≡ keep f xs → keep f (keepOne t x (keep g xs)) ≡ keepOne s x (keep f xs)
-      one true true d e q = rw d (ap (λ (ys : List A). x ∷ ys) q)
-      one true false d e q = absurd (true≢false (sym (h x d) ∙ e))
-      one false true d e q = rw d q
-      one false false d e q = q
 
 module _ {A : Type 0} (time : A → ℕ) where
   pub rises-one : {a : ℕ} (t : Bool) {x : A} {xs : List A} → a < time x → Rises time (time x) xs → Rises time a (keepOne t x xs)

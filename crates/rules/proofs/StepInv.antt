@@ -3,7 +3,7 @@ use Prim.Native.Nat.{ℕ, suc, _<_}
 use mathlib.Core.Path.{_≡_, refl, sym, ap, subst, _∙_}
 use mathlib.Core.Logic.{_≢_, _⊎_, inl, inr}
 use mathlib.Core.Bool.{true, false}
-use mathlib.Core.List.{List, [], _∷_, _++_}
+use mathlib.Core.List.{List, [], _∷_, _++_, nil≢cons}
 use mathlib.Core.Option.{Option, none, some}
 use native.Mathlib.Omega.{arith}
 use Rattle.basics.specs.Update.{changed}
@@ -36,9 +36,6 @@ Kept l fed receipts crashes = (g : Ghost) × (cut : ℕ → ℕ) × (base : ℕ 
 
 pub kept-same : {l k : Line} {fed fed′ : List Act} {receipts receipts′ : List Receipt} {crashes crashes′ : List ℕ} → k ≡ l → fed′ ≡ fed → receipts′ ≡ receipts → crashes′ ≡ crashes → Kept l fed receipts crashes → Kept k fed′ receipts′ crashes′
 kept-same line feds received crashed h = rw (line, feds, received, crashed) h
-
-empty-not : {m : Message} {rest : List Message} → [] ≡ m ∷ rest → ⊥
-empty-not q = let z : _≡_ {A = ℕ} 0 1 = cc in omega arith
 
 up-unless : (s : Status) → (s ≢ up → ⊥) → s ≡ up
 up-unless up f = refl
@@ -86,7 +83,7 @@ module _ (l : Line) (g : Ghost) (cut base : ℕ → ℕ) (fed : List Act) (recei
 
   -- The sender of a channel with a message on it is up.
   pub sender-gives : (b : ℕ) (m : Message) (rest : List Message) → b < channelCount (l .plan) → laneAt l b .queue ≡ m ∷ rest → isUp l (channelAt (l .plan) b .sender)
-  sender-gives b m rest here first = up-unless (nodeAt l (channelAt (l .plan) b .sender) .status) (λ d. empty-not (sym (inv .ends b here .stopped d) ∙ first))
+  sender-gives b m rest here first = up-unless (nodeAt l (channelAt (l .plan) b .sender) .status) (λ d. nil≢cons (sym (inv .ends b here .stopped d) ∙ first))
 
   module _ (b : ℕ) (can : CanTake l b) (alive : isUp l (channelAt (l .plan) b .receiver)) where
     abbrev n : ℕ
