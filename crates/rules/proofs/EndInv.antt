@@ -26,14 +26,13 @@ use Rattle.rules.specs.Line.{Message, Entry, Held, Target, Status, up, r
 use Rattle.rules.specs.Recover.{highOf, rowGoal, rowComplete, rowsComplete}
 use Rattle.rules.specs.Replay.{fixedAt, floorOf, heldByRow, itemsByRow, isHeld, placedLog, placing, nodePlaced, replayEnd, endedIfComplete}
 use Rattle.rules.specs.Plain.{Act, Receipt}
-use Rattle.rules.proofs.Rising.{until, past, Rises}
+use Rattle.rules.proofs.Rising.{until, past, Rises, rises-keep}
 use Rattle.rules.proofs.Members.{In, here, there, in-none, in-keep, keep-in, in-map, map-in, all-in, any-in, in-greatest, greatest-in, rises-once}
 use Rattle.rules.proofs.Options.{some-same, none-some}
 use Rattle.rules.proofs.LineLaws.{node-there, node-else}
 use Rattle.rules.proofs.Witness.{Taken}
 use Rattle.rules.proofs.Ghost.{Event, fedAt, tookAt, Ghost, eventTime, inputOf, entryOf, put, got, gotOf}
 use Rattle.rules.proofs.Passing.{goesOn, heldOf}
-use Rattle.rules.proofs.Selecting.{rises-keep}
 use Rattle.rules.proofs.Kept.{Took, no-takes, took, taken-by, order-kept}
 use Rattle.rules.proofs.Joins.{in-leaving, leaving-in, in-entering, entering-in, in-taking, takes-passed}
 use Rattle.rules.proofs.Targets.{high-above}

@@ -25,7 +25,6 @@ pub mod TakeInv
 pub mod CrashInv
 pub mod TableRows
 pub mod PlacedEvents
-pub mod Selecting
 pub mod Kept
 pub mod Rebuilt
 pub mod Leaving

@@ -10,11 +10,10 @@ use lib.Dec.{leb}
 use Rattle.plan.specs.Plan.{Plan, channelAt, channelCount}
 use Rattle.rules.specs.Line.{Message, Line, nodeAt, laneAt}
 use Rattle.rules.specs.Plain.{Act, Receipt}
-use Rattle.rules.proofs.Rising.{until, Rises}
+use Rattle.rules.proofs.Rising.{until, Rises, rises-keep}
 use Rattle.rules.proofs.Members.{In, keep-in}
 use Rattle.rules.proofs.Witness.{Taken}
 use Rattle.rules.proofs.Ghost.{Event, tookAt, Ghost, inputOf, put, got, gotOf}
-use Rattle.rules.proofs.Selecting.{rises-keep}
 use Rattle.rules.proofs.Carried.{in-got-of}
 use Rattle.rules.proofs.Inv.{timeOf, isUp, Enters, Leaves, Channels, Inv}
 use Rattle.rules.proofs.InvLaws.{took-enters, if-marked, marked-took}

@@ -17,12 +17,11 @@ use Rattle.rules.specs.Line.{Message, Target, Status, up, replay, Node, 
 use Rattle.rules.specs.Recover.{rowGoal}
 use Rattle.rules.specs.Plain.{Act, Receipt}
 use Rattle.rules.proofs.ListLaws.{keep-append, keep-wider}
-use Rattle.rules.proofs.Rising.{until, past, Rises, none, more, Within, none-in, more-in, rises-lower, past-none, within-until, within-higher, until-all, until-none, rises-past}
+use Rattle.rules.proofs.Rising.{until, past, Rises, none, more, Within, none-in, more-in, rises-lower, past-none, within-until, within-higher, until-all, until-none, rises-past, rises-keep, within-keep, until-until, rises-append, within-append, rises-map, within-map}
 use Rattle.rules.proofs.Members.{In, in-keep, keep-in, in-map, map-in, in-left, in-right, append-in, greatest-in, rises-same, within-by}
 use Rattle.rules.proofs.Witness.{Taken}
 use Rattle.rules.proofs.Ghost.{Event, tookAt, Ghost, eventTime, inputOf, sentOf, takesMessage, put, got, gotOf}
 use Rattle.rules.proofs.Passing.{passing, goesOn}
-use Rattle.rules.proofs.Selecting.{rises-keep, within-keep}
 use Rattle.rules.proofs.Carried.{put-in, in-put, taken-event}
 use Rattle.rules.proofs.Joins.{takes-passed}
 use Rattle.rules.proofs.Leaving.{put-passing, taken-until}
@@ -42,28 +41,6 @@ pub record Rebuilding (l : Line) (g : Ghost) (base : ℕ → ℕ) (n T : ℕ) (f
   pub high : (c : ℕ) → Leaves (l .plan) n c → laneAt l c .taken ≤ T
   pub reached-placed : (b : ℕ) (m : Message) (t : ℕ) → In (tookAt b m t) (g n) → nodeAt l n .time < t → Reached l n m t → In (tookAt b m t) fs
   pub placed-reached : (b : ℕ) (m : Message) (t : ℕ) → In (tookAt b m t) fs → (c : ℕ) → Leaves (l .plan) n c → takes (channelAt (l .plan) c) (applied (ruleAt (l .plan) n) (m .what)) ≡ true → t ≤ laneAt l c .taken → In (tookAt b m t) (g n)
-
-module _ {A : Type 0} (time : A → ℕ) where
-  -- An earlier cut forgets a later one.
-  pub until-until : (j k : ℕ) → j ≤ k → (xs : List A) → until time j (until time k xs) ≡ until time j xs
-  until-until j k h xs = keep-wider (λ (x : A). leb (time x) j) (λ (x : A). leb (time x) k) (λ x e. le-leb (time x) k (omega (arith, leb-true (time x) j e))) xs
-
-  pub rises-append : {a j : ℕ} {xs ys : List A} → a ≤ j → Rises time a xs → Within time j xs → Rises time j ys → Rises time a (xs ++ ys)
-  rises-append h none none-in s = rises-lower time h s
-  rises-append h (more {x = x} k r) (more-in i w) s = more {x = x} k (rises-append i r w s)
-
-  pub within-append : {k : ℕ} {xs ys : List A} → Within time k xs → Within time k ys → Within time k (xs ++ ys)
-  within-append none-in v = v
-  within-append (more-in h w) v = more-in h (within-append w v)
-
--- Times of what events make.
-pub rises-sent : (p : Plan) (n : ℕ) {a : ℕ} {es : List Event} → Rises eventTime a es → Rises timeOf a (map (sentOf p n) es)
-rises-sent p n none = none
-rises-sent p n (more {x = e} h r) = more {x = sentOf p n e} h (rises-sent p n r)
-
-pub within-sent : (p : Plan) (n : ℕ) {k : ℕ} {es : List Event} → Within eventTime k es → Within timeOf k (map (sentOf p n) es)
-within-sent p n none-in = none-in
-within-sent p n (more-in {x = e} h w) = more-in {x = sentOf p n e} h (within-sent p n w)
 
 module _ (l : Line) (g : Ghost) (cut base : ℕ → ℕ) (fed : List Act) (receipts : List Receipt) (crashes : List ℕ) (inv : Inv l g cut base fed receipts crashes) (n : ℕ) (replaying : nodeAt l n .status ≡ replay)
     (T : ℕ) (fs : List Event) (r : Rebuilding l g base n T fs) where
@@ -147,12 +124,12 @@ module _ (l : Line) (g : Ghost) (cut base : ℕ → ℕ) (fed : List Act) (recei
   pub rise-rebuilt : Rises timeOf 0 (passing (l .plan) n events)
   rise-rebuilt =
       subst (λ (x : List Message). Rises timeOf 0 x) (sym passing-rebuilt)
-      (rises-append timeOf (omega arith) (rises-keep timeOf (λ (m : Message). leb (m .time) (nodeAt l n .time)) (inv .events n .rise)) (within-until timeOf (nodeAt l n .time) (passing (l .plan) n (g n))) (rises-sent (l .plan) n (r .rises)))
+      (rises-append timeOf (omega arith) (rises-keep timeOf (λ (m : Message). leb (m .time) (nodeAt l n .time)) (inv .events n .rise)) (within-until timeOf (nodeAt l n .time) (passing (l .plan) n (g n))) (rises-map (sentOf (l .plan) n) timeOf (r .rises)))
 
   pub within-rebuilt : Within timeOf T (passing (l .plan) n events)
   within-rebuilt =
       subst (λ (x : List Message). Within timeOf T x) (sym passing-rebuilt)
-      (within-append timeOf (within-higher timeOf (r .low) (within-until timeOf (nodeAt l n .time) (passing (l .plan) n (g n)))) (within-sent (l .plan) n (r .within)))
+      (within-append timeOf (within-higher timeOf (r .low) (within-until timeOf (nodeAt l n .time) (passing (l .plan) n (g n)))) (within-map (sentOf (l .plan) n) timeOf (r .within)))
 
   -- A leaving channel.
   module _ (c : ℕ) (h : Leaves (l .plan) n c) where

@@ -16,18 +16,17 @@ use Rattle.rules.specs.Line.{Message, Entry, Status, up, down, replay, N
 use Rattle.rules.specs.Clock.{messageOf}
 use Rattle.rules.specs.Plain.{Act, Receipt}
 use Rattle.rules.proofs.ListLaws.{keep-append}
-use Rattle.rules.proofs.Rising.{until, past, Rises, Within, rises-past, until-none, past-none, within-higher, within-until}
+use Rattle.rules.proofs.Rising.{until, past, Rises, Within, rises-past, until-none, past-none, within-higher, within-until, rises-keep, rises-map}
 use Rattle.rules.proofs.PlainRun.{receiptsIn}
 use Rattle.rules.proofs.Witness.{Taken}
 use Rattle.rules.proofs.Ghost.{Event, Ghost, inputOf, entryOf, sentOf, takesMessage, put, got, gotOf, logPut}
 use Rattle.rules.proofs.Passing.{passing}
-use Rattle.rules.proofs.Selecting.{rises-keep}
 use Rattle.rules.proofs.Inv.{timeOf, isUp, Enters, Leaves, Marks, Nodes, Shape, SenderUp, Channels, Events, Ends, Replays, Inv}
 use Rattle.rules.proofs.InvLaws.{took-enters, up-not-replay, replay-not-down, replay-marked, marked-took}
 use Rattle.rules.proofs.MarkedLaws.{at-ends, sender-other, receiver-other, parent-unmarked, child-unmarked}
 use Rattle.rules.proofs.Stays.{moved, channel-stays, ends-stay, events-stay, replays-stay, row-stays}
 use Rattle.rules.proofs.Grow.{sender-same, sender-receiving}
-use Rattle.rules.proofs.RebuildEvents.{Rebuilding, row, events, ghost, got-rebuilt, took-rebuilt, rise-rebuilt, within-rebuilt, put-rebuilt, put-rises, put-within, until-rebuilt, rises-sent}
+use Rattle.rules.proofs.RebuildEvents.{Rebuilding, row, events, ghost, got-rebuilt, took-rebuilt, rise-rebuilt, within-rebuilt, put-rebuilt, put-rises, put-within, until-rebuilt}
 
 module _ (l : Line) (g : Ghost) (cut base : ℕ → ℕ) (fed : List Act) (receipts : List Receipt) (crashes : List ℕ) (inv : Inv l g cut base fed receipts crashes) (n : ℕ) (inside : n < nodeCount (l .plan)) (replaying : nodeAt l n .status ≡ replay)
     (T : ℕ) (fs : List Event) (r : Rebuilding l g base n T fs)
@@ -137,7 +136,7 @@ module _ (l : Line) (g : Ghost) (cut base : ℕ → ℕ) (fed : List Act) (recei
                 omega (arith, mark),
                 omega (arith, mark, time, r .high c h),
                 end .stopped (λ z. up-not-replay (sym z ∙ down-here))
-                    ∙ sym (until-none timeOf t (omega (arith, mark)) (subst (λ (x : List Message). Rises timeOf t x) (sym (ap (past timeOf t) (log-now c h))) (rises-past timeOf t (rises-keep timeOf (takesMessage (l .plan) c) (rises-sent (l .plan) n (r .rises)))))),
+                    ∙ sym (until-none timeOf t (omega (arith, mark)) (subst (λ (x : List Message). Rises timeOf t x) (sym (ap (past timeOf t) (log-now c h))) (rises-past timeOf t (rises-keep timeOf (takesMessage (l .plan) c) (rises-map (sentOf (l .plan) n) timeOf (r .rises)))))),
               );
             };
       }

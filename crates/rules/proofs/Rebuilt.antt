@@ -14,9 +14,8 @@ use Rattle.rules.specs.Lists.{keep, keepOne}
 use Rattle.rules.specs.Line.{Message}
 use Rattle.rules.specs.Replay.{passedOn}
 use Rattle.rules.proofs.ListLaws.{keep-append, map-append}
-use Rattle.rules.proofs.Rising.{until, past, Rises, Within, cut-at, rises-past, past-past, past-none, within-higher}
+use Rattle.rules.proofs.Rising.{until, past, Rises, Within, cut-at, rises-past, past-past, past-none, within-higher, first-above, first-until, first-past}
 use Rattle.rules.proofs.Members.{In, in-none, in-keep}
-use Rattle.rules.proofs.Selecting.{first-above, first-until, first-past}
 use Rattle.rules.proofs.Witness.{Taken, none, more}
 use Rattle.rules.proofs.Ghost.{Event, fedAt, tookAt, inputOf, sentOf, gotOf, got-append}
 use Rattle.rules.proofs.Passing.{passing, goesOn}
