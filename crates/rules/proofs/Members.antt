@@ -1,15 +1,15 @@
 -- Members of lists: through selections, maps and joins; two rising lists with the same members are equal.
-use Prim.Native.Nat.{ℕ, zero, suc, max, _<_, _≤_}
+use Prim.Native.Nat.{ℕ, zero, suc, max, _+_, _<_, _≤_}
 use mathlib.Core.Path.{_≡_, refl, sym, ap, subst, _∙_}
 use mathlib.Core.Logic.{_⊎_, inl, inr}
 use mathlib.Core.Bool.{Bool, true, false, true≢false, _||_}
 use mathlib.Core.List.{List, [], _∷_, _++_, map}
 use native.Mathlib.Omega.{arith}
-use native.Mathlib.Decide.{decLe}
+use native.Mathlib.Decide.{decLe, ℕ-discrete}
 use lib.Dec.{leb}
 use borrow.Author.Tests.{le-leb}
 use Rattle.basics.specs.Bools.{both-true, neither-true}
-use Rattle.rules.specs.Lists.{keep, keepOne, allOf, anyOf, joined, greatestOf}
+use Rattle.rules.specs.Lists.{keep, keepOne, allOf, anyOf, joined, greatestOf, leastOf, upTo}
 use Rattle.rules.proofs.Rising.{until, Rises, none, more, Within, none-in, more-in, within-until}
 
 pub data In {A : Type 0} (x : A) : List A → Type 0 where
@@ -50,6 +50,10 @@ module _ {A B : Type 0} (f : A → B) where
   pub map-in : {y : B} (xs : List A) → In y (map f xs) → (x : A) × In x xs × (y ≡ f x)
   map-in [] i = absurd (in-none i)
   map-in (x ∷ xs) i = elim (in-first i) [ inl q ↦ (x, here, q) | inr k ↦ (let (z, j, e) = map-in xs k in (z, there j, e)) ]
+
+pub map-same : {A B : Type 0} (f g : A → B) (xs : List A) → ((x : A) → In x xs → f x ≡ g x) → map f xs ≡ map g xs
+map-same f g [] h = refl
+map-same f g (x ∷ xs) h = ap (λ (y : _). y ∷ map f xs) (h x here) ∙ ap (λ (ys : List _). g x ∷ ys) (map-same f g xs (λ y i. h y (there i)))
 
 -- Through a join.
 pub in-left : {A : Type 0} {x : A} {xs : List A} (ys : List A) → In x xs → In x (xs ++ ys)
@@ -111,6 +115,31 @@ greatest-in (n ∷ ns) =
     rest : ¬ (greatestOf ns ≤ n) → greatestOf ns ≡ max n (greatestOf ns)
     rest h = omega arith
 
+pub greatest-snoc : {A : Type 0} (f : A → ℕ) (xs : List A) (x : A) → greatestOf (map f (xs ++ x ∷ [])) ≡ max (greatestOf (map f xs)) (f x)
+greatest-snoc f [] x = omega arith
+greatest-snoc f (y ∷ xs) x = omega (arith, greatest-snoc f xs x)
+
+-- The least of some numbers is none above any, and none above the greatest.
+pub in-least : {n : ℕ} {ns : List ℕ} → In n ns → leastOf ns ≤ n
+in-least {n} (here {xs = []}) = omega arith
+in-least {n} (here {xs = m ∷ ns}) = omega arith
+in-least (there {y = m} {xs = []} i) = absurd (in-none i)
+in-least (there {y = m} {xs = k ∷ ns} i) = let h = in-least i in omega arith
+
+pub least-greatest : (ns : List ℕ) → leastOf ns ≤ greatestOf ns
+least-greatest [] = omega arith
+least-greatest (n ∷ ns) =
+    let first : In n (n ∷ ns) = here in
+    let low = in-least first in
+    let high = in-greatest first in
+    omega arith
+
+-- The numbers from k on.
+pub in-up-to : (k n i : ℕ) → k ≤ i → i < k + n → In i (upTo k n)
+in-up-to k zero i l h = let no : ⊥ = omega arith in absurd no
+in-up-to k (suc n) i l h = elim (ℕ-discrete i k) [ yes q ↦ subst (λ (x : ℕ). In i (x ∷ upTo (suc k) n)) q here | no d ↦ there (in-up-to (suc k) n i (omega arith) (omega arith)) ]
+
+-- In lists whose times rise or lie within a bound.
 module _ {A : Type 0} (time : A → ℕ) where
   pub rises-in : {a : ℕ} {x : A} {xs : List A} → Rises time a xs → In x xs → a < time x
   rises-in (more h r) here = h

@@ -21,15 +21,11 @@ use Rattle.rules.specs.Plain.{Act, Receipt, plainRun, atRest}
 use Rattle.rules.specs.Claim.{quiet}
 use Rattle.rules.proofs.ListLaws.{empty-none}
 use Rattle.rules.proofs.Rising.{until, past, cut-at, rises-past, past-past}
-use Rattle.rules.proofs.Members.{In, here, there, all-in}
+use Rattle.rules.proofs.Members.{all-in, in-up-to}
 use Rattle.rules.proofs.Ghost.{Ghost, put, logPut}
 use Rattle.rules.proofs.Inv.{Inv, timeOf}
 use Rattle.rules.proofs.InvLaws.{up-not-down}
 use Rattle.rules.proofs.Conclusion.{run, run-empties}
-
-pub in-up-to : (k n i : ℕ) → k ≤ i → i < k + n → In i (upTo k n)
-in-up-to k zero i l h = let no : ⊥ = omega arith in absurd no
-in-up-to k (suc n) i l h = elim (ℕ-discrete i k) [ yes q ↦ subst (λ (x : ℕ). In i (x ∷ upTo (suc k) n)) q here | no d ↦ there (in-up-to (suc k) n i (omega arith) (omega arith)) ]
 
 status-up : (s : Status) → isUp s ≡ true → s ≡ up
 status-up up e = refl

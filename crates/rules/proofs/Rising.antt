@@ -124,7 +124,7 @@ module _ {A : Type 0} (time : A → ℕ) where
   pub past-snoc : {j : ℕ} (xs : List A) (x : A) → j < time x → past j (xs ++ x ∷ []) ≡ past j xs ++ x ∷ []
   past-snoc {j} xs x l = keep-append (λ (y : A). ltb j (time y)) xs (x ∷ []) ∙ ap (λ (t : Bool). past j xs ++ keepOne t x []) (lt-ltb j (time x) l)
 
-  -- A later cut forgets an earlier one past which it lies, an earlier cut a later one.
+  -- What lies past two times lies past the later one, and what lies up to two up to the earlier one.
   pub past-past : (j k : ℕ) → j ≤ k → (xs : List A) → past k (past j xs) ≡ past k xs
   past-past j k h xs = keep-wider (λ (x : A). ltb k (time x)) (λ (x : A). ltb j (time x)) (λ x e. lt-ltb j (time x) (omega (arith, ltb-true k (time x) e))) xs
 
@@ -163,10 +163,7 @@ module _ {A : Type 0} (time : A → ℕ) where
     -- The first that a test passes in a rising list: it lies past the list's bound, alone up to its own time, and the others lie past that.
     module _ {a : ℕ} {xs : List A} (x : A) (rest : List A) (r : Rises a xs) (e : keep f xs ≡ x ∷ rest) where
       kept-rises : (a < time x) × Rises (time x) rest
-      kept-rises = first (subst (λ (ys : List A). Rises a ys) e (rises-keep r))
-        where
-          first : Rises a (x ∷ rest) → (a < time x) × Rises (time x) rest
-          first (more h s) = (h, s)
+      kept-rises = first-of (rw e at (rises-keep r))
 
       pub first-above : a < time x
       first-above = kept-rises .0

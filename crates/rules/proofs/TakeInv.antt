@@ -15,6 +15,7 @@ use Rattle.rules.specs.Lists.{keepOne, greatestOf}
 use Rattle.rules.specs.Line.{Message, Status, up, down, replay, Node, Lane, Line, nodeAt, laneAt, withNode, withLane}
 use Rattle.rules.specs.Plain.{Act, Receipt}
 use Rattle.rules.proofs.ListLaws.{map-append}
+use Rattle.rules.proofs.Members.{greatest-snoc}
 use Rattle.rules.proofs.LineLaws.{lane-there, lane-else}
 use Rattle.rules.proofs.Ghost.{Event, tookAt, Ghost, got, gotOne, later, got-there}
 use Rattle.rules.proofs.Inv.{Inv, Shape, isUp, timeOf, Ends, Enters, Leaves, Events, Replays}
@@ -25,10 +26,6 @@ use Rattle.rules.proofs.LoggingMore.{logging-marks, logging-events, log
 use Rattle.rules.proofs.TakeKeeps.{take-channels, take-nodes}
 use Rattle.rules.proofs.FeedInv.{shape-kept}
 use Rattle.rules.proofs.SendInv.{shape-beside}
-
-pub greatest-snoc : (ms : List Message) (m : Message) → greatestOf (map timeOf (ms ++ m ∷ [])) ≡ max (greatestOf (map timeOf ms)) (m .time)
-greatest-snoc [] m = omega arith
-greatest-snoc (x ∷ ms) m = let e = greatest-snoc ms m in omega (arith, e)
 
 module _ (l : Line) (g : Ghost) (cut base : ℕ → ℕ) (fed : List Act) (receipts : List Receipt) (crashes : List ℕ) (inv : Inv l g cut base fed receipts crashes)
     (b : ℕ) (here : b < channelCount (l .plan)) (m : Message) (rest : List Message) (heardOf : List ℕ) (first : laneAt l b .queue ≡ m ∷ rest) (sender : isUp l (channelAt (l .plan) b .sender)) where
@@ -73,7 +70,7 @@ module _ (l : Line) (g : Ghost) (cut base : ℕ → ℕ) (fed : List Act) (recei
         record {
           exact = λ h.
               ap (λ (x : Lane). x .taken) lane-now ∙ ap (λ (t : ℕ). max t (m .time)) (inv .ends b here .exact (sym (mark-kept beside n event there n) ∙ h))
-              ∙ sym (ap (λ (x : List Message). greatestOf (map timeOf x)) (got-there (l .plan) g n b event refl ∙ ap (λ (t : Bool). got (l .plan) g b ++ (keepOne t m [] ++ [])) (eq-eqb b b refl)) ∙ greatest-snoc (got (l .plan) g b) m);
+              ∙ sym (ap (λ (x : List Message). greatestOf (map timeOf x)) (got-there (l .plan) g n b event refl ∙ ap (λ (t : Bool). got (l .plan) g b ++ (keepOne t m [] ++ [])) (eq-eqb b b refl)) ∙ greatest-snoc timeOf (got (l .plan) g b) m);
           stopped = λ d. absurd (d (status-kept beside n event there (channelAt (l .plan) b .sender) ∙ sender));
           waiting = λ d. absurd (up-not-replay (sym (status-kept beside n event there (channelAt (l .plan) b .sender) ∙ sender) ∙ d));
         }
