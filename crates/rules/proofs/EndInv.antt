@@ -34,7 +34,7 @@ use Rattle.rules.proofs.Witness.{Taken}
 use Rattle.rules.proofs.Ghost.{Event, fedAt, tookAt, Ghost, eventTime, inputOf, entryOf, put, got, gotOf}
 use Rattle.rules.proofs.Passing.{goesOn, heldOf}
 use Rattle.rules.proofs.Kept.{Took, no-takes, took, taken-by, order-kept}
-use Rattle.rules.proofs.Joins.{in-leaving, leaving-in, in-entering, entering-in, in-taking, takes-passed}
+use Rattle.rules.proofs.Joins.{in-entering, entering-in, in-taking, takes-passed, some-leaves}
 use Rattle.rules.proofs.Targets.{high-above}
 use Rattle.rules.proofs.PlacedEvents.{PlacedEvents, placed-events}
 use Rattle.rules.proofs.Inv.{timeOf, Enters, Leaves, Reached, targetFrom, Replays, Channels, Inv}
@@ -49,15 +49,6 @@ took-all : (es : List Event) → ((e : Event) → In e es → (b : ℕ) × (m : 
 took-all [] f = no-takes
 took-all (fedAt r u ∷ es) f = let (b, m, t, e) = f (fedAt r u) here in let z : _≡_ {A = ℕ} 0 1 = cc in let no : ⊥ = omega arith in absurd no
 took-all (tookAt b m t ∷ es) f = took (took-all es (λ e i. f e (there i)))
-
--- A node that is no sink has a leaving channel.
-pub some-leaves : (p : Plan) (n : ℕ) → isSink p n ≡ false → (c : ℕ) × Leaves p n c
-unfolding isSink
-some-leaves p n e = first (leaving p n) (λ c i. leaving-in p n c i) e
-  where
-    first : (cs : List ℕ) → ((c : ℕ) → In c cs → Leaves p n c) → isNone cs ≡ false → (c : ℕ) × Leaves p n c
-    first [] f z = absurd (true≢false z)
-    first (c ∷ cs) f z = (c, f c here)
 
 module _ (l : Line) (g : Ghost) (cut base : ℕ → ℕ) (fed : List Act) (receipts : List Receipt) (crashes : List ℕ) (inv : Inv l g cut base fed receipts crashes) (n : ℕ) (replaying : nodeAt l n .status ≡ replay)
     (columns : List ℕ) (keeps : KeepsRules (nodeAt l n .time) (highOf l n) (itemsByRow l n 0 (heldByRow (nodeAt l n .held) l (entering (l .plan) n))) columns)

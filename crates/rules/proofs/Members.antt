@@ -9,7 +9,7 @@ use native.Mathlib.Decide.{decLe, ℕ-discrete}
 use lib.Dec.{leb}
 use borrow.Author.Tests.{le-leb}
 use Rattle.basics.specs.Bools.{both-true, neither-true}
-use Rattle.rules.specs.Lists.{keep, keepOne, allOf, anyOf, joined, greatestOf, leastOf, upTo}
+use Rattle.rules.specs.Lists.{keep, keepOne, isEmpty, allOf, anyOf, joined, greatestOf, leastOf, upTo}
 use Rattle.rules.proofs.Rising.{until, Rises, none, more, Within, none-in, more-in, within-until}
 
 pub data In {A : Type 0} (x : A) : List A → Type 0 where
@@ -22,6 +22,15 @@ in-none = elim [ ]
 pub in-first : {A : Type 0} {x y : A} {xs : List A} → In x (y ∷ xs) → (x ≡ y) ⊎ In x xs
 in-first here = inl refl
 in-first (there i) = inr i
+
+-- A list with a member is not empty.
+pub in-some : {A : Type 0} {x : A} {xs : List A} → In x xs → isEmpty xs ≡ false
+in-some here = refl
+in-some (there i) = refl
+
+pub some-in : {A : Type 0} (xs : List A) → isEmpty xs ≡ false → (x : A) × In x xs
+some-in [] e = absurd (true≢false e)
+some-in (x ∷ xs) e = (x, here)
 
 -- Through a selection.
 module _ {A : Type 0} (f : A → Bool) where

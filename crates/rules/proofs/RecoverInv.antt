@@ -27,12 +27,12 @@ use Rattle.rules.proofs.Ghost.{Event, tookAt, Ghost, inputOf, entryOf, 
 use Rattle.rules.proofs.Passing.{goesOn, heldOf}
 use Rattle.rules.proofs.Kept.{cuts-at}
 use Rattle.rules.proofs.Carried.{in-got-of}
+use Rattle.rules.proofs.Joins.{no-source}
 use Rattle.rules.proofs.Targets.{low-below, high-above, targets-from, targets-of}
 use Rattle.rules.proofs.Children.{Child, triples-from, triples-of, restored-reach, restored-is, none-above}
 use Rattle.rules.proofs.Inv.{timeOf, isUp, Enters, Leaves, Reached, targetFrom, Marks, Nodes, Shape, SenderUp, Channels, Events, Ends, Row, Replays, Inv}
 use Rattle.rules.proofs.InvLaws.{took-enters, up-not-replay, up-not-down, replay-not-down, marked-unless-up, replay-marked, marked-took}
 use Rattle.rules.proofs.MarkedLaws.{at-ends, sender-other, receiver-other, parent-unmarked, child-unmarked, parent-up, child-up, own, got-rises, taken-put}
-use Rattle.rules.proofs.TakeKeeps.{no-source}
 use Rattle.rules.proofs.Stays.{moved, channel-stays, ends-stay, events-stay, replays-stay, row-stays}
 use Rattle.rules.proofs.Swept.{swept, swept-line, swept-long, swept-enters, swept-leaves, swept-else}
 use Rattle.rules.proofs.RebuildEvents.{Rebuilding}

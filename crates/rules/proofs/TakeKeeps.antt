@@ -11,7 +11,7 @@ use lib.Dec.{eqb}
 use borrow.Author.Tests.{eq-eqb, ne-eqb}
 use Rattle.plan.specs.declared.Record.{Record}
 use Rattle.plan.specs.declared.Channel.{Channel}
-use Rattle.plan.specs.Plan.{Plan, channelAt, channelCount, nodeCount, noChannel, isSource, isNone, entering, numbersFrom, keepIf}
+use Rattle.plan.specs.Plan.{Plan, channelAt, channelCount, nodeCount, isSource}
 use Rattle.rules.specs.Plain.{Act, Receipt}
 use Rattle.rules.specs.Lists.{keepOne}
 use Rattle.rules.specs.Line.{Message, Entry, Status, up, down, Node, Lane, Line, nodeAt, laneAt, withNode, withLane}
@@ -24,6 +24,7 @@ use Rattle.rules.proofs.Rising.{until, past, Rises}
 use Rattle.rules.proofs.LineLaws.{lane-there, lane-else, node-else}
 use Rattle.rules.proofs.Ghost.{Event, tookAt, Ghost, inputOf, entryOf, historyOf, put, got, gotOne, logPut, later, later-there, put-else, got-there}
 use Rattle.rules.proofs.Inv.{timeOf, isUp, Shape, Ordered, Nodes, SenderUp, Channels}
+use Rattle.rules.proofs.Joins.{no-source}
 use Rattle.rules.proofs.Grow.{sender-taken, sender-same, sender-receiving}
 use Rattle.rules.proofs.Logging.{nodeLogs, status-kept, mark-kept, log-there, logging-keeps, log-put-else}
 
@@ -114,20 +115,6 @@ module _ (l : Line) (shape : Shape l) (ordered : Ordered (l .plan)) (g : Ghost) 
   -- Every channel after the Take.
   pub take-channels : ((c : ℕ) → c < channelCount (l .plan) → Channels l g cut c) → (c : ℕ) → c < channelCount (l .plan) → Channels after (later g n event) cutAfter c
   take-channels k c h = elim (ℕ-discrete c b) [ yes q ↦ subst (Channels after (later g n event) cutAfter) (sym q) (own-channel (k b here)) | no d ↦ other-channels c d (k c h) ]
-
--- A channel enters its receiver, so the receiver is no source.
-enters : (cs : List Channel) (k b n : ℕ) → b < length cs → getD cs b noChannel .receiver ≡ n → isNone (numbersFrom k (λ (c : Channel). eqb (c .receiver) n) cs) ≡ false
-enters [] k b n h q = let no : ⊥ = omega arith in absurd no
-enters (c ∷ cs) k zero n h q = rw (eq-eqb (c .receiver) n q)
-enters (c ∷ cs) k (suc b) n h q = one (eqb (c .receiver) n) (enters cs (suc k) b n (omega arith) q)
-  where
-    one : (t : Bool) → isNone (numbersFrom (suc k) (λ (d : Channel). eqb (d .receiver) n) cs) ≡ false → isNone (keepIf t k (numbersFrom (suc k) (λ (d : Channel). eqb (d .receiver) n) cs)) ≡ false
-    one true e = refl
-    one false e = e
-
-pub no-source : (p : Plan) (b : ℕ) → b < channelCount p → isSource p (channelAt p b .receiver) ≡ false
-unfolding isSource entering
-no-source p b h = enters (p .channels) 0 b (channelAt p b .receiver) h refl
 
 taken-snoc : {p : Plan} {n : ℕ} {is : List Input} (b : ℕ) (r : Record) → b < length (p .channels) → channelAt p b .receiver ≡ n → channelAt p b .sender < n → Taken p n is → Taken p n (is ++ tookIn b r ∷ [])
 taken-snoc b r h q s none = more h q s none
