@@ -11,7 +11,7 @@ use Rattle.rules.specs.Plain.{Act, feeds, Receipt}
 use Rattle.rules.proofs.LineLaws.{node-else}
 use Rattle.rules.proofs.Ghost.{Event, fedAt, Ghost, later}
 use Rattle.rules.proofs.Inv.{Inv, Shape, isUp}
-use Rattle.rules.proofs.InvLaws.{source-up, replay-marked, marked-took, took-enters}
+use Rattle.rules.proofs.InvLaws.{source-up}
 use Rattle.rules.proofs.Logging.{nodeLogs, status-kept, logging-keeps}
 use Rattle.rules.proofs.LoggingMore.{logging-marks, logging-events, logging-ends, logging-replays}
 use Rattle.rules.proofs.FeedKeeps.{feed-nodes}
@@ -36,7 +36,7 @@ module _ (l : Line) (g : Ghost) (cut base : ℕ → ℕ) (fed : List Act) (recei
         replays = λ m q.
             (let old = sym (status-kept l n e there m) ∙ q in
             logging-replays l n e there refl alive g cut base m q (λ b h s. subst (λ (x : ℕ). laneAt l b .taken ≤ nodeAt l x .time) s (inv .channels b (h .0) .sender-up (ap (λ (x : ℕ). nodeAt l x .status) s ∙ alive) .taken-within))
-            (λ b x t i. took-enters (g m) b x t (marked-took (inv .marks) (inv .nodes) m (replay-marked (inv .marks) m old)) i .1) (inv .replays m old));
+            (inv .replays m old));
       }
     where
       e : Event

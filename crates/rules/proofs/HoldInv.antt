@@ -27,7 +27,7 @@ use Rattle.rules.proofs.Passing.{goesOn, heldOf}
 use Rattle.rules.proofs.Inv.{Inv, isUp, timeOf, Enters, Nodes, SenderUp, Channels, Ends, Row, Replays}
 use Rattle.rules.proofs.InvLaws.{up-not-replay, replay-not-down, replay-marked, marked-took, took-enters}
 use Rattle.rules.proofs.Grow.{sender-taken, sender-cut, sender-same, sender-receiving}
-use Rattle.rules.proofs.Stays.{moved, marks-stay, channel-stays, events-stay, replays-stay, replays-keep, row-stays}
+use Rattle.rules.proofs.Stays.{moved, marks-stay, unmarked-other, nodes-stay, channel-stays, ends-stay, events-stay, replays-stay, replays-keep}
 use Rattle.rules.proofs.TakeInv.{replay-beside}
 
 -- A receipt of another node.
@@ -131,41 +131,8 @@ module _ (l : Line) (g : Ghost) (cut base : ℕ → ℕ) (fed : List Act) (recei
     up-other : (k : ℕ) → isUp after k → nodeAt after k ≡ nodeAt l k
     up-other k e = others k (λ q. up-not-replay (sym e ∙ ap (λ (x : ℕ). nodeAt after x .status) q ∙ status ∙ replaying))
 
-    unmarked-other : (k : ℕ) → nodeAt after k .crashed ≡ false → k ≢ n
-    unmarked-other k e q = true≢false (sym marked ∙ sym mark ∙ ap (λ (x : ℕ). nodeAt after x .crashed) (sym q) ∙ e)
-
-    after-nodes : Nodes after g fed (receipts ++ receipt ∷ [])
-    after-nodes =
-        let was = inv .nodes in
-        record {
-          only-feeds = was .only-feeds;
-          sources = was .sources;
-          others = was .others;
-          beyond = was .beyond;
-          received = λ k e. receipt-else receipts receipt k (unmarked-other k e) ∙ was .received k (sym (marks k) ∙ e);
-          logged = λ k e. ap (λ (x : Node). x .log) (others k (unmarked-other k e)) ∙ was .logged k (sym (marks k) ∙ e);
-        }
-
-    channel-other : (c : ℕ) → c ≢ b → Channels l g cut c → Channels after g cut c
-    channel-other c d k =
-        record {
-          rises = k .rises;
-          cut-is = k .cut-is;
-          cut-up = λ e. k .cut-up (sym (statuses (channelAt (l .plan) c .receiver)) ∙ e) ∙ ap (λ (x : Lane). x .taken) (sym (lane-else b taken l c d));
-          sender-up = λ e.
-              channel-stays l (l .steps) nodes (beside .lanes) g g c (up-other (channelAt (l .plan) c .sender) e) (statuses (channelAt (l .plan) c .receiver)) (lane-else b taken l c d) refl cut cut refl refl k
-              .sender-up e;
-        }
-
-    ends-other : (c : ℕ) → c ≢ b → Ends l g c → Ends after g c
-    ends-other c d k =
-        let lane = lane-else b taken l c d in
-        let status = statuses (channelAt (l .plan) c .sender) in
-        record {
-          exact = λ e. ap (λ (x : Lane). x .taken) lane ∙ k .exact (sym (marks (channelAt (l .plan) c .receiver)) ∙ e);
-          stopped = λ e. ap (λ (x : Lane). x .queue) lane ∙ k .stopped (λ z. e (status ∙ z));
-          waiting = λ e. ap (λ (x : Lane). x .mark) lane ∙ k .waiting (sym status ∙ e) ∙ ap (λ (x : Lane). x .taken) (sym lane);
-        }
+    other-unmarked : (k : ℕ) → nodeAt after k .crashed ≡ false → k ≢ n
+    other-unmarked = unmarked-other l (l .steps) nodes (beside .lanes) n (mark ∙ marked) others
 
     -- The channel of the message.
     same-sender : nodeAt after (channelAt (l .plan) b .sender) ≡ nodeAt l (channelAt (l .plan) b .sender)
@@ -189,7 +156,7 @@ module _ (l : Line) (g : Ghost) (cut base : ℕ → ℕ) (fed : List Act) (recei
     ends-own =
         let alive = statuses (channelAt (l .plan) b .sender) ∙ sender in
         record {
-          exact = λ e. absurd (unmarked-other n e refl);
+          exact = λ e. absurd (other-unmarked n e refl);
           stopped = λ e. absurd (e alive);
           waiting = λ e. absurd (up-not-replay (sym alive ∙ e));
         }
@@ -232,19 +199,15 @@ module _ (l : Line) (g : Ghost) (cut base : ℕ → ℕ) (fed : List Act) (recei
 
     replay-own : Replays after g cut base n
     replay-own =
-        replays-keep l (l .steps) nodes (beside .lanes) g g n log time targets refl
-        (λ c h. ap (λ (x : Lane). x .taken) (lane-else b taken l c (λ q. apart (ap (λ (x : ℕ). channelAt (l .plan) x .sender) (sym q) ∙ h .1)))) cut cut base base
-        (λ c h r. elim (ℕ-discrete c b) [ yes q ↦ subst (λ (x : ℕ). Row after g (cut x) (base x) n x) (sym q) row-own | no d ↦ row-other c d h r ]) (λ c h. refl)
-        (λ c y t i. took-enters (g n) c y t (marked-took (inv .marks) (inv .nodes) n marked) i .1) old
+        replays-keep l (l .steps) nodes (beside .lanes) g g n log time targets refl cut cut base base
+        (λ c h. ap (λ (x : Lane). x .taken) (lane-else b taken l c (λ q. apart (ap (λ (x : ℕ). channelAt (l .plan) x .sender) (sym q) ∙ h .1)))) (λ c y t i. refl)
+        (λ c h r. elim (ℕ-discrete c b) [ yes q ↦ subst (λ (x : ℕ). Row after g (cut x) (base x) n x) (sym q) row-own | no d ↦ row-other c d h r ]) old
 
     replay-other : (k : ℕ) → k ≢ n → nodeAt after k .status ≡ replay → Replays after g cut base k
     unfolding withLane
     replay-other k d e =
         let was : nodeAt l k .status ≡ replay = sym (statuses k) ∙ e in
-        let same = others k d in
-        replays-stay beside (l .steps) nodes (beside .lanes) g g k same refl (λ c h. refl) cut cut base base
-        (λ c h row. row-stays beside (l .steps) nodes (beside .lanes) g g (cut c) (cut c) (base c) (base c) k c same refl (omega arith) refl refl row) (λ c h. refl)
-        (λ c y t i. took-enters (g k) c y t (marked-took (inv .marks) (inv .nodes) k (replay-marked (inv .marks) k was)) i .1)
+        replays-stay beside (l .steps) nodes (beside .lanes) g g k (others k d) refl cut cut base base (λ c h. refl) (λ c y t i. refl) (λ c h. (refl, omega arith, refl, refl))
         (replay-beside l g cut base fed receipts crashes inv b here m rest heardOf first sender k was d)
 
     after-inv : Inv after g cut base fed (receipts ++ receipt ∷ []) crashes
@@ -253,10 +216,16 @@ module _ (l : Line) (g : Ghost) (cut base : ℕ → ℕ) (fed : List Act) (recei
           shape = record { nodes-long = long ∙ inv .shape .nodes-long; lanes-long = lanes-long b taken l ∙ inv .shape .lanes-long };
           ordered = inv .ordered;
           marks = marks-stay l (l .steps) nodes (beside .lanes) crashes statuses marks (inv .marks);
-          nodes = after-nodes;
-          events = λ k. record { rise = inv .events k .rise; within = λ e. events-stay l (l .steps) nodes (beside .lanes) g g k (up-other k e) refl (inv .events k) .within e };
-          channels = λ c h. elim (ℕ-discrete c b) [ yes q ↦ subst (Channels after g cut) (sym q) channel-own | no d ↦ channel-other c d (inv .channels c h) ];
-          ends = λ c h. elim (ℕ-discrete c b) [ yes q ↦ subst (Ends after g) (sym q) ends-own | no d ↦ ends-other c d (inv .ends c h) ];
+          nodes = nodes-stay l (l .steps) nodes (beside .lanes) (λ k e. others k (other-unmarked k e)) (λ k e. receipt-else receipts receipt k (other-unmarked k e)) (inv .nodes);
+          events = λ k. events-stay l (l .steps) nodes (beside .lanes) g g k (up-other k) refl (inv .events k);
+          channels = λ c h. elim (ℕ-discrete c b) [
+            | yes q ↦ subst (Channels after g cut) (sym q) channel-own
+            | no d ↦ channel-stays l (l .steps) nodes (beside .lanes) g g c (statuses (channelAt (l .plan) c .sender)) (statuses (channelAt (l .plan) c .receiver)) (lane-else b taken l c d) refl (up-other (channelAt (l .plan) c .sender)) cut cut refl refl (inv .channels c h)
+          ];
+          ends = λ c h. elim (ℕ-discrete c b) [
+            | yes q ↦ subst (Ends after g) (sym q) ends-own
+            | no d ↦ ends-stay l (l .steps) nodes (beside .lanes) g g c (statuses (channelAt (l .plan) c .sender)) (statuses (channelAt (l .plan) c .receiver)) (lane-else b taken l c d) refl (marks (channelAt (l .plan) c .receiver)) (inv .ends c h)
+          ];
           replays = λ k e. elim (ℕ-discrete k n) [ yes q ↦ subst (Replays after g cut base) (sym q) replay-own | no d ↦ replay-other k d e ];
         }
 

@@ -14,15 +14,14 @@ use Rattle.rules.specs.Line.{Message, Status, up, down, replay, Node, La
 use Rattle.rules.specs.Replay.{passedOn}
 use Rattle.rules.proofs.ListLaws.{keep-append, map-append, nil-right}
 use Rattle.rules.proofs.Rising.{until, past, Rises, Within}
-use Rattle.rules.proofs.Members.{In}
 use Rattle.rules.proofs.LineLaws.{node-else}
-use Rattle.rules.proofs.Ghost.{Event, tookAt, Ghost, eventTime, sentOf, takesMessage, put, got, gotOne, later, later-there, put-there, put-else, got-there, got-else}
+use Rattle.rules.proofs.Ghost.{Event, Ghost, eventTime, sentOf, takesMessage, put, got, gotOne, later, later-there, put-there, put-else, got-there, got-else}
 use Rattle.rules.proofs.Passing.{passing}
 use Rattle.rules.proofs.Inv.{timeOf, isUp, Enters, Marks, Events, Ends, Replays}
 use Rattle.rules.proofs.InvLaws.{up-not-replay}
 use Rattle.rules.proofs.Grow.{rises-more, within-more, until-more}
 use Rattle.rules.proofs.Logging.{nodeLogs, status-kept, mark-kept, time-there}
-use Rattle.rules.proofs.Stays.{marks-stay, events-stay, replays-stay, row-stays}
+use Rattle.rules.proofs.Stays.{marks-stay, events-stay, replays-stay}
 
 module _ (l : Line) (n : ℕ) (e : Event) (there : n < length (l .nodes)) (own : eventTime e ≡ suc (nodeAt l n .time)) (alive : isUp l n) where
   abbrev pub after : Line
@@ -50,7 +49,7 @@ module _ (l : Line) (n : ℕ) (e : Event) (there : n < length (l .nodes)) (own :
               within = λ h. subst (λ (x : ℕ). Within timeOf x (passing (l .plan) m (later g n e m))) (sym (ap (λ (x : ℕ). nodeAt after x .time) q ∙ time-there l n e there own))
                   (subst (λ (x : List Message). Within timeOf (eventTime e) x) (sym (more-passing g m q)) (within-more t (sentOf (l .plan) m e) w late));
             })
-        | no d ↦ events-stay l (l .steps) (after .nodes) (l .lanes) g (later g n e) m (node-else n (nodeLogs l n e) l m d) (changed-else g n (g n ++ e ∷ []) m d) v
+        | no d ↦ events-stay l (l .steps) (after .nodes) (l .lanes) g (later g n e) m (λ _. node-else n (nodeLogs l n e) l m d) (changed-else g n (g n ++ e ∷ []) m d) v
       ]
 
   got-kept : (g : Ghost) (b : ℕ) → gotOne b e ≡ [] → got (l .plan) (later g n e) b ≡ got (l .plan) g b
@@ -72,12 +71,11 @@ module _ (l : Line) (n : ℕ) (e : Event) (there : n < length (l .nodes)) (own :
   -- A replay elsewhere: what its rows have taken lies before the event.
   pub logging-replays : (g : Ghost) (cut base : ℕ → ℕ) (m : ℕ) → nodeAt (withNode n (nodeLogs l n e) l) m .status ≡ replay
       → ((b : ℕ) → Enters (l .plan) m b → channelAt (l .plan) b .sender ≡ n → laneAt l b .taken ≤ nodeAt l n .time)
-      → ((b : ℕ) (x : Message) (t : ℕ) → In (tookAt b x t) (g m) → channelAt (l .plan) b .receiver ≡ m) → Replays l g cut base m → Replays (withNode n (nodeLogs l n e) l) (later g n e) cut base m
+      → Replays l g cut base m → Replays (withNode n (nodeLogs l n e) l) (later g n e) cut base m
   unfolding withNode
-  logging-replays g cut base m replaying before own-events r =
-      let same = node-else n (nodeLogs l n e) l m apart in
-      replays-stay l (l .steps) (after .nodes) (l .lanes) g (later g n e) m same (changed-else g n (g n ++ e ∷ []) m apart) (λ c h. refl) cut cut base base
-      (λ b h row. row-stays l (l .steps) (after .nodes) (l .lanes) g (later g n e) (cut b) (cut b) (base b) (base b) m b same refl (omega arith) refl (puts b h) row) (λ b h. refl) own-events r
+  logging-replays g cut base m replaying before r =
+      replays-stay l (l .steps) (after .nodes) (l .lanes) g (later g n e) m (node-else n (nodeLogs l n e) l m apart) (changed-else g n (g n ++ e ∷ []) m apart) cut cut base base
+      (λ c h. refl) (λ b x t i. refl) (λ b h. (refl, omega arith, refl, puts b h)) r
     where
       apart : m ≢ n
       apart q = up-not-replay (sym (status-kept l n e there n ∙ alive) ∙ ap (λ (x : ℕ). nodeAt (withNode n (nodeLogs l n e) l) x .status) (sym q) ∙ replaying)

@@ -22,9 +22,9 @@ use Rattle.rules.proofs.Witness.{Taken}
 use Rattle.rules.proofs.Ghost.{Event, Ghost, inputOf, entryOf, sentOf, takesMessage, put, got, gotOf, logPut}
 use Rattle.rules.proofs.Passing.{passing}
 use Rattle.rules.proofs.Inv.{timeOf, isUp, Enters, Leaves, Marks, Nodes, Shape, SenderUp, Channels, Events, Ends, Replays, Inv}
-use Rattle.rules.proofs.InvLaws.{took-enters, up-not-replay, replay-not-down, replay-marked, marked-took}
+use Rattle.rules.proofs.InvLaws.{up-not-replay, replay-not-down, replay-marked}
 use Rattle.rules.proofs.MarkedLaws.{at-ends, sender-other, receiver-other, parent-unmarked, child-unmarked}
-use Rattle.rules.proofs.Stays.{moved, channel-stays, ends-stay, events-stay, replays-stay, row-stays}
+use Rattle.rules.proofs.Stays.{moved, unmarked-other, marks-beside, channel-stays, ends-stay, events-stay, replays-stay}
 use Rattle.rules.proofs.Grow.{sender-same, sender-receiving}
 use Rattle.rules.proofs.RebuildEvents.{Rebuilding, row, events, ghost, got-rebuilt, took-rebuilt, rise-rebuilt, within-rebuilt, put-rebuilt, put-rises, put-within, until-rebuilt}
 
@@ -160,26 +160,11 @@ module _ (l : Line) (g : Ghost) (cut base : ℕ → ℕ) (fed : List Act) (recei
         waiting = λ e. absurd (up-not-replay (sym up-now ∙ e));
       }
 
-  unmarked-other : (m : ℕ) → nodeAt k m .crashed ≡ false → m ≢ n
-  unmarked-other m e q = true≢false (sym (ap (λ (x : ℕ). nodeAt k x .crashed) q ∙ still-marked) ∙ e)
+  other-unmarked : (m : ℕ) → nodeAt k m .crashed ≡ false → m ≢ n
+  other-unmarked = unmarked-other l steps nodes (l .lanes) n still-marked other
 
   unmarked-was : (m : ℕ) → nodeAt k m .crashed ≡ false → nodeAt l m .crashed ≡ false
-  unmarked-was m e = ap (λ (x : Node). x .crashed) (sym (other m (unmarked-other m e))) ∙ e
-
-  mark-same : (m : ℕ) → nodeAt k m .crashed ≡ nodeAt l m .crashed
-  mark-same m = elim (ℕ-discrete m n) [
-    | yes q ↦ ap (λ (x : ℕ). nodeAt k x .crashed) q ∙ still-marked ∙ sym (ap (λ (x : ℕ). nodeAt l x .crashed) q ∙ marked)
-    | no d ↦ ap (λ (x : Node). x .crashed) (other m d)
-  ]
-
-  rebuild-marks : Marks k crashes
-  rebuild-marks =
-      record {
-        were-named = λ m e. mark-same m ∙ inv .marks .were-named m e;
-        not-joined = λ b h e. mark-same (channelAt (l .plan) b .receiver) ∙ inv .marks .not-joined b h (sym (mark-same (channelAt (l .plan) b .sender)) ∙ e);
-        between = λ m e. inv .marks .between m (sym (mark-same m) ∙ e);
-        stopped = λ m e. ap (λ (x : Node). x .status) (other m (unmarked-other m e)) ∙ inv .marks .stopped m (unmarked-was m e);
-      }
+  unmarked-was m e = ap (λ (x : Node). x .crashed) (sym (other m (other-unmarked m e))) ∙ e
 
   rebuild-nodes : Nodes k ghostAfter fed receipts
   rebuild-nodes =
@@ -196,9 +181,9 @@ module _ (l : Line) (g : Ghost) (cut base : ℕ → ℕ) (fed : List Act) (recei
           ],
         );
         beyond = λ m h. ghost-other m (λ q. omega arith) ∙ old .beyond m h;
-        received = λ m e. old .received m (unmarked-was m e) ∙ ap (λ (x : List Event). receiptsIn (l .plan) m (map inputOf x)) (sym (ghost-other m (unmarked-other m e)));
+        received = λ m e. old .received m (unmarked-was m e) ∙ ap (λ (x : List Event). receiptsIn (l .plan) m (map inputOf x)) (sym (ghost-other m (other-unmarked m e)));
         logged = λ m e.
-            (let d = unmarked-other m e in
+            (let d = other-unmarked m e in
             ap (λ (x : Node). x .log) (other m d) ∙ old .logged m (unmarked-was m e) ∙ ap (map (entryOf (l .plan) m)) (sym (ghost-other m d)));
       }
 
@@ -210,7 +195,7 @@ module _ (l : Line) (g : Ghost) (cut base : ℕ → ℕ) (fed : List Act) (recei
           within = λ e. subst (λ (x : Node). Within timeOf (x .time) (passing (l .plan) n (ghostAfter n))) (sym now)
               (subst (λ (x : List Event). Within timeOf T (passing (l .plan) n x)) (sym (ghost-now n refl)) (within-rebuilt l g cut base fed receipts crashes inv n replaying T fs r));
         })
-    | no d ↦ events-stay l steps nodes (l .lanes) g ghostAfter m (other m d) (ghost-other m d) (inv .events m)
+    | no d ↦ events-stay l steps nodes (l .lanes) g ghostAfter m (λ _. other m d) (ghost-other m d) (inv .events m)
   ]
 
   -- Another node that replays is not joined to this one.
@@ -221,21 +206,20 @@ module _ (l : Line) (g : Ghost) (cut base : ℕ → ℕ) (fed : List Act) (recei
       let old : nodeAt l m .status ≡ replay = ap (λ (x : Node). x .status) (sym same) ∙ e in
       let mark = replay-marked (inv .marks) m old in
       let apart : (b : ℕ) → Enters (l .plan) m b → channelAt (l .plan) b .sender ≢ n = λ b h q. true≢false (sym mark ∙ ap (λ (x : ℕ). nodeAt l x .crashed) (sym (h .1)) ∙ child-unmarked inv n marked b (h .0, q)) in
-      replays-stay l steps nodes (l .lanes) g ghostAfter m same (ghost-other m d) (λ c h. refl) cut cutAfter base base
-      (λ b h w. row-stays l steps nodes (l .lanes) g ghostAfter (cut b) (cutAfter b) (base b) (base b) m b same refl (omega (arith, cut-other b (λ q. d (sym (h .1) ∙ q)))) refl (ap (until timeOf (laneAt l b .taken)) (put-other b (apart b h))) w) (λ b h. refl)
-      (λ b y t i. took-enters (g m) b y t (marked-took (inv .marks) (inv .nodes) m mark) i .1) (inv .replays m old)
+      replays-stay l steps nodes (l .lanes) g ghostAfter m same (ghost-other m d) cut cutAfter base base (λ c h. refl) (λ b y t i. refl)
+      (λ b h. (refl, omega (arith, cut-other b (λ q. d (sym (h .1) ∙ q))), refl, ap (until timeOf (laneAt l b .taken)) (put-other b (apart b h)))) (inv .replays m old)
 
   pub rebuild-inv : Inv k ghostAfter cutAfter base fed receipts crashes
   rebuild-inv =
       record {
         shape = record { nodes-long = long ∙ inv .shape .nodes-long; lanes-long = inv .shape .lanes-long };
         ordered = inv .ordered;
-        marks = rebuild-marks;
+        marks = marks-beside l steps nodes (l .lanes) n still-marked other crashes marked (inv .marks);
         nodes = rebuild-nodes;
         events = rebuild-events;
         channels = λ c h. at-ends (l .plan) n c h (channel-enters c) (channel-leaves c)
-            (λ d e. channel-stays l steps nodes (l .lanes) g ghostAfter c (other (channelAt (l .plan) c .sender) e) (ap (λ (x : Node). x .status) (other (channelAt (l .plan) c .receiver) d)) refl (got-other c d) cut cutAfter (put-other c e) (cut-other c d) (inv .channels c h));
+            (λ d e. channel-stays l steps nodes (l .lanes) g ghostAfter c (ap (λ (x : Node). x .status) (other (channelAt (l .plan) c .sender) e)) (ap (λ (x : Node). x .status) (other (channelAt (l .plan) c .receiver) d)) refl (got-other c d) (λ _. other (channelAt (l .plan) c .sender) e) cut cutAfter (put-other c e) (cut-other c d) (inv .channels c h));
         ends = λ c h. at-ends (l .plan) n c h (ends-enters c) (ends-leaves c)
-            (λ d e. ends-stay l steps nodes (l .lanes) g ghostAfter c (other (channelAt (l .plan) c .sender) e) (ap (λ (x : Node). x .status) (other (channelAt (l .plan) c .receiver) d)) refl (got-other c d) (ap (λ (x : Node). x .crashed) (other (channelAt (l .plan) c .receiver) d)) (inv .ends c h));
+            (λ d e. ends-stay l steps nodes (l .lanes) g ghostAfter c (ap (λ (x : Node). x .status) (other (channelAt (l .plan) c .sender) e)) (ap (λ (x : Node). x .status) (other (channelAt (l .plan) c .receiver) d)) refl (got-other c d) (ap (λ (x : Node). x .crashed) (other (channelAt (l .plan) c .receiver) d)) (inv .ends c h));
         replays = rebuild-replays;
       }

@@ -33,7 +33,7 @@ use Rattle.rules.proofs.Children.{Child, triples-from, triples-of, rest
 use Rattle.rules.proofs.Inv.{timeOf, isUp, Enters, Leaves, Reached, targetFrom, Marks, Nodes, Shape, SenderUp, Channels, Events, Ends, Row, Replays, Inv}
 use Rattle.rules.proofs.InvLaws.{took-enters, up-not-replay, up-not-down, replay-not-down, marked-unless-up, replay-marked, marked-took}
 use Rattle.rules.proofs.MarkedLaws.{at-ends, sender-other, receiver-other, parent-unmarked, child-unmarked, parent-up, child-up, own, got-rises, taken-put}
-use Rattle.rules.proofs.Stays.{moved, channel-stays, ends-stay, events-stay, replays-stay, row-stays}
+use Rattle.rules.proofs.Stays.{moved, unmarked-same, marks-beside, nodes-stay, reached-back, reached-on, channel-stays, ends-stay, events-stay, replays-stay}
 use Rattle.rules.proofs.Swept.{swept, swept-line, swept-long, swept-enters, swept-leaves, swept-else}
 use Rattle.rules.proofs.RebuildEvents.{Rebuilding}
 use Rattle.rules.proofs.RebuildInv.{ghostAfter, cutAfter, rebuild-inv}
@@ -203,12 +203,6 @@ module _ (l : Line) (g : Ghost) (cut base : ℕ → ℕ) (fed : List Act) (recei
         waiting = λ e. ap (λ (x : Lane). x .mark) (lane-leaves c h) ∙ sym (taken-leaves c h);
       }
 
-  reached-on : (m : Message) (t : ℕ) → Reached l n m t → Reached r n m t
-  reached-on m t x = record { channel = x .channel; on-plan = x .on-plan; leaves = x .leaves; takes-it = x .takes-it; in-time = omega (arith, x .in-time, taken-leaves (x .channel) (x .on-plan, x .leaves)) }
-
-  reached-back : (m : Message) (t : ℕ) → Reached r n m t → Reached l n m t
-  reached-back m t x = record { channel = x .channel; on-plan = x .on-plan; leaves = x .leaves; takes-it = x .takes-it; in-time = omega (arith, x .in-time, taken-leaves (x .channel) (x .on-plan, x .leaves)) }
-
   time-now : nodeAt r n .time ≡ lowOf l n
   time-now = ap (λ (x : Node). x .time) (node-now replay)
 
@@ -235,10 +229,10 @@ module _ (l : Line) (g : Ghost) (cut base : ℕ → ℕ) (fed : List Act) (recei
         target-from = λ u i.
             (let (j, late) = targets-from l n u (subst (λ (x : List Target). In u x) targets-now i) in
             let (b, m, t, on, is, reached) = triples-from l g n (inv .ordered) took-own child u j in
-            (b, m, t, on, is, omega (arith, time-now, late, ap (λ (x : Target). x .time) is), reached-on m t reached));
+            (b, m, t, on, is, omega (arith, time-now, late, ap (λ (x : Target). x .time) is), reached-on l (l .steps) (r .nodes) (r .lanes) n taken-leaves reached));
         target-of = λ b m t i late reached.
             subst (λ (x : List Target). In (targetFrom (l .plan) b m t) x) (sym targets-now)
-            (targets-of l n (targetFrom (l .plan) b m t) (triples-of l g n (inv .ordered) took-own child b m t i (reached-back m t reached)) (omega (arith, time-now)));
+            (targets-of l n (targetFrom (l .plan) b m t) (triples-of l g n (inv .ordered) took-own child b m t i (reached-back l (l .steps) (r .nodes) (r .lanes) n taken-leaves reached)) (omega (arith, time-now)));
         base-cuts = λ b m t i goes.
             (let (on, into) = took-enters (g n) b m t took-own i in
             let is = base-now b into in
@@ -262,19 +256,9 @@ module _ (l : Line) (g : Ghost) (cut base : ℕ → ℕ) (fed : List Act) (recei
       λ b h. lane-other b (λ q. d (sym (h .1) ∙ q)) (λ q. true≢false (sym mark ∙ ap (λ (x : ℕ). nodeAt l x .crashed) (sym (h .1)) ∙ child-unmarked inv n marked b (h .0, q))) in
       let out : (c : ℕ) → Leaves (l .plan) m c → laneAt r c ≡ laneAt l c =
       λ c h. lane-other c (λ q. true≢false (sym mark ∙ ap (λ (x : ℕ). nodeAt l x .crashed) (sym (h .1)) ∙ parent-unmarked inv n marked c (h .0, q))) (λ q. d (sym (h .1) ∙ q)) in
-      replays-stay l (l .steps) (r .nodes) (r .lanes) g g m same refl (λ c h. ap (λ (x : Lane). x .taken) (out c h)) cut cut base baseAfter
-      (λ b h w. row-stays l (l .steps) (r .nodes) (r .lanes) g g (cut b) (cut b) (base b) (baseAfter b) m b same (ap (λ (x : Lane). x .taken) (into b h)) (omega arith) (base-other b (λ q. d (sym (h .1) ∙ q))) refl w)
-      (λ b q. base-other b (λ z. d (sym q ∙ z)))
-      (λ b y t i. took-enters (g m) b y t (marked-took (inv .marks) (inv .nodes) m mark) i .1) (inv .replays m old)
-
-  mark-same : (m : ℕ) → nodeAt r m .crashed ≡ nodeAt l m .crashed
-  mark-same m = elim (ℕ-discrete m n) [
-    | yes q ↦ ap (λ (x : ℕ). nodeAt r x .crashed) q ∙ still-marked ∙ sym (ap (λ (x : ℕ). nodeAt l x .crashed) q ∙ marked)
-    | no d ↦ ap (λ (x : Node). x .crashed) (node-other replay m d)
-  ]
-
-  unmarked-same : (m : ℕ) → nodeAt r m .crashed ≡ false → nodeAt r m ≡ nodeAt l m
-  unmarked-same m e = node-other replay m (λ q. true≢false (sym (ap (λ (x : ℕ). nodeAt r x .crashed) q ∙ still-marked) ∙ e))
+      replays-stay l (l .steps) (r .nodes) (r .lanes) g g m same refl cut cut base baseAfter (λ c h. ap (λ (x : Lane). x .taken) (out c h))
+      (λ b y t i. base-other b (λ q. d (sym (took-enters (g m) b y t (marked-took (inv .marks) (inv .nodes) m mark) i .1) ∙ q)))
+      (λ b h. (ap (λ (x : Lane). x .taken) (into b h), omega arith, base-other b (λ q. d (sym (h .1) ∙ q)), refl)) (inv .replays m old)
 
   restored-shape : Shape r
   unfolding withNode recovered
@@ -288,28 +272,13 @@ module _ (l : Line) (g : Ghost) (cut base : ℕ → ℕ) (fed : List Act) (recei
       record {
         shape = restored-shape;
         ordered = inv .ordered;
-        marks = record {
-          were-named = λ m e. mark-same m ∙ inv .marks .were-named m e;
-          not-joined = λ b h e. mark-same (channelAt (l .plan) b .receiver) ∙ inv .marks .not-joined b h (sym (mark-same (channelAt (l .plan) b .sender)) ∙ e);
-          between = λ m e. inv .marks .between m (sym (mark-same m) ∙ e);
-          stopped = λ m e. ap (λ (x : Node). x .status) (unmarked-same m e) ∙ inv .marks .stopped m (sym (mark-same m) ∙ e);
-        };
-        nodes = record {
-          only-feeds = inv .nodes .only-feeds;
-          sources = inv .nodes .sources;
-          others = inv .nodes .others;
-          beyond = inv .nodes .beyond;
-          received = λ m e. inv .nodes .received m (sym (mark-same m) ∙ e);
-          logged = λ m e. ap (λ (x : Node). x .log) (unmarked-same m e) ∙ inv .nodes .logged m (sym (mark-same m) ∙ e);
-        };
-        events = λ m. elim (ℕ-discrete m n) [
-          | yes q ↦ record { rise = inv .events m .rise; within = λ e. absurd (up-not-replay (sym e ∙ ap (λ (x : ℕ). nodeAt r x .status) q ∙ now-replays)) }
-          | no d ↦ events-stay l (l .steps) (r .nodes) (r .lanes) g g m (node-other replay m d) refl (inv .events m)
-        ];
+        marks = marks-beside l (l .steps) (r .nodes) (r .lanes) n still-marked (node-other replay) crashes marked (inv .marks);
+        nodes = nodes-stay l (l .steps) (r .nodes) (r .lanes) (unmarked-same l (l .steps) (r .nodes) (r .lanes) n still-marked (node-other replay)) (λ m e. refl) (inv .nodes);
+        events = λ m. events-stay l (l .steps) (r .nodes) (r .lanes) g g m (λ e. node-other replay m (λ q. up-not-replay (sym e ∙ ap (λ (x : ℕ). nodeAt r x .status) q ∙ now-replays))) refl (inv .events m);
         channels = λ c h. at-ends (l .plan) n c h (channel-enters c) (channel-leaves c)
-            (λ d e. channel-stays l (l .steps) (r .nodes) (r .lanes) g g c (node-other replay (channelAt (l .plan) c .sender) e) (ap (λ (x : Node). x .status) (node-other replay (channelAt (l .plan) c .receiver) d)) (lane-other c d e) refl cut cut refl refl (inv .channels c h));
+            (λ d e. channel-stays l (l .steps) (r .nodes) (r .lanes) g g c (ap (λ (x : Node). x .status) (node-other replay (channelAt (l .plan) c .sender) e)) (ap (λ (x : Node). x .status) (node-other replay (channelAt (l .plan) c .receiver) d)) (lane-other c d e) refl (λ _. node-other replay (channelAt (l .plan) c .sender) e) cut cut refl refl (inv .channels c h));
         ends = λ c h. at-ends (l .plan) n c h (ends-enters c) (ends-leaves c)
-            (λ d e. ends-stay l (l .steps) (r .nodes) (r .lanes) g g c (node-other replay (channelAt (l .plan) c .sender) e) (ap (λ (x : Node). x .status) (node-other replay (channelAt (l .plan) c .receiver) d)) (lane-other c d e) refl (ap (λ (x : Node). x .crashed) (node-other replay (channelAt (l .plan) c .receiver) d)) (inv .ends c h));
+            (λ d e. ends-stay l (l .steps) (r .nodes) (r .lanes) g g c (ap (λ (x : Node). x .status) (node-other replay (channelAt (l .plan) c .sender) e)) (ap (λ (x : Node). x .status) (node-other replay (channelAt (l .plan) c .receiver) d)) (lane-other c d e) refl (ap (λ (x : Node). x .crashed) (node-other replay (channelAt (l .plan) c .receiver) d)) (inv .ends c h));
         replays = λ m e. elim (ℕ-discrete m n) [
           | yes q ↦ subst (Replays r g cut baseAfter) (sym q) replays-now
           | no d ↦ replays-other m d e

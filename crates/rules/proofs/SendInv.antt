@@ -16,14 +16,9 @@ use Rattle.rules.specs.Plain.{Act, Receipt}
 use Rattle.rules.proofs.LineLaws.{lane-there, lane-else}
 use Rattle.rules.proofs.Ghost.{Ghost}
 use Rattle.rules.proofs.Inv.{Inv, Shape, isUp, Ends, Enters, Leaves, Nodes}
-use Rattle.rules.proofs.InvLaws.{replay-marked, marked-took, took-enters, up-not-replay}
-use Rattle.rules.proofs.Stays.{marks-stay, events-stay, ends-stay, replays-stay, row-stays}
+use Rattle.rules.proofs.InvLaws.{up-not-replay}
+use Rattle.rules.proofs.Stays.{marks-stay, nodes-stay, events-stay, ends-stay, replays-stay}
 use Rattle.rules.proofs.SendKeeps.{send-channels}
-
--- The nodes' part knows nothing of lanes.
-pub nodes-beside : {l : Line} {g : Ghost} {fed : List Act} {receipts : List Receipt} (b : ℕ) (x : Lane) → Nodes l g fed receipts → Nodes (withLane b x l) g fed receipts
-unfolding withLane
-nodes-beside b x n = record { only-feeds = n .only-feeds; sources = n .sources; others = n .others; beyond = n .beyond; received = n .received; logged = n .logged }
 
 pub shape-beside : {l : Line} (b : ℕ) (x : Lane) → Shape l → Shape (withLane b x l)
 unfolding withLane
@@ -38,8 +33,8 @@ module _ (l : Line) (g : Ghost) (cut base : ℕ → ℕ) (fed : List Act) (recei
         shape = shape-beside b x (inv .shape);
         ordered = inv .ordered;
         marks = marks-stay l (l .steps) (l .nodes) lanes crashes (λ n. refl) (λ n. refl) (inv .marks);
-        nodes = nodes-beside b x (inv .nodes);
-        events = λ n. events-stay l (l .steps) (l .nodes) lanes g g n refl refl (inv .events n);
+        nodes = nodes-stay l (l .steps) (l .nodes) lanes (λ n e. refl) (λ n e. refl) (inv .nodes);
+        events = λ n. events-stay l (l .steps) (l .nodes) lanes g g n (λ _. refl) refl (inv .events n);
         channels = λ c h. send-channels l (inv .shape) g cut b here e first sender receiver c (inv .channels c h);
         ends = λ c h. elim (ℕ-discrete c b) [
           | yes q ↦ subst (Ends (withLane b x l) g) (sym q)
@@ -51,9 +46,7 @@ module _ (l : Line) (g : Ghost) (cut base : ℕ → ℕ) (fed : List Act) (recei
           | no d ↦ ends-stay l (l .steps) (l .nodes) lanes g g c refl refl (lane-else b x l c d) refl refl (inv .ends c h)
         ];
         replays = λ n q.
-            replays-stay l (l .steps) (l .nodes) lanes g g n refl refl (λ c h. taken-same c) cut cut base base
-            (λ c h row. row-stays l (l .steps) (l .nodes) lanes g g (cut c) (cut c) (base c) (base c) n c refl (taken-same c) (omega arith) refl refl row) (λ c h. refl)
-            (λ c y t i. took-enters (g n) c y t (marked-took (inv .marks) (inv .nodes) n (replay-marked (inv .marks) n q)) i .1) (inv .replays n q);
+            replays-stay l (l .steps) (l .nodes) lanes g g n refl refl cut cut base base (λ c h. taken-same c) (λ c y t i. refl) (λ c h. (taken-same c, omega arith, refl, refl)) (inv .replays n q);
       }
     where
       x : Lane

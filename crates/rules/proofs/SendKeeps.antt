@@ -22,6 +22,7 @@ use Rattle.rules.proofs.LineLaws.{lane-there, lane-else}
 use Rattle.rules.proofs.Ghost.{Ghost, takesMessage, put, got, logPut}
 use Rattle.rules.proofs.Inv.{timeOf, isUp, Shape, SenderUp, Channels}
 use Rattle.rules.proofs.Grow.{sender-sends, sender-same}
+use Rattle.rules.proofs.Stays.{channel-beside}
 
 abbrev chosenFrom : Channel → ℕ → List Entry → List Message
 chosenFrom c mark log = past timeOf mark (keep (λ (m : Message). takes c (m .what)) (map messageOf log))
@@ -69,10 +70,5 @@ module _ (l : Line) (shape : Shape l) (g : Ghost) (cut : ℕ → ℕ) (b : ℕ) 
               cut-up = λ h. k′ .cut-up h ∙ ap (λ (x : Lane). x .taken) (sym lane-now);
               sender-up = λ h. sender-same refl (sym lane-now) refl refl refl (sender-sends (messageOf e) (next-in-log .0) receiver (k′ .rises) (next-in-log .1) (k′ .sender-up sender));
             })
-        | no d ↦ record {
-          rises = k .rises;
-          cut-is = k .cut-is;
-          cut-up = λ h. k .cut-up h ∙ ap (λ (x : Lane). x .taken) (sym (lane-else b (sentOn e (laneAt l b)) l c d));
-          sender-up = λ h. sender-same refl (sym (lane-else b (sentOn e (laneAt l b)) l c d)) refl refl refl (k .sender-up h);
-        }
+        | no d ↦ channel-beside l g cut b c (sentOn e (laneAt l b)) d k
       ]

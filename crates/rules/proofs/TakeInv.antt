@@ -19,8 +19,8 @@ use Rattle.rules.proofs.Members.{greatest-snoc}
 use Rattle.rules.proofs.LineLaws.{lane-there, lane-else}
 use Rattle.rules.proofs.Ghost.{Event, tookAt, Ghost, got, gotOne, later, got-there}
 use Rattle.rules.proofs.Inv.{Inv, Shape, isUp, timeOf, Ends, Enters, Leaves, Events, Replays}
-use Rattle.rules.proofs.InvLaws.{replay-marked, marked-took, took-enters, up-not-replay}
-use Rattle.rules.proofs.Stays.{marks-stay, events-stay, ends-stay, replays-stay, row-stays, replays-cut}
+use Rattle.rules.proofs.InvLaws.{up-not-replay}
+use Rattle.rules.proofs.Stays.{marks-stay, events-stay, ends-stay, replays-stay, replays-cut}
 use Rattle.rules.proofs.Logging.{nodeLogs, status-kept, mark-kept}
 use Rattle.rules.proofs.LoggingMore.{logging-marks, logging-events, logging-ends, logging-replays}
 use Rattle.rules.proofs.TakeKeeps.{take-channels, take-nodes}
@@ -52,9 +52,8 @@ module _ (l : Line) (g : Ghost) (cut base : ℕ → ℕ) (fed : List Act) (recei
     pub replay-beside : Replays beside g cut base k
     unfolding withLane
     replay-beside =
-        replays-stay l (l .steps) (l .nodes) (beside .lanes) g g k refl refl (λ c h. ap (λ (x : Lane). x .taken) (leaving-other c h)) cut cut base base
-        (λ c h row. row-stays l (l .steps) (l .nodes) (beside .lanes) g g (cut c) (cut c) (base c) (base c) k c refl (ap (λ (x : Lane). x .taken) (entering-other c h)) (omega arith) refl refl row) (λ c h. refl)
-        (λ c y t i. took-enters (g k) c y t (marked-took (inv .marks) (inv .nodes) k (replay-marked (inv .marks) k replaying)) i .1) (inv .replays k replaying)
+        replays-stay l (l .steps) (l .nodes) (beside .lanes) g g k refl refl cut cut base base (λ c h. ap (λ (x : Lane). x .taken) (leaving-other c h)) (λ c y t i. refl)
+        (λ c h. (ap (λ (x : Lane). x .taken) (entering-other c h), omega arith, refl, refl)) (inv .replays k replaying)
 
   module _ (receiver : isUp l n) where
     abbrev pub event : Event
@@ -86,7 +85,7 @@ module _ (l : Line) (g : Ghost) (cut base : ℕ → ℕ) (fed : List Act) (recei
           ordered = inv .ordered;
           marks = logging-marks beside n event there refl receiver crashes (marks-stay l (l .steps) (l .nodes) (beside .lanes) crashes (λ k. refl) (λ k. refl) (inv .marks));
           nodes = take-nodes l (inv .shape) (inv .ordered) g b here m rest heardOf fed receipts (inv .nodes);
-          events = λ k. logging-events beside n event there refl receiver g k (events-stay l (l .steps) (l .nodes) (beside .lanes) g g k refl refl (inv .events k));
+          events = λ k. logging-events beside n event there refl receiver g k (events-stay l (l .steps) (l .nodes) (beside .lanes) g g k (λ _. refl) refl (inv .events k));
           channels = take-channels l (inv .shape) (inv .ordered) g cut b here m rest heardOf first sender receiver (inv .channels);
           ends = λ c h. elim (ℕ-discrete c b) [
             | yes q ↦ subst (Ends (withNode n (nodeLogs beside n event) beside) (later g n event)) (sym q) own-ends
@@ -99,5 +98,5 @@ module _ (l : Line) (g : Ghost) (cut base : ℕ → ℕ) (fed : List Act) (recei
               let calm = replay-beside k old apart in
               replays-cut (withNode n (nodeLogs beside n event) beside) (later g n event) cut (changed cut b (m .time)) base k (λ c h. cut-other k apart c h) (logging-replays beside n event there refl receiver g cut base k q
               (λ c h s. rw (entering-other k old apart c h) (subst (λ (x : ℕ). laneAt l c .taken ≤ nodeAt l x .time) s (inv .channels c (h .0) .sender-up (ap (λ (x : ℕ). nodeAt l x .status) s ∙ receiver) .taken-within)))
-              (λ c y t i. took-enters (g k) c y t (marked-took (inv .marks) (inv .nodes) k (replay-marked (inv .marks) k old)) i .1) calm));
+              calm));
         }

@@ -26,9 +26,10 @@ use Rattle.rules.proofs.Ghost.{Event, tookAt, Ghost, inputOf, entryOf, 
 use Rattle.rules.proofs.Inv.{timeOf, isUp, Shape, Ordered, Nodes, SenderUp, Channels}
 use Rattle.rules.proofs.Joins.{no-source}
 use Rattle.rules.proofs.Grow.{sender-taken, sender-same, sender-receiving}
+use Rattle.rules.proofs.Stays.{channel-beside}
 use Rattle.rules.proofs.Logging.{nodeLogs, status-kept, mark-kept, log-there, logging-keeps, log-put-else}
 
--- A channel whose cut is said in another way, and one whose lane another channel's change leaves.
+-- A channel whose cut is said in another way.
 pub channel-cut : (l : Line) (g : Ghost) (cut cut′ : ℕ → ℕ) (c : ℕ) → cut c ≡ cut′ c → Channels l g cut c → Channels l g cut′ c
 channel-cut l g cut cut′ c e k =
     record {
@@ -36,16 +37,6 @@ channel-cut l g cut cut′ c e k =
       cut-is = k .cut-is ∙ ap (λ (t : ℕ). until timeOf t (put (l .plan) g c)) e;
       cut-up = λ h. sym e ∙ k .cut-up h;
       sender-up = λ h. sender-same refl refl refl refl e (k .sender-up h);
-    }
-
-pub channel-beside : (l : Line) (g : Ghost) (cut : ℕ → ℕ) (b c : ℕ) (x : Lane) → c ≢ b → Channels l g cut c → Channels (withLane b x l) g cut c
-unfolding withLane logPut
-channel-beside l g cut b c x d k =
-    record {
-      rises = k .rises;
-      cut-is = k .cut-is;
-      cut-up = λ h. k .cut-up h ∙ ap (λ (y : Lane). y .taken) (sym (lane-else b x l c d));
-      sender-up = λ h. sender-same refl (sym (lane-else b x l c d)) refl refl refl (k .sender-up h);
     }
 
 module _ (l : Line) (shape : Shape l) (ordered : Ordered (l .plan)) (g : Ghost) (cut : ℕ → ℕ) (b : ℕ) (here : b < channelCount (l .plan)) (m : Message) (rest : List Message) (heardOf : List ℕ)
