@@ -21,8 +21,8 @@ use Rattle.rules.proofs.Members.{In, in-none, in-keep, keep-in, in-map,
 use Rattle.rules.proofs.Witness.{Taken}
 use Rattle.rules.proofs.Ghost.{Event, tookAt, Ghost, inputOf, entryOf, sentOf, takesMessage, put, got}
 use Rattle.rules.proofs.Inv.{timeOf, Ordered, targetFrom, Reached}
-use Rattle.rules.proofs.InvLaws.{took-enters}
-use Rattle.rules.proofs.Joins.{passed-takes, takes-passed}
+use Rattle.rules.proofs.InvLaws.{took-enters, reached-goes}
+use Rattle.rules.proofs.Joins.{passed-takes}
 use Rattle.rules.proofs.Carried.{in-put, put-in, in-got, got-in, taken-event}
 use Rattle.rules.proofs.Targets.{in-triples-at, triples-at-in, low-below, targets-of}
 
@@ -158,7 +158,7 @@ module _ (l : Line) (g : Ghost) (n : ℕ) (ordered : Ordered (l .plan)) (own : T
               m,
               t,
               subst (λ (c : ℕ). In (tookAt c m t) (g n)) row event,
-              takes-passed (l .plan) n (applied (ruleAt (l .plan) n) (m .what)) (r .channel) (r .on-plan) (r .leaves) (r .takes-it),
+              reached-goes r,
               subst (λ (x : ℕ). x ≤ lowOf l n) (ap (λ (v : Target). v .time) is) (leb-true (u .time) (lowOf l n) upto),
               sym (ap (λ (v : Target). v .parentTime) is) ∙ sym q,
             ))

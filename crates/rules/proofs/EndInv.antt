@@ -34,11 +34,11 @@ use Rattle.rules.proofs.Witness.{Taken}
 use Rattle.rules.proofs.Ghost.{Event, fedAt, tookAt, Ghost, eventTime, inputOf, entryOf, put, got, gotOf}
 use Rattle.rules.proofs.Passing.{goesOn, heldOf}
 use Rattle.rules.proofs.Kept.{Took, no-takes, took, taken-by, order-kept}
-use Rattle.rules.proofs.Joins.{in-entering, entering-in, in-taking, takes-passed, some-leaves}
+use Rattle.rules.proofs.Joins.{in-entering, entering-in, in-taking, some-leaves}
 use Rattle.rules.proofs.Targets.{high-above}
 use Rattle.rules.proofs.PlacedEvents.{PlacedEvents, placed-events}
 use Rattle.rules.proofs.Inv.{timeOf, Enters, Leaves, Reached, targetFrom, Replays, Channels, Inv}
-use Rattle.rules.proofs.InvLaws.{took-enters, replay-marked}
+use Rattle.rules.proofs.InvLaws.{took-enters, reached-goes, replay-marked}
 use Rattle.rules.proofs.MarkedLaws.{own, one-channel, taken-put, got-rises}
 use Rattle.rules.proofs.Stays.{moved}
 use Rattle.rules.proofs.RebuildEvents.{Rebuilding}
@@ -118,7 +118,7 @@ module _ (l : Line) (g : Ghost) (cut base : ℕ → ℕ) (fed : List Act) (recei
         let F = fixedAt ts (heldOf (l .plan) n b m) in
         let among : t ≤ F = in-greatest (in-map (λ (z : Target). z .time) (in-keep (λ (z : Target). eqb (z .parent) A && eqb (z .parentTime) (m .time)) target (rw (eq-eqb A A refl, eq-eqb (m .time) (m .time) refl)))) in
         let nonzero : F ≢ 0 = λ z. omega arith in
-        let goes = takes-passed (l .plan) n (applied (ruleAt (l .plan) n) (m .what)) (reached .channel) (reached .on-plan) (reached .leaves) (reached .takes-it) in
+        let goes = reached-goes reached in
         let not-later : F ≤ t = order-kept (l .plan) n (g n) (inv .events n .rise) (got-rises inv n marked b h) (fixed-event b m h put-m nonzero) i goes goes (omega arith) in
         let at : v ≡ t = P .fixed b m v w nonzero ∙ omega arith in
         subst (λ (z : ℕ). In (tookAt b m z) fs) at w

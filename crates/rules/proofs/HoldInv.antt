@@ -1,7 +1,7 @@
 -- Take, of a node that replays and goes on replaying, keeps the invariant: histories do not move, and the row of the message grows by it.
 use Prim.Native.Nat.{ℕ, max, _<_, _≤_}
 use mathlib.Core.Path.{_≡_, refl, sym, ap, subst, _∙_}
-use mathlib.Core.Logic.{_≢_, inl, inr}
+use mathlib.Core.Logic.{_≢_}
 use mathlib.Core.Bool.{Bool, true, false, true≢false}
 use mathlib.Core.List.{List, [], _∷_, _++_, map}
 use native.Mathlib.Omega.{arith}
@@ -19,13 +19,13 @@ use Rattle.rules.specs.Plain.{Act, Receipt}
 use Rattle.rules.specs.Claim.{receivedBy}
 use Rattle.rules.proofs.ListLaws.{keep-append, keep-more, keep-none, map-more, nil-right}
 use Rattle.rules.proofs.Rising.{until, past, past-snoc}
-use Rattle.rules.proofs.Members.{In, keep-in, map-in, greatest-in, next-first}
+use Rattle.rules.proofs.Members.{next-first}
 use Rattle.rules.proofs.LineLaws.{lane-there, lane-else, lanes-long, node-there, node-else}
 use Rattle.rules.proofs.Ghost.{tookAt, Ghost, takesMessage, put, got, logPut}
-use Rattle.rules.proofs.Carried.{in-got}
 use Rattle.rules.proofs.Passing.{goesOn, heldOf}
 use Rattle.rules.proofs.Inv.{Inv, isUp, timeOf, Enters, Nodes, SenderUp, Channels, Ends, Row, Replays}
-use Rattle.rules.proofs.InvLaws.{up-not-replay, replay-not-down, replay-marked, marked-took, took-enters}
+use Rattle.rules.proofs.InvLaws.{up-not-replay, replay-not-down, replay-marked}
+use Rattle.rules.proofs.MarkedLaws.{goal-message}
 use Rattle.rules.proofs.Grow.{sender-taken, sender-cut, sender-same, sender-receiving}
 use Rattle.rules.proofs.Stays.{moved, marks-stay, unmarked-other, nodes-stay, channel-stays, ends-stay, events-stay, replays-stay, replays-keep}
 use Rattle.rules.proofs.TakeInv.{replay-beside}
@@ -82,23 +82,11 @@ module _ (l : Line) (g : Ghost) (cut base : ℕ → ℕ) (fed : List Act) (recei
   entry-now : laneAt beside b .taken ≡ m .time
   entry-now = ap (λ (x : Lane). x .taken) lane-now
 
-  -- The message lies within the row's goal, which is the time of a message that the node got.
+  -- The message lies within the row's goal, which is the time of a message put on the channel.
   to-goal : m .time ≤ rowGoal (nodeAt l n .targets) (channelAt (l .plan) b .sender)
   to-goal =
-      elim (greatest-in (map (λ (u : Target). u .parentTime) (keep (λ (u : Target). eqb (u .parent) (channelAt (l .plan) b .sender)) (nodeAt l n .targets)))) [
-        | inl q ↦ (let no : ⊥ = omega arith in absurd no)
-        | inr i ↦
-            (let (u, j, goal) = map-in (λ (u : Target). u .parentTime) (keep (λ (u : Target). eqb (u .parent) (channelAt (l .plan) b .sender)) (nodeAt l n .targets)) i in
-            let (k, parent) = keep-in (λ (u : Target). eqb (u .parent) (channelAt (l .plan) b .sender)) (nodeAt l n .targets) j in
-            let (c, y, t, took, is, late, reached) = old .target-from u k in
-            let (h, into) = took-enters (g n) c y t (marked-took (inv .marks) (inv .nodes) n marked) took in
-            let same : c ≡ b = inv .ordered .alone c b h here (sym (ap (λ (x : Target). x .parent) is) ∙ eqb-true (u .parent) (channelAt (l .plan) b .sender) parent) into in
-            let time : u .parentTime ≡ y .time = ap (λ (x : Target). x .parentTime) is in
-            let gotten : In y (got (l .plan) g b) = in-got (l .plan) g b y t (subst (λ (x : ℕ). In (tookAt x y t) (g n)) same took) in
-            let there = keep-in (λ (x : Message). leb (x .time) (cut b)) puts (subst (λ (x : List Message). In y x) (inv .channels b here .cut-is) gotten) .0 in
-            let after = next-first timeOf (next .1) there (omega arith) in
-            omega arith)
-      ]
+      let (y, there, _, time) = goal-message inv n replaying b (here, refl) (λ q. omega arith) in
+      omega (arith, next-first timeOf (next .1) there (omega (arith, time)), time)
 
   -- What goes on of the row's messages.
   row-more : keep (goesOn (l .plan) n) (past timeOf (base b) (until timeOf (m .time) puts)) ≡ keep (goesOn (l .plan) n) (past timeOf (base b) (until timeOf (laneAt l b .taken) puts)) ++ keepOne (goesOn (l .plan) n m) m []

@@ -7,14 +7,17 @@ use mathlib.Core.List.{List, [], _∷_, _++_, map}
 use native.Mathlib.Omega.{arith}
 use lib.ListN.{length}
 use Rattle.plan.specs.declared.Record.{Record}
-use Rattle.plan.specs.Plan.{Plan, channelAt, channelCount, isSource, isSink}
+use Rattle.plan.specs.Rule.{applied}
+use Rattle.plan.specs.Plan.{ruleAt, Plan, channelAt, channelCount, isSource, isSink}
 use Rattle.rules.specs.Line.{Message, Status, up, down, replay, Line, nodeAt, laneAt}
 use Rattle.rules.specs.Plain.{Act, Receipt}
 use Rattle.rules.proofs.Members.{In, here, there}
 use Rattle.rules.proofs.PlainRun.{Input, fedIn, tookIn}
 use Rattle.rules.proofs.Witness.{Taken, none, more}
 use Rattle.rules.proofs.Ghost.{Event, fedAt, tookAt, Ghost, inputOf}
-use Rattle.rules.proofs.Inv.{isUp, Enters, Marks, Nodes, Channels, Inv}
+use Rattle.rules.proofs.Passing.{goesOn}
+use Rattle.rules.proofs.Joins.{takes-passed}
+use Rattle.rules.proofs.Inv.{isUp, Enters, Reached, Marks, Nodes, Channels, Inv}
 
 pub up-not-replay : up ≡ replay → ⊥
 up-not-replay e = let z : _≡_ {A = ℕ} 0 1 = cc in omega arith
@@ -34,6 +37,10 @@ if-marked false f g = g refl
 pub took-enters : {p : Plan} {n : ℕ} (es : List Event) (b : ℕ) (m : Message) (t : ℕ) → Taken p n (map inputOf es) → In (tookAt b m t) es → Enters p n b
 took-enters (tookAt c x u ∷ es) b m t (more h q s r) here = (h, q)
 took-enters (tookAt c x u ∷ es) b m t (more h q s r) (there i) = took-enters es b m t r i
+
+-- What has reached a child goes on.
+pub reached-goes : {l : Line} {n : ℕ} {m : Message} {t : ℕ} → Reached l n m t → goesOn (l .plan) n m ≡ true
+reached-goes {l} {n} {m} r = takes-passed (l .plan) n (applied (ruleAt (l .plan) n) (m .what)) (r .channel) (r .on-plan) (r .leaves) (r .takes-it)
 
 module _ {l : Line} {crashes : List ℕ} (marks : Marks l crashes) (n : ℕ) where
   pub marked-unless-up : nodeAt l n .status ≢ up → nodeAt l n .crashed ≡ true

@@ -23,12 +23,11 @@ use Rattle.rules.proofs.Witness.{Taken}
 use Rattle.rules.proofs.Ghost.{Event, tookAt, Ghost, eventTime, inputOf, sentOf, takesMessage, put, got, gotOf}
 use Rattle.rules.proofs.Passing.{passing, goesOn}
 use Rattle.rules.proofs.Carried.{put-in, in-put, taken-event}
-use Rattle.rules.proofs.Joins.{takes-passed}
 use Rattle.rules.proofs.Leaving.{put-passing, taken-until}
 use Rattle.rules.proofs.Rebuilt.{rebuilt, ends-held, rebuilt-got, rebuilt-taken, rebuilt-passing}
 use Rattle.rules.proofs.Inv.{timeOf, isUp, Enters, Leaves, Reached, targetFrom, Replays, Row, Channels, Inv}
 use Rattle.rules.proofs.InvLaws.{replay-marked}
-use Rattle.rules.proofs.MarkedLaws.{own, one-channel, taken-put}
+use Rattle.rules.proofs.MarkedLaws.{own, goal-message}
 
 -- What must hold of the events placed, so that node n may go on with them at time T.
 pub record Rebuilding (l : Line) (g : Ghost) (base : ℕ → ℕ) (n T : ℕ) (fs : List Event) : Type 0 where
@@ -62,27 +61,6 @@ module _ (l : Line) (g : Ghost) (cut base : ℕ → ℕ) (fed : List Act) (recei
   pub row-rises : (b : ℕ) → Enters (l .plan) n b → Rises timeOf 0 (row b)
   row-rises b h = rises-keep timeOf (λ (m : Message). leb (m .time) (laneAt l b .taken)) (inv .channels b (h .0) .rises)
 
-  -- A row's goal is a message that goes on.
-  goal-message : (b : ℕ) → Enters (l .plan) n b → rowGoal (nodeAt l n .targets) (channelAt (l .plan) b .sender) ≢ 0
-      → (m : Message) × In m (put (l .plan) g b) × (goesOn (l .plan) n m ≡ true) × (m .time ≡ rowGoal (nodeAt l n .targets) (channelAt (l .plan) b .sender))
-  goal-message b h d =
-      let A = channelAt (l .plan) b .sender in
-      let ts = nodeAt l n .targets in
-      let f : Target → Bool = λ u. eqb (u .parent) A in
-      elim (greatest-in (map (λ (u : Target). u .parentTime) (keep f ts))) [
-        | inl z ↦ absurd (d z)
-        | inr i ↦
-            (let (u, j, e) = map-in (λ (u : Target). u .parentTime) (keep f ts) i in
-            let (k, q) = keep-in f ts j in
-            let (c, m, t, on, is, _, got-to) = inv .replays n replaying .target-from u k in
-            let same : c ≡ b = one-channel inv n marked b c m t h on (ap (λ (x : Target). x .parent) (sym is) ∙ eqb-true (u .parent) A q) in (
-              m,
-              taken-put inv n marked b m t h (subst (λ (x : ℕ). In (tookAt x m t) (g n)) same on),
-              takes-passed (l .plan) n (applied (ruleAt (l .plan) n) (m .what)) (got-to .channel) (got-to .on-plan) (got-to .leaves) (got-to .takes-it),
-              ap (λ (x : Target). x .parentTime) (sym is) ∙ sym e,
-            ))
-      ]
-
   whole : (b : ℕ) → Enters (l .plan) n b → (k : ℕ) → base b ≤ k → keep (goesOn (l .plan) n) (past timeOf k (row b)) ≡ [] → past timeOf k (row b) ≡ []
   whole b h = ends-held (l .plan) n (base b) (row b) (last-held (decLe G (base b)))
     where
@@ -95,7 +73,7 @@ module _ (l : Line) (g : Ghost) (cut base : ℕ → ℕ) (fed : List Act) (recei
       last-held : Dec (rowGoal (nodeAt l n .targets) (channelAt (l .plan) b .sender) ≤ base b) → (past timeOf (base b) (row b) ≡ []) ⊎ ((m : Message) × In m (row b) × (goesOn (l .plan) n m ≡ true) × Within timeOf (m .time) (row b))
       last-held (yes z) = inl (past-none timeOf (within-higher timeOf (omega (arith, R .to-goal)) (within-until timeOf (laneAt l b .taken) (put (l .plan) g b))))
       last-held (no z) =
-          let (m, i, e, q) = goal-message b h (λ y. z (omega arith)) in
+          let (m, i, e, q) = goal-message inv n replaying b h (λ y. z (omega arith)) in
           let at : m .time ≡ laneAt l b .taken = omega (arith, q, R .to-goal, r .complete b h) in
           inr (
             m,
