@@ -12,13 +12,8 @@ use Rattle.rules.proofs.LineLaws.{node-else}
 use Rattle.rules.proofs.Ghost.{Event, fedAt, Ghost, later}
 use Rattle.rules.proofs.Inv.{Inv, Shape, isUp}
 use Rattle.rules.proofs.InvLaws.{source-up}
-use Rattle.rules.proofs.Logging.{nodeLogs, status-kept, logging-keeps}
-use Rattle.rules.proofs.LoggingMore.{logging-marks, logging-events, logging-ends, logging-replays}
+use Rattle.rules.proofs.Logging.{nodeLogs, status-kept, logging-shape, logging-marks, logging-channels, logging-events, logging-ends, logging-replays}
 use Rattle.rules.proofs.FeedKeeps.{feed-nodes}
-
-pub shape-kept : (l : Line) (n : ℕ) (e : Event) → Shape l → Shape (withNode n (nodeLogs l n e) l)
-unfolding withNode
-shape-kept l n e s = record { nodes-long = length-set (l .nodes) n (nodeLogs l n e) ∙ s .nodes-long; lanes-long = s .lanes-long }
 
 module _ (l : Line) (g : Ghost) (cut base : ℕ → ℕ) (fed : List Act) (receipts : List Receipt) (crashes : List ℕ) (inv : Inv l g cut base fed receipts crashes) where
   pub feed-inv : (n : ℕ) (r : Record) → n < nodeCount (l .plan) → isSource (l .plan) n ≡ true
@@ -26,16 +21,16 @@ module _ (l : Line) (g : Ghost) (cut base : ℕ → ℕ) (fed : List Act) (recei
   unfolding withNode
   feed-inv n r here source =
       record {
-        shape = shape-kept l n e (inv .shape);
+        shape = logging-shape l n e (inv .shape);
         ordered = inv .ordered;
-        marks = logging-marks l n e there refl alive crashes (inv .marks);
+        marks = logging-marks l n e there crashes (inv .marks);
         nodes = feed-nodes l (inv .shape) g fed receipts n r here source (inv .nodes);
         events = λ m. logging-events l n e there refl alive g m (inv .events m);
-        channels = λ b h. logging-keeps l n e there refl g cut b alive refl (inv .channels b h);
-        ends = λ b h. logging-ends l n e there refl alive g b refl (inv .ends b h);
+        channels = λ b h. logging-channels l n e there refl alive g cut b refl (inv .channels b h);
+        ends = λ b h. logging-ends l n e there g b refl (inv .ends b h);
         replays = λ m q.
             (let old = sym (status-kept l n e there m) ∙ q in
-            logging-replays l n e there refl alive g cut base m q (λ b h s. subst (λ (x : ℕ). laneAt l b .taken ≤ nodeAt l x .time) s (inv .channels b (h .0) .sender-up (ap (λ (x : ℕ). nodeAt l x .status) s ∙ alive) .taken-within))
+            logging-replays l n e there refl alive g cut base m old (λ b h s. subst (λ (x : ℕ). laneAt l b .taken ≤ nodeAt l x .time) s (inv .channels b (h .0) .sender-up (ap (λ (x : ℕ). nodeAt l x .status) s ∙ alive) .taken-within))
             (inv .replays m old));
       }
     where

@@ -27,7 +27,7 @@ use Rattle.rules.proofs.Inv.{Inv, isUp, timeOf, Enters, Nodes, SenderUp
 use Rattle.rules.proofs.InvLaws.{up-not-replay, replay-not-down, replay-marked}
 use Rattle.rules.proofs.MarkedLaws.{goal-message}
 use Rattle.rules.proofs.Grow.{sender-taken, sender-cut, sender-same, sender-receiving}
-use Rattle.rules.proofs.Stays.{moved, marks-stay, unmarked-other, nodes-stay, channel-stays, ends-stay, events-stay, replays-stay, replays-keep}
+use Rattle.rules.proofs.Stays.{moved, everywhere, marks-stay, unmarked-other, nodes-stay, channel-stays, ends-stay, events-stay, replays-stay, replays-keep}
 use Rattle.rules.proofs.TakeInv.{replay-beside}
 
 -- A receipt of another node.
@@ -107,14 +107,11 @@ module _ (l : Line) (g : Ghost) (cut base : ℕ → ℕ) (fed : List Act) (recei
     abbrev after : Line
     after = lineOf nodes
 
-    everywhere : {A : Type 0} (f : Node → A) → f (nodeAt after n) ≡ f (nodeAt l n) → (k : ℕ) → f (nodeAt after k) ≡ f (nodeAt l k)
-    everywhere f e k = elim (ℕ-discrete k n) [ yes q ↦ ap (λ (x : ℕ). f (nodeAt after x)) q ∙ e ∙ ap (λ (x : ℕ). f (nodeAt l x)) (sym q) | no d ↦ ap f (others k d) ]
-
     statuses : (k : ℕ) → nodeAt after k .status ≡ nodeAt l k .status
-    statuses = everywhere (λ (x : Node). x .status) status
+    statuses = everywhere l (l .steps) nodes (beside .lanes) n others (λ (x : Node). x .status) status
 
     marks : (k : ℕ) → nodeAt after k .crashed ≡ nodeAt l k .crashed
-    marks = everywhere (λ (x : Node). x .crashed) mark
+    marks = everywhere l (l .steps) nodes (beside .lanes) n others (λ (x : Node). x .crashed) mark
 
     up-other : (k : ℕ) → isUp after k → nodeAt after k ≡ nodeAt l k
     up-other k e = others k (λ q. up-not-replay (sym e ∙ ap (λ (x : ℕ). nodeAt after x .status) q ∙ status ∙ replaying))

@@ -43,7 +43,11 @@ module _ (l : Line) (steps : ℕ) (nodes : List Node) (lanes : List Lane) where
   pub marks-stay : (crashes : List ℕ) → ((n : ℕ) → nodeAt k n .status ≡ nodeAt l n .status) → ((n : ℕ) → nodeAt k n .crashed ≡ nodeAt l n .crashed) → Marks l crashes → Marks k crashes
   marks-stay crashes status mark = marks-keep crashes (λ n h. status n) mark
 
-  -- One node changes and is marked; the others are as they were.
+  -- One node changes and the others are as they were: what it keeps, all keep.
+  pub everywhere : {A : Type 0} (n : ℕ) → ((m : ℕ) → m ≢ n → nodeAt k m ≡ nodeAt l m) → (f : Node → A) → f (nodeAt k n) ≡ f (nodeAt l n) → (m : ℕ) → f (nodeAt k m) ≡ f (nodeAt l m)
+  everywhere n other f e m = elim (ℕ-discrete m n) [ yes q ↦ ap (λ (x : ℕ). f (nodeAt k x)) q ∙ e ∙ ap (λ (x : ℕ). f (nodeAt l x)) (sym q) | no d ↦ ap f (other m d) ]
+
+  -- It is marked now.
   module _ (n : ℕ) (now-marked : nodeAt k n .crashed ≡ true) (other : (m : ℕ) → m ≢ n → nodeAt k m ≡ nodeAt l m) where
     pub unmarked-other : (m : ℕ) → nodeAt k m .crashed ≡ false → m ≢ n
     unmarked-other m e q = true≢false (sym (ap (λ (x : ℕ). nodeAt k x .crashed) q ∙ now-marked) ∙ e)
@@ -52,14 +56,7 @@ module _ (l : Line) (steps : ℕ) (nodes : List Node) (lanes : List Lane) where
     unmarked-same m e = other m (unmarked-other m e)
 
     pub marks-beside : (crashes : List ℕ) → nodeAt l n .crashed ≡ true → Marks l crashes → Marks k crashes
-    marks-beside crashes marked = marks-keep crashes (λ m e. ap (λ (x : Node). x .status) (unmarked-same m e)) mark-same
-      where
-        mark-same : (m : ℕ) → nodeAt k m .crashed ≡ nodeAt l m .crashed
-        mark-same m =
-            elim (ℕ-discrete m n) [
-              | yes q ↦ ap (λ (x : ℕ). nodeAt k x .crashed) q ∙ now-marked ∙ sym (ap (λ (x : ℕ). nodeAt l x .crashed) q ∙ marked)
-              | no d ↦ ap (λ (x : Node). x .crashed) (other m d)
-            ]
+    marks-beside crashes marked = marks-keep crashes (λ m e. ap (λ (x : Node). x .status) (unmarked-same m e)) (everywhere n other (λ (x : Node). x .crashed) (now-marked ∙ sym marked))
 
   -- The nodes, where histories do not move and the unmarked ones are as they were.
   pub nodes-stay : {g : Ghost} {fed : List Act} {receipts receipts′ : List Receipt} → ((n : ℕ) → nodeAt k n .crashed ≡ false → nodeAt k n ≡ nodeAt l n) → ((n : ℕ) → nodeAt k n .crashed ≡ false → receivedBy n receipts′ ≡ receivedBy n receipts)
@@ -146,8 +143,8 @@ module _ (l : Line) (steps : ℕ) (nodes : List Node) (lanes : List Lane) where
     replays-stay n same events cut cut′ base base′ leaving bases entering =
         replays-keep n (ap (λ (x : Node). x .log) same) (ap (λ (x : Node). x .time) same) (ap (λ (x : Node). x .targets) same) events cut cut′ base base′ leaving bases
         (λ b h r.
-            (let (taken, cuts, is, puts) = entering b h in
-            record { base-got = omega (arith, r .base-got); base-taken = omega (arith, r .base-taken); to-goal = rw (taken, is, same) (r .to-goal); held = rw (same, taken, is, puts) (r .held) }))
+        (let (taken, cuts, is, puts) = entering b h in
+        record { base-got = omega (arith, r .base-got); base-taken = omega (arith, r .base-taken); to-goal = rw (taken, is, same) (r .to-goal); held = rw (same, taken, is, puts) (r .held) }))
 
 -- A channel that another channel's change leaves.
 pub channel-beside : (l : Line) (g : Ghost) (cut : ℕ → ℕ) (b c : ℕ) (x : Lane) → c ≢ b → Channels l g cut c → Channels (withLane b x l) g cut c

@@ -21,10 +21,8 @@ use Rattle.rules.proofs.Ghost.{Event, tookAt, Ghost, got, gotOne, later
 use Rattle.rules.proofs.Inv.{Inv, Shape, isUp, timeOf, Ends, Enters, Leaves, Events, Replays}
 use Rattle.rules.proofs.InvLaws.{up-not-replay}
 use Rattle.rules.proofs.Stays.{marks-stay, events-stay, ends-stay, replays-stay, replays-cut}
-use Rattle.rules.proofs.Logging.{nodeLogs, status-kept, mark-kept}
-use Rattle.rules.proofs.LoggingMore.{logging-marks, logging-events, logging-ends, logging-replays}
+use Rattle.rules.proofs.Logging.{nodeLogs, status-kept, mark-kept, logging-shape, logging-marks, logging-events, logging-ends, logging-replays}
 use Rattle.rules.proofs.TakeKeeps.{take-channels, take-nodes}
-use Rattle.rules.proofs.FeedInv.{shape-kept}
 use Rattle.rules.proofs.SendInv.{shape-beside}
 
 module _ (l : Line) (g : Ghost) (cut base : ℕ → ℕ) (fed : List Act) (receipts : List Receipt) (crashes : List ℕ) (inv : Inv l g cut base fed receipts crashes)
@@ -81,22 +79,22 @@ module _ (l : Line) (g : Ghost) (cut base : ℕ → ℕ) (fed : List Act) (recei
     unfolding withNode withLane
     take-inv =
         record {
-          shape = shape-kept beside n event (shape-beside b taken (inv .shape));
+          shape = logging-shape beside n event (shape-beside b taken (inv .shape));
           ordered = inv .ordered;
-          marks = logging-marks beside n event there refl receiver crashes (marks-stay l (l .steps) (l .nodes) (beside .lanes) crashes (λ k. refl) (λ k. refl) (inv .marks));
+          marks = logging-marks beside n event there crashes (marks-stay l (l .steps) (l .nodes) (beside .lanes) crashes (λ k. refl) (λ k. refl) (inv .marks));
           nodes = take-nodes l (inv .shape) (inv .ordered) g b here m rest heardOf fed receipts (inv .nodes);
           events = λ k. logging-events beside n event there refl receiver g k (events-stay l (l .steps) (l .nodes) (beside .lanes) g g k (λ _. refl) refl (inv .events k));
           channels = take-channels l (inv .shape) (inv .ordered) g cut b here m rest heardOf first sender receiver (inv .channels);
           ends = λ c h. elim (ℕ-discrete c b) [
             | yes q ↦ subst (Ends (withNode n (nodeLogs beside n event) beside) (later g n event)) (sym q) own-ends
-            | no d ↦ logging-ends beside n event there refl receiver g c (ap (λ (t : Bool). keepOne t m []) (ne-eqb b c (λ q. d (sym q))))
+            | no d ↦ logging-ends beside n event there g c (ap (λ (t : Bool). keepOne t m []) (ne-eqb b c (λ q. d (sym q))))
                 (ends-stay l (l .steps) (l .nodes) (beside .lanes) g g c refl refl (lane-else b taken l c d) refl refl (inv .ends c h))
           ];
           replays = λ k q.
               (let old : nodeAt l k .status ≡ replay = sym (status-kept beside n event there k) ∙ q in
               let apart : k ≢ n = λ z. up-not-replay (sym receiver ∙ ap (λ (x : ℕ). nodeAt l x .status) (sym z) ∙ old) in
               let calm = replay-beside k old apart in
-              replays-cut (withNode n (nodeLogs beside n event) beside) (later g n event) cut (changed cut b (m .time)) base k (λ c h. cut-other k apart c h) (logging-replays beside n event there refl receiver g cut base k q
+              replays-cut (withNode n (nodeLogs beside n event) beside) (later g n event) cut (changed cut b (m .time)) base k (λ c h. cut-other k apart c h) (logging-replays beside n event there refl receiver g cut base k old
               (λ c h s. rw (entering-other k old apart c h) (subst (λ (x : ℕ). laneAt l c .taken ≤ nodeAt l x .time) s (inv .channels c (h .0) .sender-up (ap (λ (x : ℕ). nodeAt l x .status) s ∙ receiver) .taken-within)))
               calm));
         }

@@ -27,7 +27,7 @@ use Rattle.rules.proofs.Inv.{timeOf, isUp, Shape, Ordered, Nodes, Sende
 use Rattle.rules.proofs.Joins.{no-source}
 use Rattle.rules.proofs.Grow.{sender-taken, sender-same, sender-receiving}
 use Rattle.rules.proofs.Stays.{channel-beside}
-use Rattle.rules.proofs.Logging.{nodeLogs, status-kept, mark-kept, log-there, logging-keeps, log-put-else}
+use Rattle.rules.proofs.Logging.{nodeLogs, status-kept, mark-kept, log-there, logging-channels, log-put-else}
 
 -- A channel whose cut is said in another way.
 pub channel-cut : (l : Line) (g : Ghost) (cut cut′ : ℕ → ℕ) (c : ℕ) → cut c ≡ cut′ c → Channels l g cut c → Channels l g cut′ c
@@ -73,7 +73,7 @@ module _ (l : Line) (shape : Shape l) (ordered : Ordered (l .plan)) (g : Ghost) 
   unfolding withLane
   other-channels c d k =
       channel-cut after (later g n event) cut cutAfter c (sym (changed-else cut b (m .time) c d))
-      (logging-keeps between n event there refl g cut c receiver (ap (λ (t : Bool). keepOne t m []) (ne-eqb b c (λ q. d (sym q)))) (channel-beside l g cut b c laneAfter d k))
+      (logging-channels between n event there refl receiver g cut c (ap (λ (t : Bool). keepOne t m []) (ne-eqb b c (λ q. d (sym q)))) (channel-beside l g cut b c laneAfter d k))
 
   apart : channelAt (l .plan) b .sender ≢ n
   apart q = omega (arith, ordered .forward b here)
