@@ -111,6 +111,9 @@ later g n e = changed g n (g n ++ e ∷ [])
 pub later-there : (g : Ghost) (n m : ℕ) (e : Event) → m ≡ n → later g n e m ≡ g m ++ e ∷ []
 later-there g n m e q = changed-there g n (g n ++ e ∷ []) m q ∙ ap (λ (k : ℕ). g k ++ e ∷ []) (sym q)
 
+pub later-else : (g : Ghost) (n m : ℕ) (e : Event) → m ≢ n → later g n e m ≡ g m
+later-else g n m e d = changed-else g n (g n ++ e ∷ []) m d
+
 module _ (p : Plan) (g : Ghost) (n b : ℕ) (e : Event) where
   pub put-there : channelAt p b .sender ≡ n → put p (later g n e) b ≡ put p g b ++ keepOne (takesMessage p b (sentOf p n e)) (sentOf p n e) []
   unfolding put
@@ -123,7 +126,7 @@ module _ (p : Plan) (g : Ghost) (n b : ℕ) (e : Event) where
 
   pub put-else : channelAt p b .sender ≢ n → put p (later g n e) b ≡ put p g b
   unfolding put
-  put-else d = ap (λ (es : List Event). keep (takesMessage p b) (map (sentOf p (channelAt p b .sender)) es)) (changed-else g n (g n ++ e ∷ []) (channelAt p b .sender) d)
+  put-else d = ap (λ (es : List Event). keep (takesMessage p b) (map (sentOf p (channelAt p b .sender)) es)) (later-else g n (channelAt p b .sender) e d)
 
   pub got-there : channelAt p b .receiver ≡ n → got p (later g n e) b ≡ got p g b ++ (gotOne b e ++ [])
   unfolding got
@@ -131,4 +134,4 @@ module _ (p : Plan) (g : Ghost) (n b : ℕ) (e : Event) where
 
   pub got-else : channelAt p b .receiver ≢ n → got p (later g n e) b ≡ got p g b
   unfolding got
-  got-else d = ap (gotOf b) (changed-else g n (g n ++ e ∷ []) (channelAt p b .receiver) d)
+  got-else d = ap (gotOf b) (later-else g n (channelAt p b .receiver) e d)

@@ -20,7 +20,7 @@ use Rattle.rules.specs.Claim.{receivedBy}
 use Rattle.rules.proofs.ListLaws.{keep-append, keep-more, keep-none, map-more, nil-right}
 use Rattle.rules.proofs.Rising.{until, past, past-snoc}
 use Rattle.rules.proofs.Members.{next-first}
-use Rattle.rules.proofs.LineLaws.{lane-there, lane-else, lanes-long, node-there, node-else}
+use Rattle.rules.proofs.LineLaws.{lane-else, lanes-long, node-there, node-else}
 use Rattle.rules.proofs.Ghost.{tookAt, Ghost, takesMessage, put, got, logPut}
 use Rattle.rules.proofs.Passing.{goesOn, heldOf}
 use Rattle.rules.proofs.Inv.{Inv, isUp, timeOf, Enters, Nodes, SenderUp, Channels, Ends, Row, Replays}
@@ -28,7 +28,7 @@ use Rattle.rules.proofs.InvLaws.{up-not-replay, replay-not-down, replay
 use Rattle.rules.proofs.MarkedLaws.{goal-message}
 use Rattle.rules.proofs.Grow.{sender-taken, sender-cut, sender-same, sender-receiving}
 use Rattle.rules.proofs.Stays.{moved, everywhere, marks-stay, unmarked-other, nodes-stay, channel-stays, ends-stay, events-stay, replays-stay, replays-keep}
-use Rattle.rules.proofs.TakeInv.{replay-beside}
+use Rattle.rules.proofs.TakeInv.{lane-raised, replay-beside}
 
 -- A receipt of another node.
 receipt-else : (receipts : List Receipt) (x : Receipt) (k : ℕ) → k ≢ x .receiver → receivedBy k (receipts ++ x ∷ []) ≡ receivedBy k receipts
@@ -74,10 +74,7 @@ module _ (l : Line) (g : Ghost) (cut base : ℕ → ℕ) (fed : List Act) (recei
   next = sender-taken m rest heardOf (λ q. replay-not-down (sym replaying ∙ q)) (inv .channels b here .rises) first refl (sender-cut (sent .taken-within) sent)
 
   lane-now : laneAt beside b ≡ record { mark = laneAt l b .mark; taken = m .time; heard = heardOf; queue = rest }
-  lane-now = lane-there b taken l (rw (inv .shape .lanes-long) here) ∙ (λ i. record { mark = laneAt l b .mark; taken = greater (next .2) i; heard = heardOf; queue = rest })
-    where
-      greater : laneAt l b .taken < m .time → max (laneAt l b .taken) (m .time) ≡ m .time
-      greater h = omega arith
+  lane-now = lane-raised l g cut base fed receipts crashes inv b here m rest heardOf first sender (next .2)
 
   entry-now : laneAt beside b .taken ≡ m .time
   entry-now = ap (λ (x : Lane). x .taken) lane-now

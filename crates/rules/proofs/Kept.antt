@@ -42,10 +42,6 @@ module _ (p : Plan) (n : ℕ) where
   taken-by no-takes f = none
   taken-by (took {b = b} {m = m} {t = t} h) f = let (l, q, s) = f b m t here in more l q s (taken-by h (λ c k u i. f c k u (there i)))
 
-  pub taken-append : (es fs : List Event) → Taken p n (map inputOf es) → Taken p n (map inputOf fs) → Taken p n (map inputOf (es ++ fs))
-  taken-append [] fs h k = k
-  taken-append (tookAt b m t ∷ es) fs (more l q s h) k = more l q s (taken-append es fs h k)
-
   pub taken-keep : (f : Event → Bool) (es : List Event) → Taken p n (map inputOf es) → Taken p n (map inputOf (keep f es))
   taken-keep f [] h = none
   taken-keep f (tookAt b m t ∷ es) (more l q s h) = one (f (tookAt b m t)) (taken-keep f es h)

@@ -13,9 +13,7 @@ pub mod Grow
 pub mod Stays
 pub mod InvLaws
 pub mod Logging
-pub mod FeedKeeps
 pub mod SendKeeps
-pub mod TakeKeeps
 pub mod LanesLaws
 pub mod Swept
 pub mod FeedInv

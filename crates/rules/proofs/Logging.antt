@@ -2,12 +2,11 @@
 use Prim.Native.Nat.{ℕ, suc, _<_, _≤_}
 use mathlib.Core.Path.{_≡_, refl, sym, ap, subst, _∙_}
 use mathlib.Core.Logic.{_≢_}
-use mathlib.Core.Bool.{Bool}
+use mathlib.Core.Bool.{Bool, false}
 use mathlib.Core.List.{List, [], _∷_, _++_, map}
 use native.Mathlib.Omega.{arith}
 use native.Mathlib.Decide.{ℕ-discrete}
 use lib.ListN.{length, length-set}
-use Rattle.basics.specs.Update.{changed-else}
 use Rattle.plan.specs.Plan.{channelAt}
 use Rattle.rules.specs.Lists.{keep, keepOne, greatestOf}
 use Rattle.rules.specs.Line.{Message, Entry, down, replay, Node, Line, nodeAt, laneAt, withNode}
@@ -16,7 +15,7 @@ use Rattle.rules.specs.Replay.{passedOn}
 use Rattle.rules.proofs.ListLaws.{keep-append, map-append, nil-right}
 use Rattle.rules.proofs.Rising.{until, Rises, Within}
 use Rattle.rules.proofs.LineLaws.{node-there, node-else}
-use Rattle.rules.proofs.Ghost.{Event, Ghost, eventTime, eventOrigin, eventBefore, entryOf, sentOf, takesMessage, put, got, gotOne, logPut, later, later-there, put-there, put-else, got-there, got-else}
+use Rattle.rules.proofs.Ghost.{Event, Ghost, eventTime, eventOrigin, eventBefore, entryOf, sentOf, takesMessage, put, got, gotOne, logPut, later, later-there, later-else, put-there, put-else, got-there, got-else}
 use Rattle.rules.proofs.Passing.{passing}
 use Rattle.rules.proofs.Inv.{timeOf, isUp, Enters, Marks, Shape, Channels, Events, Ends, Replays}
 use Rattle.rules.proofs.InvLaws.{up-not-replay}
@@ -62,9 +61,21 @@ module _ (l : Line) (n : ℕ) (e : Event) (there : n < length (l .nodes)) where
   logging-ends g b apart v = ends-stay l (l .steps) (after .nodes) (l .lanes) g (later g n e) b (status-kept (channelAt (l .plan) b .sender)) (status-kept (channelAt (l .plan) b .receiver)) refl (got-kept g b apart) (mark-kept (channelAt (l .plan) b .receiver)) v
 
   module _ (own : eventTime e ≡ suc (nodeAt l n .time)) where
-    pub log-there : nodeAt (withNode n (nodeLogs l n e) l) n .log ≡ nodeAt l n .log ++ entryOf (l .plan) n e ∷ []
+    log-there : nodeAt (withNode n (nodeLogs l n e) l) n .log ≡ nodeAt l n .log ++ entryOf (l .plan) n e ∷ []
     unfolding logged
     log-there = ap (λ (x : Node). x .log) logged-now ∙ ap (λ (t : ℕ). nodeAt l n .log ++ record { what = entryOf (l .plan) n e .what; time = t; origin = eventOrigin (l .plan) e; before = eventBefore e } ∷ []) (sym own)
+
+    -- The logs of nodes that never crashed are still their events' entries.
+    pub logging-logs : (g : Ghost) → ((m : ℕ) → nodeAt l m .crashed ≡ false → nodeAt l m .log ≡ map (entryOf (l .plan) m) (g m))
+        → (m : ℕ) → nodeAt (withNode n (nodeLogs l n e) l) m .crashed ≡ false → nodeAt (withNode n (nodeLogs l n e) l) m .log ≡ map (entryOf (l .plan) m) (later g n e m)
+    logging-logs g logs m s =
+        let was : nodeAt l m .crashed ≡ false = sym (mark-kept m) ∙ s in
+        elim (ℕ-discrete m n) [
+          | yes q ↦ subst (λ (x : ℕ). nodeAt after x .log ≡ map (entryOf (l .plan) x) (later g n e x)) (sym q)
+              (log-there ∙ ap (λ (x : List Entry). x ++ entryOf (l .plan) n e ∷ []) (logs n (ap (λ (x : ℕ). nodeAt l x .crashed) (sym q) ∙ was))
+              ∙ sym (ap (map (entryOf (l .plan) n)) (later-there g n n e refl) ∙ map-append (entryOf (l .plan) n) (g n) (e ∷ [])))
+          | no d ↦ ap (λ (x : Node). x .log) (node-else n (nodeLogs l n e) l m d) ∙ logs m was ∙ ap (map (entryOf (l .plan) m)) (sym (later-else g n m e d))
+        ]
 
     time-there : nodeAt after n .time ≡ eventTime e
     unfolding logged
@@ -139,7 +150,7 @@ module _ (l : Line) (n : ℕ) (e : Event) (there : n < length (l .nodes)) where
                   within = λ h. subst (λ (x : ℕ). Within timeOf x (passing (l .plan) m (later g n e m))) (sym (ap (λ (x : ℕ). nodeAt after x .time) q ∙ time-there))
                       (subst (λ (x : List Message). Within timeOf (eventTime e) x) (sym (more-passing g m q)) (within-more t (sentOf (l .plan) m e) w late));
                 })
-            | no d ↦ events-stay l (l .steps) (after .nodes) (l .lanes) g (later g n e) m (λ _. node-else n (nodeLogs l n e) l m d) (changed-else g n (g n ++ e ∷ []) m d) v
+            | no d ↦ events-stay l (l .steps) (after .nodes) (l .lanes) g (later g n e) m (λ _. node-else n (nodeLogs l n e) l m d) (later-else g n m e d) v
           ]
 
       -- A replay elsewhere: what its rows have taken lies before the event.
@@ -147,7 +158,7 @@ module _ (l : Line) (n : ℕ) (e : Event) (there : n < length (l .nodes)) where
           → Replays l g cut base m → Replays (withNode n (nodeLogs l n e) l) (later g n e) cut base m
       unfolding withNode
       logging-replays g cut base m replaying before =
-          replays-stay l (l .steps) (after .nodes) (l .lanes) g (later g n e) m (node-else n (nodeLogs l n e) l m apart) (changed-else g n (g n ++ e ∷ []) m apart) cut cut base base
+          replays-stay l (l .steps) (after .nodes) (l .lanes) g (later g n e) m (node-else n (nodeLogs l n e) l m apart) (later-else g n m e apart) cut cut base base
           (λ c h. refl) (λ b x t i. refl) (λ b h. (refl, omega arith, refl, until-kept g b (laneAt l b .taken) (before b h)))
         where
           apart : m ≢ n

@@ -16,11 +16,11 @@ use Rattle.rules.specs.Replay.{passedOn}
 use Rattle.rules.proofs.ListLaws.{keep-append, map-append}
 use Rattle.rules.proofs.Rising.{until, past, Rises, Within, cut-at, rises-past, past-past, past-none, within-higher, first-above, first-until, first-past}
 use Rattle.rules.proofs.Members.{In, in-none, in-keep}
-use Rattle.rules.proofs.Witness.{Taken, none, more}
+use Rattle.rules.proofs.Witness.{Taken, none, more, taken-append}
 use Rattle.rules.proofs.Ghost.{Event, fedAt, tookAt, inputOf, sentOf, gotOf, got-append}
 use Rattle.rules.proofs.Passing.{passing, goesOn}
 use Rattle.rules.proofs.Inv.{timeOf, Enters}
-use Rattle.rules.proofs.Kept.{kept, kept-got, kept-taken, Cuts, kept-passing, taken-took, taken-append}
+use Rattle.rules.proofs.Kept.{kept, kept-got, kept-taken, Cuts, kept-passing, taken-took}
 
 -- Messages of channel b taken at one time.
 abbrev pub tookAll : ℕ → ℕ → List Message → List Event
@@ -131,7 +131,7 @@ module _ (p : Plan) (n : ℕ) (row : ℕ → List Message) where
   emit-taken last [] h = none
   emit-taken last (tookAt c m t ∷ fs) (more l q s h) =
       let new : List Message = until timeOf (m .time) (past timeOf (last c) (row c)) in
-      taken-append p n (tookAll c t new) (emit row (changed last c (m .time)) fs) (took-taken p n c t l q s new) (emit-taken (changed last c (m .time)) fs h)
+      rw (map-append inputOf (tookAll c t new) (emit row (changed last c (m .time)) fs)) (taken-append (took-taken p n c t l q s new) (emit-taken (changed last c (m .time)) fs h))
 
   -- What is passed on of them are the placed ones.
   pub emit-passing : ((b : ℕ) → Enters p n b → Rises timeOf 0 (row b)) → (last : ℕ → ℕ) (fs : List Event) → Taken p n (map inputOf fs)
@@ -163,7 +163,7 @@ module _ (p : Plan) (n : ℕ) (base : ℕ → ℕ) (row : ℕ → List Message) 
       ∙ sym (cut-at timeOf (base b) rises)
 
   pub rebuilt-taken : Taken p n (map inputOf es) → Taken p n (map inputOf fs) → Taken p n (map inputOf (rebuilt base row es fs))
-  rebuilt-taken h k = taken-append p n (kept base es) (emit row base fs) (kept-taken p n base es h) (emit-taken p n row base fs k)
+  rebuilt-taken h k = rw (map-append inputOf (kept base es) (emit row base fs)) (taken-append (kept-taken p n base es h) (emit-taken p n row base fs k))
 
   pub rebuilt-passing : (low : ℕ) → Taken p n (map inputOf es) → Taken p n (map inputOf fs)
       → ((b : ℕ) (m : Message) (t : ℕ) → In (tookAt b m t) es → goesOn p n m ≡ true → Cuts low base b m t)

@@ -17,12 +17,8 @@ use Rattle.rules.proofs.LineLaws.{lane-there, lane-else}
 use Rattle.rules.proofs.Ghost.{Ghost}
 use Rattle.rules.proofs.Inv.{Inv, Shape, isUp, Ends, Enters, Leaves, Nodes}
 use Rattle.rules.proofs.InvLaws.{up-not-replay}
-use Rattle.rules.proofs.Stays.{marks-stay, nodes-stay, events-stay, ends-stay, replays-stay}
+use Rattle.rules.proofs.Stays.{shape-beside, marks-stay, nodes-stay, events-stay, ends-stay, replays-stay}
 use Rattle.rules.proofs.SendKeeps.{send-channels}
-
-pub shape-beside : {l : Line} (b : ℕ) (x : Lane) → Shape l → Shape (withLane b x l)
-unfolding withLane
-shape-beside {l} b x s = record { nodes-long = s .nodes-long; lanes-long = length-set (l .lanes) b x ∙ s .lanes-long }
 
 module _ (l : Line) (g : Ghost) (cut base : ℕ → ℕ) (fed : List Act) (receipts : List Receipt) (crashes : List ℕ) (inv : Inv l g cut base fed receipts crashes) where
   pub send-inv : (b : ℕ) (e : Entry) → b < channelCount (l .plan) → sendable l b ≡ some e → isUp l (channelAt (l .plan) b .sender) → nodeAt l (channelAt (l .plan) b .receiver) .status ≢ down

@@ -7,6 +7,7 @@ use mathlib.Core.List.{List, [], _∷_, _++_, map}
 use native.Mathlib.Omega.{arith}
 use native.Mathlib.Decide.{ℕ-discrete}
 use lib.Dec.{eqb}
+use lib.ListN.{length-set}
 use Rattle.plan.specs.Plan.{Plan, channelAt, channelCount}
 use Rattle.rules.specs.Lists.{keep, greatestOf}
 use Rattle.rules.specs.Line.{Message, Entry, Held, Target, Status, up, down, replay, Node, Lane, Line, nodeAt, laneAt, withLane}
@@ -19,7 +20,7 @@ use Rattle.rules.proofs.Members.{In}
 use Rattle.rules.proofs.LineLaws.{lane-else}
 use Rattle.rules.proofs.Ghost.{Event, tookAt, Ghost, takesMessage, put, got, logPut}
 use Rattle.rules.proofs.Passing.{passing, goesOn, heldOf}
-use Rattle.rules.proofs.Inv.{timeOf, isUp, named, Leaves, Enters, Reached, targetFrom, Marks, Nodes, SenderUp, Channels, Events, Ends, Row, Replays}
+use Rattle.rules.proofs.Inv.{timeOf, isUp, named, Leaves, Enters, Reached, targetFrom, Marks, Nodes, Shape, SenderUp, Channels, Events, Ends, Row, Replays}
 use Rattle.rules.proofs.Grow.{sender-same, sender-receiving}
 
 -- A line with the plan of another.
@@ -146,7 +147,11 @@ module _ (l : Line) (steps : ℕ) (nodes : List Node) (lanes : List Lane) where
         (let (taken, cuts, is, puts) = entering b h in
         record { base-got = omega (arith, r .base-got); base-taken = omega (arith, r .base-taken); to-goal = rw (taken, is, same) (r .to-goal); held = rw (same, taken, is, puts) (r .held) }))
 
--- A channel that another channel's change leaves.
+-- Only one channel changes: the shape stays, and so do the others.
+pub shape-beside : {l : Line} (b : ℕ) (x : Lane) → Shape l → Shape (withLane b x l)
+unfolding withLane
+shape-beside {l} b x s = record { nodes-long = s .nodes-long; lanes-long = length-set (l .lanes) b x ∙ s .lanes-long }
+
 pub channel-beside : (l : Line) (g : Ghost) (cut : ℕ → ℕ) (b c : ℕ) (x : Lane) → c ≢ b → Channels l g cut c → Channels (withLane b x l) g cut c
 unfolding withLane
 channel-beside l g cut b c x d = channel-stays l (l .steps) (l .nodes) (withLane b x l .lanes) g g c refl refl (lane-else b x l c d) refl (λ _. refl) cut cut refl refl

@@ -32,6 +32,10 @@ pub data Taken (p : Plan) (n : ℕ) : List Input → Type 0 where
   none : Taken p n []
   more : {b : ℕ} {r : Record} {is : List Input} → b < length (p .channels) → channelAt p b .receiver ≡ n → channelAt p b .sender < n → Taken p n is → Taken p n (tookIn b r ∷ is)
 
+pub taken-append : {p : Plan} {n : ℕ} {is js : List Input} → Taken p n is → Taken p n js → Taken p n (is ++ js)
+taken-append none t = t
+taken-append (more h q s r) t = more h q s (taken-append r t)
+
 -- Every channel has given a part of what was put on it.
 abbrev pub Prefixed : Plan → History → Type 0
 Prefixed p h = (b : ℕ) → b < length (p .channels) → (rest : List Record) × (outs p h b ≡ ins p h b ++ rest)
