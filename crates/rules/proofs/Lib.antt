@@ -13,7 +13,6 @@ pub mod Grow
 pub mod Stays
 pub mod InvLaws
 pub mod Logging
-pub mod SendKeeps
 pub mod LanesLaws
 pub mod Swept
 pub mod FeedInv

@@ -1,6 +1,6 @@
 -- An optional value: what it is when it is there, and that nothing is not something.
-use mathlib.Core.Path.{_≡_, refl}
-use mathlib.Core.Bool.{false, true≢false}
+use mathlib.Core.Path.{_≡_, refl, sym}
+use mathlib.Core.Bool.{true, false, true≢false}
 use mathlib.Core.Option.{Option, none, some, Option·some-injective, Option·none-ne-some}
 use Rattle.rules.specs.Step.{isNothing}
 
@@ -10,6 +10,10 @@ module _ {A : Type 0} where
 
   pub none-some : {B : Type 0} {x : A} → none ≡ some x → B
   none-some {x = x} e = absurd (Option·none-ne-some x e)
+
+  pub nothing-none : (o : Option A) → isNothing o ≡ true → o ≡ none
+  nothing-none none e = refl
+  nothing-none (some x) e = absurd (true≢false (sym e))
 
   pub something-there : (o : Option A) → isNothing o ≡ false → (x : A) × (o ≡ some x)
   something-there none e = absurd (true≢false e)

@@ -4,6 +4,7 @@ use mathlib.Core.Path.{_≡_, refl, sym, ap, subst, _∙_}
 use mathlib.Core.Logic.{_≢_}
 use mathlib.Core.Bool.{Bool, true, false, _&&_, true≢false}
 use mathlib.Core.List.{List, [], _∷_, _++_, map, cons≢nil}
+use mathlib.Core.Option.{Option}
 use native.Mathlib.Omega.{arith}
 use native.Mathlib.Decide.{ℕ-discrete}
 use lib.ListN.{length, getD}
@@ -21,31 +22,18 @@ use Rattle.rules.specs.Plain.{Act, Receipt, plainRun, atRest}
 use Rattle.rules.specs.Claim.{quiet}
 use Rattle.rules.proofs.ListLaws.{empty-none}
 use Rattle.rules.proofs.Rising.{until, past, cut-at, rises-past, past-past}
+use Rattle.rules.proofs.Options.{nothing-none}
 use Rattle.rules.proofs.Members.{all-in, in-up-to}
 use Rattle.rules.proofs.Ghost.{Ghost, put, logPut}
 use Rattle.rules.proofs.Inv.{Inv, timeOf}
 use Rattle.rules.proofs.InvLaws.{up-not-down}
+use Rattle.rules.proofs.SendInv.{First, sendable-first}
 use Rattle.rules.proofs.Conclusion.{run, run-empties}
 
 status-up : (s : Status) → isUp s ≡ true → s ≡ up
 status-up up e = refl
 status-up down e = absurd (true≢false (sym e))
 status-up replay e = absurd (true≢false (sym e))
-
--- The messages of a log past the mark that a channel takes.
-abbrev chosenPast : Channel → ℕ → List Entry → List Message
-chosenPast c mark log = past timeOf mark (keep (λ (m : Message). takes c (m .what)) (map messageOf log))
-
--- Where nothing can be sent there are none.
-nothing-past : (c : Channel) (mark : ℕ) (log : List Entry) → isNothing (nextToSend c mark log) ≡ true → chosenPast c mark log ≡ []
-nothing-past c mark [] e = refl
-nothing-past c mark (d ∷ log) e = one (ltb mark (d .time)) (takes c (d .what)) refl refl (λ h. nothing-past c mark log h)
-  where
-    one : (late fits : Bool) → ltb mark (d .time) ≡ late → takes c (d .what) ≡ fits → (isNothing (nextToSend c mark log) ≡ true → chosenPast c mark log ≡ []) → chosenPast c mark (d ∷ log) ≡ []
-    one true true a b rest = absurd (true≢false (sym (rw (a, b, nextToSend) at e)))
-    one true false a b rest = rw b (rest (rw (a, b, nextToSend) at e))
-    one false true a b rest = rw (b, a) (rest (rw (a, nextToSend) at e))
-    one false false a b rest = rw b (rest (rw (a, nextToSend) at e))
 
 -- Every channel empty is rest.
 empty-rests : (qs : List (List Record)) → ((b : ℕ) → b < length qs → getD qs b [] ≡ []) → atRest qs ≡ true
@@ -78,8 +66,7 @@ module _ (l : Line) (g : Ghost) (cut base : ℕ → ℕ) (fed : List Act) (recei
     sender-up = all-up (channelAt (l .plan) b .sender) (omega (arith, inv .ordered .forward b h, inv .ordered .inside b h))
 
     none-late : past timeOf (laneAt l b .mark) (logPut l b) ≡ []
-    unfolding logPut sendable
-    none-late = nothing-past (channelAt (l .plan) b) (laneAt l b .mark) (nodeAt l (channelAt (l .plan) b .sender) .log) (idle .0)
+    none-late = subst (λ (o : Option Entry). First o (past timeOf (laneAt l b .mark) (logPut l b))) (nothing-none (sendable l b) (idle .0)) (sendable-first l b)
 
     -- All that was put on the channel was got.
     pub nothing-to-come : past timeOf (cut b) (put (l .plan) g b) ≡ []
