@@ -33,7 +33,7 @@ use Rattle.rules.proofs.LineLaws.{node-there, node-else}
 use Rattle.rules.proofs.Witness.{Taken}
 use Rattle.rules.proofs.Ghost.{Event, fedAt, tookAt, Ghost, eventTime, inputOf, entryOf, put, got, gotOf}
 use Rattle.rules.proofs.Passing.{goesOn, heldOf}
-use Rattle.rules.proofs.Kept.{Took, no-takes, took, taken-by, order-kept}
+use Rattle.rules.proofs.Kept.{taken-each, order-kept}
 use Rattle.rules.proofs.Joins.{in-entering, entering-in, in-taking, some-leaves}
 use Rattle.rules.proofs.Targets.{high-above}
 use Rattle.rules.proofs.PlacedEvents.{PlacedEvents, placed-events}
@@ -43,12 +43,6 @@ use Rattle.rules.proofs.MarkedLaws.{own, one-channel, taken-put, got-ri
 use Rattle.rules.proofs.Stays.{moved}
 use Rattle.rules.proofs.RebuildEvents.{Rebuilding}
 use Rattle.rules.proofs.RebuildInv.{ghostAfter, cutAfter, rebuild-inv}
-
--- Events that are all takes.
-took-all : (es : List Event) → ((e : Event) → In e es → (b : ℕ) × (m : Message) × (t : ℕ) × (e ≡ tookAt b m t)) → Took es
-took-all [] f = no-takes
-took-all (fedAt r u ∷ es) f = let (b, m, t, e) = f (fedAt r u) here in let z : _≡_ {A = ℕ} 0 1 = cc in let no : ⊥ = omega arith in absurd no
-took-all (tookAt b m t ∷ es) f = took (took-all es (λ e i. f e (there i)))
 
 module _ (l : Line) (g : Ghost) (cut base : ℕ → ℕ) (fed : List Act) (receipts : List Receipt) (crashes : List ℕ) (inv : Inv l g cut base fed receipts crashes) (n : ℕ) (replaying : nodeAt l n .status ≡ replay)
     (columns : List ℕ) (keeps : KeepsRules (nodeAt l n .time) (highOf l n) (itemsByRow l n 0 (heldByRow (nodeAt l n .held) l (entering (l .plan) n))) columns)
@@ -142,19 +136,15 @@ module _ (l : Line) (g : Ghost) (cut base : ℕ → ℕ) (fed : List Act) (recei
           | no d ↦ subst (λ (z : ℕ). In (tookAt b m z) (g n)) (sym (P .fixed b m t w d)) (fixed-event b m h (row-put b m on) d)
         ]
 
-  enters-took : (c : ℕ) (x : Message) (u : ℕ) → In (tookAt c x u) fs → (c < channelCount (l .plan)) × (channelAt (l .plan) c .receiver ≡ n) × (channelAt (l .plan) c .sender < n)
-  enters-took c x u w =
-      let (b′, m′, t′, e, i, j) = P .took (tookAt c x u) w in
-      let q : b′ ≡ c = cc in
-      let (on, into) = subst (Enters (l .plan) n) q (entering-in (l .plan) n b′ i) in
-      (on, into, omega (arith, into, inv .ordered .forward c on))
-
   rebuilding : Rebuilding l g base n (highOf l n) fs
   unfolding rowsComplete rowComplete
   rebuilding =
       let (c, out) = some-leaves (l .plan) n (inv .marks .between n marked .1) in
       record {
-        took = taken-by (l .plan) n (took-all fs (λ e i. (let (b, m, t, q, _, _) = P .took e i in (b, m, t, q)))) enters-took;
+        took = taken-each (l .plan) n fs λ e i.
+            (let (b, m, t, q, j, _) = P .took e i in
+            let (on, into) = entering-in (l .plan) n b j in
+            (b, m, t, q, on, into, omega (arith, into, inv .ordered .forward b on)));
         rises = P .rises;
         within = P .within;
         got-is = λ b h. P .got-is b (in-entering (l .plan) n b (h .0) (h .1));

@@ -1,6 +1,6 @@
 -- The events of a history that a recovered node keeps: for each channel the messages up to a time.
 use Prim.Native.Nat.{ℕ, _<_, _≤_}
-use mathlib.Core.Path.{_≡_, refl, sym, ap, _∙_}
+use mathlib.Core.Path.{_≡_, refl, sym, ap, subst, _∙_}
 use mathlib.Core.Logic.{_⊎_, inl, inr}
 use mathlib.Core.Bool.{Bool, true, false}
 use mathlib.Core.List.{List, [], _∷_, _++_, map}
@@ -28,19 +28,11 @@ keptBy base (tookAt b m t) = leb (m .time) (base b)
 abbrev pub kept : (ℕ → ℕ) → List Event → List Event
 kept base es = keep (keptBy base) es
 
--- Events that are all takes.
-pub data Took : List Event → Type 0 where
-  no-takes : Took []
-  took : {b : ℕ} {m : Message} {t : ℕ} {es : List Event} → Took es → Took (tookAt b m t ∷ es)
-
 module _ (p : Plan) (n : ℕ) where
-  pub taken-took : (es : List Event) → Taken p n (map inputOf es) → Took es
-  taken-took [] h = no-takes
-  taken-took (tookAt b m t ∷ es) (more l q s h) = took (taken-took es h)
-
-  pub taken-by : {es : List Event} → Took es → ((b : ℕ) (m : Message) (t : ℕ) → In (tookAt b m t) es → (b < channelCount p) × (channelAt p b .receiver ≡ n) × (channelAt p b .sender < n)) → Taken p n (map inputOf es)
-  taken-by no-takes f = none
-  taken-by (took {b = b} {m = m} {t = t} h) f = let (l, q, s) = f b m t here in more l q s (taken-by h (λ c k u i. f c k u (there i)))
+  -- Events that were each taken from a channel that enters node n.
+  pub taken-each : (es : List Event) → ((e : Event) → In e es → (b : ℕ) × (m : Message) × (t : ℕ) × (e ≡ tookAt b m t) × (b < channelCount p) × (channelAt p b .receiver ≡ n) × (channelAt p b .sender < n)) → Taken p n (map inputOf es)
+  taken-each [] f = none
+  taken-each (e ∷ es) f = let (b, m, t, q, h, r, s) = f e here in subst (λ (x : Event). Taken p n (inputOf x ∷ map inputOf es)) (sym q) (more h r s (taken-each es (λ d i. f d (there i))))
 
   pub taken-keep : (f : Event → Bool) (es : List Event) → Taken p n (map inputOf es) → Taken p n (map inputOf (keep f es))
   taken-keep f [] h = none
@@ -85,10 +77,10 @@ Cuts low base b m t = (m .time ≤ base b → t ≤ low) × (t ≤ low → m .ti
 
 module _ (p : Plan) (n low : ℕ) (base : ℕ → ℕ) where
   -- What is passed on of the kept events is what was passed on up to low.
-  pub kept-passing : (es : List Event) → ((b : ℕ) (m : Message) (t : ℕ) → In (tookAt b m t) es → goesOn p n m ≡ true → Cuts low base b m t) → Took es
+  pub kept-passing : (es : List Event) → ((b : ℕ) (m : Message) (t : ℕ) → In (tookAt b m t) es → goesOn p n m ≡ true → Cuts low base b m t) → Taken p n (map inputOf es)
       → passing p n (kept base es) ≡ until timeOf low (passing p n es)
   kept-passing [] cuts h = refl
-  kept-passing (tookAt b m t ∷ es) cuts (took h) = one (goesOn p n m) (leb (m .time) (base b)) refl refl (kept-passing es (λ c k u i. cuts c k u (there i)) h)
+  kept-passing (tookAt b m t ∷ es) cuts (more l q s h) = one (goesOn p n m) (leb (m .time) (base b)) refl refl (kept-passing es (λ c k u i. cuts c k u (there i)) h)
     where
       same : goesOn p n m ≡ true → leb t low ≡ leb (m .time) (base b)
       same d = let (f, g) = cuts b m t here d in same-test t low (m .time) (base b) g f

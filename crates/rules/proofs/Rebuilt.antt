@@ -20,7 +20,7 @@ use Rattle.rules.proofs.Witness.{Taken, none, more, taken-append}
 use Rattle.rules.proofs.Ghost.{Event, fedAt, tookAt, inputOf, sentOf, gotOf, got-append}
 use Rattle.rules.proofs.Passing.{passing, goesOn}
 use Rattle.rules.proofs.Inv.{timeOf, Enters}
-use Rattle.rules.proofs.Kept.{kept, kept-got, kept-taken, Cuts, kept-passing, taken-took}
+use Rattle.rules.proofs.Kept.{kept, kept-got, kept-taken, Cuts, kept-passing}
 
 -- Messages of channel b taken at one time.
 abbrev pub tookAll : ℕ → ℕ → List Message → List Event
@@ -172,5 +172,5 @@ module _ (p : Plan) (n : ℕ) (base : ℕ → ℕ) (row : ℕ → List Message) 
       → passing p n (rebuilt base row es fs) ≡ until timeOf low (passing p n es) ++ map (sentOf p n) fs
   rebuilt-passing low h k cuts rises held =
       passing-append p n (kept base es) (emit row base fs)
-      ∙ ap (λ (ms : List Message). ms ++ passing p n (emit row base fs)) (kept-passing p n low base es cuts (taken-took p n es h))
+      ∙ ap (λ (ms : List Message). ms ++ passing p n (emit row base fs)) (kept-passing p n low base es cuts h)
       ∙ ap (λ (ms : List Message). until timeOf low (passing p n es) ++ ms) (emit-passing p n row rises base fs k held)
