@@ -26,7 +26,7 @@ use Rattle.rules.proofs.Stays.{moved, unmarked-same, nodes-stay, channe
 use Rattle.rules.proofs.Swept.{swept, swept-line, swept-long, swept-enters, swept-leaves, swept-else}
 
 -- Names joined to a list.
-pub named-left : (n : ℕ) (ns ms : List ℕ) → named n (ns ++ ms) ≡ false → (named n ns ≡ false) × (named n ms ≡ false)
+named-left : (n : ℕ) (ns ms : List ℕ) → named n (ns ++ ms) ≡ false → (named n ns ≡ false) × (named n ms ≡ false)
 named-left n [] ms e = (refl, e)
 named-left n (k ∷ ns) ms e = let (a, b) = neither-true (eqb n k) (named n (ns ++ ms)) e in let (c, d) = named-left n ns ms b in (rw a c, d)
 

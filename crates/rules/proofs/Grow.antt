@@ -33,7 +33,7 @@ pub until-more : (t : Bool) (m : Message) (xs : List Message) (j : ℕ) → j < 
 until-more true m xs j l = until-snoc timeOf xs m l
 until-more false m xs j l = ap (until timeOf j) (nil-right xs)
 
-pub past-more : (t : Bool) (m : Message) (xs : List Message) (j : ℕ) → j < m .time → past timeOf j (xs ++ keepOne t m []) ≡ past timeOf j xs ++ keepOne t m []
+past-more : (t : Bool) (m : Message) (xs : List Message) (j : ℕ) → j < m .time → past timeOf j (xs ++ keepOne t m []) ≡ past timeOf j xs ++ keepOne t m []
 past-more true m xs j l = past-snoc timeOf xs m l
 past-more false m xs j l = ap (past timeOf j) (nil-right xs) ∙ sym (nil-right (past timeOf j xs))
 

@@ -44,10 +44,10 @@ module _ (l : Line) (g : Ghost) (cut base : ℕ → ℕ) (fed : List Act) (recei
   abbrev pub beside : Line
   beside = withLane b taken l
 
-  abbrev pub n : ℕ
+  abbrev n : ℕ
   n = channelAt (l .plan) b .receiver
 
-  abbrev pub receipt : Receipt
+  abbrev receipt : Receipt
   receipt = record { receiver = n; what = m .what; sender = channelAt (l .plan) b .sender }
 
   abbrev puts : List Message

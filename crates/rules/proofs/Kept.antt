@@ -21,7 +21,7 @@ use Rattle.rules.proofs.Carried.{in-got-of}
 use Rattle.rules.proofs.Inv.{timeOf}
 
 -- For each channel b the messages with a time at most base b.
-abbrev pub keptBy : (ℕ → ℕ) → Event → Bool
+abbrev keptBy : (ℕ → ℕ) → Event → Bool
 keptBy base (fedAt r t) = true
 keptBy base (tookAt b m t) = leb (m .time) (base b)
 
@@ -34,7 +34,7 @@ module _ (p : Plan) (n : ℕ) where
   taken-each [] f = none
   taken-each (e ∷ es) f = let (b, m, t, q, h, r, s) = f e here in subst (λ (x : Event). Taken p n (inputOf x ∷ map inputOf es)) (sym q) (more h r s (taken-each es (λ d i. f d (there i))))
 
-  pub taken-keep : (f : Event → Bool) (es : List Event) → Taken p n (map inputOf es) → Taken p n (map inputOf (keep f es))
+  taken-keep : (f : Event → Bool) (es : List Event) → Taken p n (map inputOf es) → Taken p n (map inputOf (keep f es))
   taken-keep f [] h = none
   taken-keep f (tookAt b m t ∷ es) (more l q s h) = one (f (tookAt b m t)) (taken-keep f es h)
     where
@@ -104,7 +104,7 @@ got-after : {a : ℕ} (b : ℕ) (m : Message) (t : ℕ) (es : List Event) → Ri
 got-after b m t es h = rises-after timeOf (eqb b b) m (gotOf b es) (eq-eqb b b refl) (rw one-joined at h)
 
 module _ (p : Plan) (n : ℕ) where
-  pub in-passing : {e : Event} {es : List Event} → In e es → passedOn p n (sentOf p n e .what) ≡ true → In (sentOf p n e) (passing p n es)
+  in-passing : {e : Event} {es : List Event} → In e es → passedOn p n (sentOf p n e .what) ≡ true → In (sentOf p n e) (passing p n es)
   in-passing i g = in-keep (λ (m : Message). passedOn p n (m .what)) (in-map (sentOf p n) i) g
 
   -- Of two messages of one channel that are passed on, the one not later on the channel is not later at the node.
@@ -130,9 +130,3 @@ module _ (p : Plan) (n : ℕ) where
       ],
       reach m t i d,
     )
-
-    pub base-cuts : ((b : ℕ) → Rises timeOf 0 (gotOf b es))
-        → ((b : ℕ) (m : Message) (t : ℕ) → In (tookAt b m t) es → goesOn p n m ≡ true → t ≤ low → m .time ≤ base b)
-        → ((b : ℕ) → (base b ≡ 0) ⊎ ((m : Message) × (t : ℕ) × In (tookAt b m t) es × (goesOn p n m ≡ true) × (t ≤ low) × (m .time ≡ base b)))
-        → (b : ℕ) (m : Message) (t : ℕ) → In (tookAt b m t) es → goesOn p n m ≡ true → Cuts low base b m t
-    base-cuts r reach is b = cuts-at b (r b) (reach b) (is b)

@@ -15,16 +15,13 @@ use Rattle.rules.proofs.Passing.{passing}
 use Rattle.rules.proofs.Inv.{timeOf}
 
 module _ (p : Plan) (n c : ℕ) (there : c < channelCount p) (leaves : channelAt p c .sender ≡ n) where
-  pub taken-passing : (es : List Event) → keep (takesMessage p c) (map (sentOf p n) es) ≡ keep (takesMessage p c) (passing p n es)
+  taken-passing : (es : List Event) → keep (takesMessage p c) (map (sentOf p n) es) ≡ keep (takesMessage p c) (passing p n es)
   taken-passing es = sym (keep-wider (takesMessage p c) (λ (m : Message). passedOn p n (m .what)) (λ m e. takes-passed p n (m .what) c there leaves e) (map (sentOf p n) es))
 
   pub put-passing : (g : Ghost) → put p g c ≡ keep (takesMessage p c) (passing p n (g n))
   unfolding put
   put-passing g = ap (λ (k : ℕ). keep (takesMessage p c) (map (sentOf p k) (g k))) leaves ∙ taken-passing (g n)
 
--- What a channel takes of what lies up to a time, or past it.
+-- What a channel takes of what lies up to a time.
 pub taken-until : (p : Plan) (c k : ℕ) (ms : List Message) → keep (takesMessage p c) (until timeOf k ms) ≡ until timeOf k (keep (takesMessage p c) ms)
 taken-until p c k ms = keep-swap (takesMessage p c) (λ (m : Message). leb (m .time) k) ms
-
-pub taken-past : (p : Plan) (c k : ℕ) (ms : List Message) → keep (takesMessage p c) (past timeOf k ms) ≡ past timeOf k (keep (takesMessage p c) ms)
-taken-past p c k ms = keep-swap (takesMessage p c) (λ (m : Message). ltb k (m .time)) ms

@@ -16,7 +16,7 @@ use Rattle.rules.proofs.ListLaws.{keep-append, map-append, nil-right}
 use Rattle.rules.proofs.Rising.{until, Rises, Within}
 use Rattle.rules.proofs.LineLaws.{node-there, node-else}
 use Rattle.rules.proofs.Ghost.{Event, Ghost, eventTime, eventOrigin, eventBefore, entryOf, sentOf, takesMessage, put, got, gotOne, logPut, later, later-there, later-else, put-there, put-else, got-there, got-else}
-use Rattle.rules.proofs.Passing.{passing}
+use Rattle.rules.proofs.Passing.{passing, passing-append}
 use Rattle.rules.proofs.Inv.{timeOf, isUp, Enters, Marks, Shape, Channels, Events, Ends, Replays}
 use Rattle.rules.proofs.InvLaws.{up-not-replay}
 use Rattle.rules.proofs.Grow.{rises-more, within-more, until-more, sender-grows, sender-receiving, sender-same}
@@ -133,9 +133,7 @@ module _ (l : Line) (n : ℕ) (e : Event) (there : n < length (l .nodes)) where
           late q = omega (arith, own, ap (λ (x : ℕ). nodeAt l x .time) q)
 
       more-passing : (g : Ghost) (m : ℕ) → m ≡ n → passing (l .plan) m (later g n e m) ≡ passing (l .plan) m (g m) ++ keepOne (passedOn (l .plan) m (sentOf (l .plan) m e .what)) (sentOf (l .plan) m e) []
-      more-passing g m q =
-          let f : Message → Bool = λ x. passedOn (l .plan) m (x .what) in
-          ap (passing (l .plan) m) (later-there g n m e q) ∙ ap (keep f) (map-append (sentOf (l .plan) m) (g m) (e ∷ [])) ∙ keep-append f (map (sentOf (l .plan) m) (g m)) (sentOf (l .plan) m e ∷ [])
+      more-passing g m q = ap (passing (l .plan) m) (later-there g n m e q) ∙ passing-append (l .plan) m (g m) (e ∷ [])
 
       pub logging-events : (g : Ghost) (m : ℕ) → Events l g m → Events (withNode n (nodeLogs l n e) l) (later g n e) m
       unfolding withNode

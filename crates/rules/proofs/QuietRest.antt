@@ -69,7 +69,7 @@ module _ (l : Line) (g : Ghost) (cut base : ℕ → ℕ) (fed : List Act) (recei
     none-late = subst (λ (o : Option Entry). First o (past timeOf (laneAt l b .mark) (logPut l b))) (nothing-none (sendable l b) (idle .0)) (sendable-first l b)
 
     -- All that was put on the channel was got.
-    pub nothing-to-come : past timeOf (cut b) (put (l .plan) g b) ≡ []
+    nothing-to-come : past timeOf (cut b) (put (l .plan) g b) ≡ []
     nothing-to-come =
         let c = inv .channels b h in
         let s = c .sender-up sender-up in

@@ -58,7 +58,7 @@ module _ (l : Line) (g : Ghost) (cut base : ℕ → ℕ) (fed : List Act) (recei
   took-own : Taken (l .plan) n (map inputOf (g n))
   took-own = own inv n marked
 
-  pub row-rises : (b : ℕ) → Enters (l .plan) n b → Rises timeOf 0 (row b)
+  row-rises : (b : ℕ) → Enters (l .plan) n b → Rises timeOf 0 (row b)
   row-rises b h = rises-keep timeOf (λ (m : Message). leb (m .time) (laneAt l b .taken)) (inv .channels b (h .0) .rises)
 
   whole : (b : ℕ) → Enters (l .plan) n b → (k : ℕ) → base b ≤ k → keep (goesOn (l .plan) n) (past timeOf k (row b)) ≡ [] → past timeOf k (row b) ≡ []
@@ -96,7 +96,7 @@ module _ (l : Line) (g : Ghost) (cut base : ℕ → ℕ) (fed : List Act) (recei
   took-rebuilt = rebuilt-taken (l .plan) n base row (g n) fs took-own (r .took)
 
   -- What it passes on.
-  pub passing-rebuilt : passing (l .plan) n events ≡ until timeOf (nodeAt l n .time) (passing (l .plan) n (g n)) ++ map (sentOf (l .plan) n) fs
+  passing-rebuilt : passing (l .plan) n events ≡ until timeOf (nodeAt l n .time) (passing (l .plan) n (g n)) ++ map (sentOf (l .plan) n) fs
   passing-rebuilt = rebuilt-passing (l .plan) n base row (g n) fs (nodeAt l n .time) took-own (r .took) (inv .replays n replaying .base-cuts) row-rises (r .got-is)
 
   pub rise-rebuilt : Rises timeOf 0 (passing (l .plan) n events)

@@ -18,25 +18,19 @@ use Rattle.rules.proofs.Rising.{until, past, Rises, Within, cut-at, ris
 use Rattle.rules.proofs.Members.{In, in-none, in-keep}
 use Rattle.rules.proofs.Witness.{Taken, none, more, taken-append}
 use Rattle.rules.proofs.Ghost.{Event, fedAt, tookAt, inputOf, sentOf, gotOf, got-append}
-use Rattle.rules.proofs.Passing.{passing, goesOn}
+use Rattle.rules.proofs.Passing.{passing, passing-append, goesOn}
 use Rattle.rules.proofs.Inv.{timeOf, Enters}
 use Rattle.rules.proofs.Kept.{kept, kept-got, kept-taken, Cuts, kept-passing}
 
 -- Messages of channel b taken at one time.
-abbrev pub tookAll : ℕ → ℕ → List Message → List Event
+abbrev tookAll : ℕ → ℕ → List Message → List Event
 tookAll b t ms = map (λ (m : Message). tookAt b m t) ms
 
 -- For each placed event what its channel's row has past the last one and up to it; those that are not passed on are given the event's time.
-abbrev pub emit : (ℕ → List Message) → (ℕ → ℕ) → List Event → List Event
+abbrev emit : (ℕ → List Message) → (ℕ → ℕ) → List Event → List Event
 emit row last [] = []
 emit row last (fedAt r t ∷ fs) = emit row last fs
 emit row last (tookAt b m t ∷ fs) = tookAll b t (until timeOf (m .time) (past timeOf (last b) (row b))) ++ emit row (changed last b (m .time)) fs
-
--- Joined histories.
-pub passing-append : (p : Plan) (n : ℕ) (es fs : List Event) → passing p n (es ++ fs) ≡ passing p n es ++ passing p n fs
-passing-append p n es fs =
-    let goes : Message → Bool = λ m. passedOn p n (m .what) in
-    ap (keep goes) (map-append (sentOf p n) es fs) ∙ keep-append goes (map (sentOf p n) es) (map (sentOf p n) fs)
 
 -- Messages of one channel, taken at one time.
 took-there : (c b t : ℕ) → c ≡ b → (ms : List Message) → gotOf b (tookAll c t ms) ≡ ms
@@ -103,7 +97,7 @@ module _ (p : Plan) (n : ℕ) (row : ℕ → List Message) (b : ℕ) (rises : Ri
         ]
 
   -- The placed events bring the whole row: its held messages are those placed, and none lies behind the last held one.
-  pub emit-got : (last : ℕ → ℕ) (fs : List Event) → gotOf b fs ≡ keep (goesOn p n) (past timeOf (last b) (row b))
+  emit-got : (last : ℕ → ℕ) (fs : List Event) → gotOf b fs ≡ keep (goesOn p n) (past timeOf (last b) (row b))
       → ((k : ℕ) → last b ≤ k → keep (goesOn p n) (past timeOf k (row b)) ≡ [] → past timeOf k (row b) ≡ [])
       → gotOf b (emit row last fs) ≡ past timeOf (last b) (row b)
   emit-got last [] held whole = sym (whole (last b) (omega arith) (sym held))
@@ -127,14 +121,14 @@ ends-held p n base ms (inr (m, i, d, w)) k l none-held =
     ]
 
 module _ (p : Plan) (n : ℕ) (row : ℕ → List Message) where
-  pub emit-taken : (last : ℕ → ℕ) (fs : List Event) → Taken p n (map inputOf fs) → Taken p n (map inputOf (emit row last fs))
+  emit-taken : (last : ℕ → ℕ) (fs : List Event) → Taken p n (map inputOf fs) → Taken p n (map inputOf (emit row last fs))
   emit-taken last [] h = none
   emit-taken last (tookAt c m t ∷ fs) (more l q s h) =
       let new : List Message = until timeOf (m .time) (past timeOf (last c) (row c)) in
       rw (map-append inputOf (tookAll c t new) (emit row (changed last c (m .time)) fs)) (taken-append (took-taken p n c t l q s new) (emit-taken (changed last c (m .time)) fs h))
 
   -- What is passed on of them are the placed ones.
-  pub emit-passing : ((b : ℕ) → Enters p n b → Rises timeOf 0 (row b)) → (last : ℕ → ℕ) (fs : List Event) → Taken p n (map inputOf fs)
+  emit-passing : ((b : ℕ) → Enters p n b → Rises timeOf 0 (row b)) → (last : ℕ → ℕ) (fs : List Event) → Taken p n (map inputOf fs)
       → ((b : ℕ) → Enters p n b → gotOf b fs ≡ keep (goesOn p n) (past timeOf (last b) (row b)))
       → passing p n (emit row last fs) ≡ map (sentOf p n) fs
   emit-passing rises last [] h held = refl

@@ -40,7 +40,7 @@ use Rattle.rules.proofs.RebuildInv.{ghostAfter, cutAfter, rebuild-inv}
 use Rattle.rules.proofs.EndInv.{Goes, ended-inv}
 
 -- The log of a node that never crashed holds all that it put on a channel.
-pub log-whole : {l : Line} {g : Ghost} {fed : List Act} {receipts : List Receipt} → Nodes l g fed receipts → (b : ℕ) → nodeAt l (channelAt (l .plan) b .sender) .crashed ≡ false → logPut l b ≡ put (l .plan) g b
+log-whole : {l : Line} {g : Ghost} {fed : List Act} {receipts : List Receipt} → Nodes l g fed receipts → (b : ℕ) → nodeAt l (channelAt (l .plan) b .sender) .crashed ≡ false → logPut l b ≡ put (l .plan) g b
 unfolding logPut put
 log-whole {l} {g} nodes b e =
     let n = channelAt (l .plan) b .sender in
@@ -51,7 +51,7 @@ module _ (l : Line) (g : Ghost) (cut base : ℕ → ℕ) (fed : List Act) (recei
   marked = marked-unless-up (inv .marks) n (λ e. up-not-down (sym e ∙ is-down))
 
   -- The restored entries of the entering channels.
-  abbrev pub baseAfter : ℕ → ℕ
+  abbrev baseAfter : ℕ → ℕ
   baseAfter b = cond (eqb (channelAt (l .plan) b .receiver) n) (restored l n (channelAt (l .plan) b .sender)) (base b)
 
   base-now : (b : ℕ) → channelAt (l .plan) b .receiver ≡ n → baseAfter b ≡ restored l n (channelAt (l .plan) b .sender)
@@ -83,7 +83,7 @@ module _ (l : Line) (g : Ghost) (cut base : ℕ → ℕ) (fed : List Act) (recei
             omega (arith, e, leb-true (m .time) (cut b) in-cut))
       ]
 
-  abbrev pub restoredNode : Status → Node
+  abbrev restoredNode : Status → Node
   restoredNode s = record { status = s; crashed = true; time = lowOf l n; log = []; held = []; targets = targetsOf l n }
 
   abbrev left : ℕ → Lane → Lane
@@ -93,7 +93,7 @@ module _ (l : Line) (g : Ghost) (cut base : ℕ → ℕ) (fed : List Act) (recei
   entered c s = freshLane (l .plan) (channelAt (l .plan) c) (restored l n (channelAt (l .plan) c .sender))
 
   -- The line with the node restored, in a given status.
-  abbrev pub restoredAs : Status → Line
+  abbrev restoredAs : Status → Line
   restoredAs s = moved l (l .steps) (withNode n (restoredNode s) l .nodes) (recovered n l .lanes)
 
   recovered-is : recovered n l ≡ restoredAs (statusOf (targetsOf l n))
@@ -104,15 +104,15 @@ module _ (l : Line) (g : Ghost) (cut base : ℕ → ℕ) (fed : List Act) (recei
     abbrev k : Line
     k = restoredAs s
 
-    pub node-now : nodeAt k n ≡ restoredNode s
+    node-now : nodeAt k n ≡ restoredNode s
     unfolding withNode
     node-now = node-there n (restoredNode s) l (rw (inv .shape .nodes-long) inside)
 
-    pub node-other : (m : ℕ) → m ≢ n → nodeAt k m ≡ nodeAt l m
+    node-other : (m : ℕ) → m ≢ n → nodeAt k m ≡ nodeAt l m
     unfolding withNode
     node-other m d = node-else n (restoredNode s) l m d
 
-    pub nodes-count : length (k .nodes) ≡ length (l .nodes)
+    nodes-count : length (k .nodes) ≡ length (l .nodes)
     unfolding withNode
     nodes-count = length-set (l .nodes) n (restoredNode s)
 

@@ -54,7 +54,7 @@ first-up : (b : ℕ) (m : Message) (rest : List Message) (l : Line) → replayin
 first-up b m rest l e = rw (e, takenFirst)
 
 module _ (l : Line) (g : Ghost) (cut base : ℕ → ℕ) (fed : List Act) (receipts : List Receipt) (crashes : List ℕ) (inv : Inv l g cut base fed receipts crashes) where
-  pub feed-step : (n : ℕ) (r : List ℕ) → CanFeed l n → (k : Line) → effect l (feed n r) ≡ some k
+  feed-step : (n : ℕ) (r : List ℕ) → CanFeed l n → (k : Line) → effect l (feed n r) ≡ some k
       → Inv k (later g n (fedAt (recordLayout .read r) (suc (nodeAt l n .time)))) cut base (fed ++ feeds n (recordLayout .read r) ∷ []) receipts crashes
   unfolding effect fedLine
   feed-step n r can k e =
@@ -62,27 +62,27 @@ module _ (l : Line) (g : Ghost) (cut base : ℕ → ℕ) (fed : List Act) (recei
       (feed-inv l g cut base fed receipts crashes inv n (recordLayout .read r) (can .here) (can .source))
 
   -- A replaying sender has nothing to send, its log is empty.
-  pub sender-sends : (b : ℕ) (e : Entry) → sendable l b ≡ some e → nodeAt l (channelAt (l .plan) b .sender) .status ≢ down → isUp l (channelAt (l .plan) b .sender)
+  sender-sends : (b : ℕ) (e : Entry) → sendable l b ≡ some e → nodeAt l (channelAt (l .plan) b .sender) .status ≢ down → isUp l (channelAt (l .plan) b .sender)
   unfolding sendable
   sender-sends b e first d = elim (up-or-replay (nodeAt l (channelAt (l .plan) b .sender) .status) d) [
     | inl q ↦ q
     | inr q ↦ none-some (sym (ap (nextToSend (channelAt (l .plan) b) (laneAt l b .mark)) (inv .replays (channelAt (l .plan) b .sender) q .log-none)) ∙ first)
   ]
 
-  pub send-step : (b : ℕ) → CanSend l b → (k : Line) → effect l (send b) ≡ some k → Inv k g cut base fed receipts crashes
+  send-step : (b : ℕ) → CanSend l b → (k : Line) → effect l (send b) ≡ some k → Inv k g cut base fed receipts crashes
   unfolding effect
   send-step b can k e =
       subst (λ (x : Line). Inv x g cut base fed receipts crashes) (ap (λ (o : Option Entry). sentLine b o l) (sym (can .first)) ∙ some-same e)
       (send-inv l g cut base fed receipts crashes inv b (can .entry) (can .here) (can .first) (sender-sends b (can .entry) (can .first) (can .sender)) (can .receiver))
 
-  pub crash-step : (n : ℕ) → CanCrash l n → (k : Line) → effect l (crash n) ≡ some k → Inv k g cut base fed receipts (crashes ++ n ∷ [])
+  crash-step : (n : ℕ) → CanCrash l n → (k : Line) → effect l (crash n) ≡ some k → Inv k g cut base fed receipts (crashes ++ n ∷ [])
   unfolding effect
   crash-step n can k e =
       subst (λ (x : Line). Inv x g cut base fed receipts (crashes ++ n ∷ [])) (some-same e)
       (crash-inv l g cut base fed receipts crashes inv n (can .here) (can .no-source) (can .no-sink) (can .parents) (can .children))
 
   -- The sender of a channel with a message on it is up.
-  pub sender-gives : (b : ℕ) (m : Message) (rest : List Message) → b < channelCount (l .plan) → laneAt l b .queue ≡ m ∷ rest → isUp l (channelAt (l .plan) b .sender)
+  sender-gives : (b : ℕ) (m : Message) (rest : List Message) → b < channelCount (l .plan) → laneAt l b .queue ≡ m ∷ rest → isUp l (channelAt (l .plan) b .sender)
   sender-gives b m rest here first = up-unless (nodeAt l (channelAt (l .plan) b .sender) .status) (λ d. nil≢cons (sym (inv .ends b here .stopped d) ∙ first))
 
   module _ (b : ℕ) (can : CanTake l b) (alive : isUp l (channelAt (l .plan) b .receiver)) where
@@ -96,7 +96,7 @@ module _ (l : Line) (g : Ghost) (cut base : ℕ → ℕ) (fed : List Act) (recei
     unfolding effect takenLine
     taken-is = ap (λ (q : List Message). takenFirst b q l) (can .first) ∙ first-up b m (can .rest) l (ap isReplay alive)
 
-    pub take-up-step : (k : Line) → effect l (take b) ≡ some k
+    take-up-step : (k : Line) → effect l (take b) ≡ some k
         → Inv k (later g n (tookAt b m (suc (nodeAt l n .time)))) (changed cut b (m .time)) base fed (receipts ++ receiptOf l (take b)) crashes
     unfolding takenUp takenLane
     take-up-step k e =
@@ -111,7 +111,7 @@ module _ (l : Line) (g : Ghost) (cut base : ℕ → ℕ) (fed : List Act) (recei
     unfolding effect takenLine
     again-is = ap (λ (q : List Message). takenFirst b q l) (can .first) ∙ first-again b (can .message) (can .rest) l (ap isReplay again)
 
-    pub take-again-step : (k : Line) → effect l (take b) ≡ some k → Kept k fed (receipts ++ receiptOf l (take b)) crashes
+    take-again-step : (k : Line) → effect l (take b) ≡ some k → Kept k fed (receipts ++ receiptOf l (take b)) crashes
     take-again-step k e =
         let one : receiptOf l (take b) ≡ record { receiver = channelAt (l .plan) b .receiver; what = can .message .what; sender = channelAt (l .plan) b .sender } ∷ [] = ap (firstReceipt l b) (can .first) in
         let (g′, cut′, i) = replay-take-inv l g cut base fed receipts crashes inv b (can .here) (can .message) (can .rest) (can .first) (sender-gives b (can .message) (can .rest) (can .here) (can .first)) again (can .below-goal again) k (sym again-is ∙ e) in
