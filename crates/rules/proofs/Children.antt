@@ -10,8 +10,7 @@ use lib.Dec.{leb, eqb}
 use borrow.Author.Tests.{eq-eqb, eqb-true, le-leb, leb-true}
 use Rattle.basics.specs.Bools.{both-true}
 use Rattle.plan.specs.Rule.{applied}
-use Rattle.plan.specs.Channel.{takes}
-use Rattle.plan.specs.Plan.{Plan, ruleAt, channelAt, channelCount}
+use Rattle.plan.specs.Plan.{ruleAt, channelAt, channelCount}
 use Rattle.rules.specs.Lists.{keep, greatestOf}
 use Rattle.rules.specs.Line.{made, Message, Entry, Target, Line, nodeAt, laneAt}
 use Rattle.rules.specs.Recover.{lowOf, childTriples, restored, targetsOf}

@@ -1,29 +1,27 @@
 -- Crash keeps the invariant: histories do not move, and the logs of the neighbours, which never crashed, hold all that was put on.
-use Prim.Native.Nat.{ℕ, zero, suc, max, _+_, _<_, _≤_}
+use Prim.Native.Nat.{ℕ, _<_}
 use mathlib.Core.Path.{_≡_, refl, sym, ap, subst, _∙_}
 use mathlib.Core.Logic.{_≢_, _⊎_, inl, inr}
-use mathlib.Core.Bool.{Bool, true, false, true≢false}
-use mathlib.Core.List.{List, [], _∷_, _++_, map}
+use mathlib.Core.Bool.{true, false, true≢false}
+use mathlib.Core.List.{List, [], _∷_, _++_}
 use native.Mathlib.Omega.{arith}
 use native.Mathlib.Decide.{ℕ-discrete}
 use lib.ListN.{length, length-set}
 use lib.Dec.{eqb}
-use borrow.Author.Tests.{eq-eqb, ne-eqb}
-use Rattle.plan.specs.Plan.{Plan, channelAt, nodeCount, channelCount, isSource, isSink, entering, leaving}
+use borrow.Author.Tests.{eq-eqb}
+use Rattle.plan.specs.Plan.{channelAt, nodeCount, isSource, isSink}
 use Rattle.basics.specs.Bools.{neither-true}
-use Rattle.rules.specs.Lists.{keep, anyOf}
-use Rattle.rules.specs.Line.{Message, Entry, Status, up, down, replay, Node, Lane, Line, nodeAt, laneAt, withNode, withLane, withLanes, freshLane}
-use Rattle.rules.specs.Clock.{messageOf}
+use Rattle.rules.specs.Line.{up, down, replay, Node, Lane, Line, nodeAt, laneAt, withNode, freshLane}
 use Rattle.rules.specs.Step.{crashedLine}
 use Rattle.rules.specs.Plain.{Act, Receipt}
-use Rattle.rules.proofs.Rising.{until, past, Within}
+use Rattle.rules.proofs.Rising.{Within}
 use Rattle.rules.proofs.LineLaws.{node-there, node-else}
-use Rattle.rules.proofs.Ghost.{Ghost, Event, entryOf, sentOf, takesMessage, put, got, logPut}
-use Rattle.rules.proofs.Inv.{Inv, Shape, isUp, named, timeOf, Enters, Leaves, Marks, Nodes, SenderUp, Channels, Ends, Replays}
+use Rattle.rules.proofs.Ghost.{Ghost, put, logPut}
+use Rattle.rules.proofs.Inv.{Inv, Shape, isUp, named, timeOf, Enters, Leaves, Marks, Channels, Ends, Replays}
 use Rattle.rules.proofs.InvLaws.{up-not-down, replay-not-down, up-not-replay, replay-marked}
 use Rattle.rules.proofs.MarkedLaws.{at-ends, sender-other, receiver-other}
 use Rattle.rules.proofs.Stays.{moved, unmarked-same, nodes-stay, channel-stays, ends-stay, events-stay, replays-stay}
-use Rattle.rules.proofs.Swept.{swept, swept-line, swept-long, swept-enters, swept-leaves, swept-else}
+use Rattle.rules.proofs.Swept.{swept-line, swept-long, swept-enters, swept-leaves, swept-else}
 
 -- Names joined to a list.
 named-left : (n : ℕ) (ns ms : List ℕ) → named n (ns ++ ms) ≡ false → (named n ns ≡ false) × (named n ms ≡ false)

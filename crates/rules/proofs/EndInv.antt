@@ -1,9 +1,9 @@
 -- The end of a replay keeps the invariant, for any columns that keep the placing's rules.
-use Prim.Native.Nat.{ℕ, zero, suc, max, _+_, _<_, _≤_}
+use Prim.Native.Nat.{ℕ, _<_, _≤_}
 use mathlib.Core.Path.{_≡_, refl, sym, ap, subst, _∙_}
-use mathlib.Core.Logic.{_≢_, _⊎_, inl, inr}
-use mathlib.Core.Bool.{Bool, true, false, true≢false, not, _&&_, _||_}
-use mathlib.Core.List.{List, [], _∷_, _++_, map}
+use mathlib.Core.Logic.{_≢_, inl, inr}
+use mathlib.Core.Bool.{Bool, true, false, not, _&&_}
+use mathlib.Core.List.{List, [], map}
 use mathlib.Core.Option.{Option, none, some}
 use native.Mathlib.Omega.{arith}
 use native.Mathlib.Decide.{ℕ-discrete}
@@ -15,32 +15,29 @@ use Rattle.placing.specs.Table.{tableFits}
 use Rattle.placing.specs.Answer.{unplaceable, chosenColumns}
 use Rattle.placing.specs.Rules.{KeepsRules}
 use Rattle.placing.proofs.Promise.{accepted}
-use Rattle.plan.specs.declared.Record.{Record}
 use Rattle.plan.specs.Rule.{applied}
 use Rattle.plan.specs.Channel.{takes}
-use Rattle.plan.specs.Plan.{Plan, ruleAt, channelAt, nodeCount, channelCount, isSink, isNone, entering, leaving}
+use Rattle.plan.specs.Plan.{ruleAt, channelAt, nodeCount, entering}
 use Rattle.plan.specs.Mask.{taking}
 use Rattle.basics.specs.Bools.{both-true}
-use Rattle.rules.specs.Lists.{keep, allOf, anyOf, joined, greatestOf}
-use Rattle.rules.specs.Line.{Message, Entry, Held, Target, Status, up, replay, Node, Lane, Line, nodeAt, laneAt, withNode}
+use Rattle.rules.specs.Lists.{keep, allOf, joined, greatestOf}
+use Rattle.rules.specs.Line.{Message, Entry, Held, Target, up, replay, Node, Line, nodeAt, laneAt, withNode}
 use Rattle.rules.specs.Recover.{highOf, rowGoal, rowComplete, rowsComplete}
 use Rattle.rules.specs.Replay.{fixedAt, floorOf, heldByRow, itemsByRow, isHeld, placedLog, placing, nodePlaced, replayEnd, endedIfComplete}
 use Rattle.rules.specs.Plain.{Act, Receipt}
-use Rattle.rules.proofs.Rising.{until, past, Rises, rises-keep}
-use Rattle.rules.proofs.Members.{In, here, there, in-none, in-keep, keep-in, in-map, map-in, all-in, any-in, in-greatest, greatest-in, rises-once}
+use Rattle.rules.proofs.Rising.{until, past}
+use Rattle.rules.proofs.Members.{In, in-keep, keep-in, in-map, map-in, all-in, any-in, in-greatest, greatest-in, rises-once}
 use Rattle.rules.proofs.Options.{some-same, none-some}
 use Rattle.rules.proofs.LineLaws.{node-there, node-else}
-use Rattle.rules.proofs.Witness.{Taken}
-use Rattle.rules.proofs.Ghost.{Event, fedAt, tookAt, Ghost, eventTime, inputOf, entryOf, put, got, gotOf}
+use Rattle.rules.proofs.Ghost.{Event, tookAt, Ghost, entryOf, put}
 use Rattle.rules.proofs.Passing.{goesOn, heldOf}
 use Rattle.rules.proofs.Kept.{taken-each, order-kept}
 use Rattle.rules.proofs.Joins.{in-entering, entering-in, in-taking, some-leaves}
 use Rattle.rules.proofs.Targets.{high-above}
 use Rattle.rules.proofs.PlacedEvents.{PlacedEvents, placed-events}
-use Rattle.rules.proofs.Inv.{timeOf, Enters, Leaves, Reached, targetFrom, Replays, Channels, Inv}
+use Rattle.rules.proofs.Inv.{timeOf, Enters, Leaves, Reached, Replays, Inv}
 use Rattle.rules.proofs.InvLaws.{took-enters, reached-goes, replay-marked}
 use Rattle.rules.proofs.MarkedLaws.{own, one-channel, taken-put, got-rises}
-use Rattle.rules.proofs.Stays.{moved}
 use Rattle.rules.proofs.RebuildEvents.{Rebuilding}
 use Rattle.rules.proofs.RebuildInv.{ghostAfter, cutAfter, rebuild-inv}
 

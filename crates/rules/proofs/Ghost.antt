@@ -1,17 +1,15 @@
 -- The ghost history of an engine's line: each node's events, and for each channel what was put on it and what was got from it.
-use Prim.Native.Nat.{ℕ, zero, suc, _+_, _<_, _≤_}
+use Prim.Native.Nat.{ℕ}
 use mathlib.Core.Path.{_≡_, refl, sym, ap, _∙_}
 use mathlib.Core.Logic.{_≢_}
 use mathlib.Core.Bool.{Bool, true, false}
 use mathlib.Core.List.{List, [], _∷_, _++_, map, map-map, append-assoc}
 use Rattle.basics.specs.Update.{changed, changed-there, changed-else}
-use lib.ListN.{length}
 use lib.Dec.{eqb}
 use Rattle.plan.specs.declared.Record.{Record}
-use Rattle.plan.specs.declared.Channel.{Channel}
 use Rattle.plan.specs.Rule.{applied}
 use Rattle.plan.specs.Channel.{takes}
-use Rattle.plan.specs.Plan.{Plan, ruleAt, channelAt, nodeCount}
+use Rattle.plan.specs.Plan.{Plan, ruleAt, channelAt}
 use Rattle.rules.specs.Lists.{keep, keepOne}
 use Rattle.rules.specs.Line.{Origin, fed, made, Message, Entry, Line, nodeAt}
 use Rattle.rules.specs.Clock.{messageOf}

@@ -1,14 +1,12 @@
 -- A node logs one more event: what its leaving channels hold and what the log has for them grow together.
-use Prim.Native.Nat.{ℕ, zero, suc, _+_, _<_, _≤_}
-use mathlib.Core.Path.{_≡_, refl, sym, ap, subst, _∙_}
-use mathlib.Core.Logic.{_≢_}
+use Prim.Native.Nat.{ℕ, _<_, _≤_}
+use mathlib.Core.Path.{_≡_, sym, ap, subst, _∙_}
 use mathlib.Core.Bool.{Bool, true, false}
-use mathlib.Core.List.{List, [], _∷_, _++_, map}
+use mathlib.Core.List.{List, [], _∷_, _++_}
 use native.Mathlib.Omega.{arith}
-use lib.ListN.{length}
-use Rattle.rules.specs.Lists.{keep, keepOne}
+use Rattle.rules.specs.Lists.{keepOne}
 use Rattle.rules.specs.Line.{Message, Lane}
-use Rattle.rules.proofs.ListLaws.{keep-append, map-append, nil-right}
+use Rattle.rules.proofs.ListLaws.{keep-append, nil-right}
 use Rattle.rules.proofs.Rising.{until, past, Rises, Within, rises-snoc, within-snoc, within-higher, until-snoc, past-snoc, past-past, rises-past, cut-at, within-until, within-first, until-all, until-none, next-rises, next-until, next-past, within-past}
 use lib.Dec.{leb}
 use Rattle.rules.proofs.Inv.{timeOf, SenderUp}

@@ -2,16 +2,16 @@
 use Prim.Native.Nat.{ℕ, max, _<_, _≤_}
 use mathlib.Core.Path.{_≡_, refl, sym, ap, subst, _∙_}
 use mathlib.Core.Logic.{_≢_}
-use mathlib.Core.Bool.{Bool, true, false, true≢false}
+use mathlib.Core.Bool.{Bool, true, false}
 use mathlib.Core.List.{List, [], _∷_, _++_, map}
 use native.Mathlib.Omega.{arith}
 use native.Mathlib.Decide.{ℕ-discrete}
 use lib.ListN.{length, length-set}
-use lib.Dec.{leb, eqb}
-use borrow.Author.Tests.{eq-eqb, ne-eqb, eqb-true}
+use lib.Dec.{eqb}
+use borrow.Author.Tests.{eq-eqb, ne-eqb}
 use Rattle.plan.specs.Plan.{channelAt, channelCount}
 use Rattle.rules.specs.Lists.{keep, keepOne}
-use Rattle.rules.specs.Line.{Message, Held, Target, down, replay, Node, Lane, Line, nodeAt, laneAt, withNode, withLane}
+use Rattle.rules.specs.Line.{Message, Held, down, replay, Node, Lane, Line, nodeAt, laneAt, withNode, withLane}
 use Rattle.rules.specs.Clock.{messageOf}
 use Rattle.rules.specs.Recover.{rowGoal}
 use Rattle.rules.specs.Replay.{holding}
@@ -21,9 +21,9 @@ use Rattle.rules.proofs.ListLaws.{keep-append, keep-more, keep-none, ma
 use Rattle.rules.proofs.Rising.{until, past, past-snoc}
 use Rattle.rules.proofs.Members.{next-first}
 use Rattle.rules.proofs.LineLaws.{lane-else, lanes-long, node-there, node-else}
-use Rattle.rules.proofs.Ghost.{tookAt, Ghost, takesMessage, put, got, logPut}
+use Rattle.rules.proofs.Ghost.{Ghost, takesMessage, put, logPut}
 use Rattle.rules.proofs.Passing.{goesOn, heldOf}
-use Rattle.rules.proofs.Inv.{Inv, isUp, timeOf, Enters, Nodes, SenderUp, Channels, Ends, Row, Replays}
+use Rattle.rules.proofs.Inv.{Inv, isUp, timeOf, Enters, SenderUp, Channels, Ends, Row, Replays}
 use Rattle.rules.proofs.InvLaws.{up-not-replay, replay-not-down, replay-marked}
 use Rattle.rules.proofs.MarkedLaws.{goal-message}
 use Rattle.rules.proofs.Grow.{sender-taken, sender-cut, sender-same, sender-receiving}

@@ -1,23 +1,20 @@
 -- What follows from the invariant at once: who is up, and where a node's events came from.
-use Prim.Native.Nat.{ℕ, zero, suc, _+_, _<_, _≤_}
-use mathlib.Core.Path.{_≡_, refl, sym, ap, subst, _∙_}
-use mathlib.Core.Logic.{_≢_, _⊎_, inl, inr}
+use Prim.Native.Nat.{ℕ}
+use mathlib.Core.Path.{_≡_, refl, sym, _∙_}
+use mathlib.Core.Logic.{_≢_}
 use mathlib.Core.Bool.{Bool, true, false, true≢false}
-use mathlib.Core.List.{List, [], _∷_, _++_, map}
+use mathlib.Core.List.{List, _∷_, map}
 use native.Mathlib.Omega.{arith}
-use lib.ListN.{length}
-use Rattle.plan.specs.declared.Record.{Record}
 use Rattle.plan.specs.Rule.{applied}
-use Rattle.plan.specs.Plan.{ruleAt, Plan, channelAt, channelCount, isSource, isSink}
-use Rattle.rules.specs.Line.{Message, Status, up, down, replay, Line, nodeAt, laneAt}
+use Rattle.plan.specs.Plan.{ruleAt, Plan, isSource}
+use Rattle.rules.specs.Line.{Message, up, down, replay, Line, nodeAt}
 use Rattle.rules.specs.Plain.{Act, Receipt}
 use Rattle.rules.proofs.Members.{In, here, there}
-use Rattle.rules.proofs.PlainRun.{Input, fedIn, tookIn}
-use Rattle.rules.proofs.Witness.{Taken, none, more}
-use Rattle.rules.proofs.Ghost.{Event, fedAt, tookAt, Ghost, inputOf}
+use Rattle.rules.proofs.Witness.{Taken, more}
+use Rattle.rules.proofs.Ghost.{Event, tookAt, Ghost, inputOf}
 use Rattle.rules.proofs.Passing.{goesOn}
 use Rattle.rules.proofs.Joins.{takes-passed}
-use Rattle.rules.proofs.Inv.{isUp, Enters, Reached, Marks, Nodes, Channels, Inv}
+use Rattle.rules.proofs.Inv.{isUp, Enters, Reached, Marks, Nodes}
 
 pub up-not-replay : up ≡ replay → ⊥
 up-not-replay e = let z : _≡_ {A = ℕ} 0 1 = cc in omega arith

@@ -13,9 +13,9 @@ use Rattle.rules.specs.Lists.{keep, keepOne}
 use Rattle.rules.specs.Line.{Message}
 use Rattle.rules.specs.Replay.{passedOn}
 use Rattle.rules.proofs.Rising.{until, Rises, rises-rest, rises-after}
-use Rattle.rules.proofs.Members.{In, here, there, in-keep, in-map, in-right, rises-in}
+use Rattle.rules.proofs.Members.{In, here, there, in-keep, in-map, rises-in}
 use Rattle.rules.proofs.Witness.{Taken, none, more}
-use Rattle.rules.proofs.Ghost.{Event, fedAt, tookAt, inputOf, sentOf, gotOne, gotOf}
+use Rattle.rules.proofs.Ghost.{Event, fedAt, tookAt, inputOf, sentOf, gotOf}
 use Rattle.rules.proofs.Passing.{passing, goesOn}
 use Rattle.rules.proofs.Carried.{in-got-of}
 use Rattle.rules.proofs.Inv.{timeOf}

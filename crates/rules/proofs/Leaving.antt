@@ -1,13 +1,13 @@
 -- A channel that leaves a node takes only what the node passes on.
 use Prim.Native.Nat.{ℕ, _<_}
-use mathlib.Core.Path.{_≡_, refl, sym, ap, _∙_}
+use mathlib.Core.Path.{_≡_, sym, ap, _∙_}
 use mathlib.Core.List.{List, map}
-use lib.Dec.{leb, ltb}
+use lib.Dec.{leb}
 use Rattle.plan.specs.Plan.{Plan, channelAt, channelCount}
 use Rattle.rules.specs.Lists.{keep}
 use Rattle.rules.specs.Line.{Message}
 use Rattle.rules.specs.Replay.{passedOn}
-use Rattle.rules.proofs.Rising.{until, past}
+use Rattle.rules.proofs.Rising.{until}
 use Rattle.rules.proofs.Joins.{takes-passed}
 use Rattle.rules.proofs.ListLaws.{keep-swap, keep-wider}
 use Rattle.rules.proofs.Ghost.{Event, Ghost, sentOf, takesMessage, put}

@@ -2,13 +2,13 @@
 use Prim.Native.Nat.{ℕ, suc, _<_, _≤_}
 use mathlib.Core.Path.{_≡_, refl, sym, ap, subst, _∙_}
 use mathlib.Core.Logic.{_≢_}
-use mathlib.Core.Bool.{Bool, false}
+use mathlib.Core.Bool.{false}
 use mathlib.Core.List.{List, [], _∷_, _++_, map}
 use native.Mathlib.Omega.{arith}
 use native.Mathlib.Decide.{ℕ-discrete}
 use lib.ListN.{length, length-set}
 use Rattle.plan.specs.Plan.{channelAt}
-use Rattle.rules.specs.Lists.{keep, keepOne, greatestOf}
+use Rattle.rules.specs.Lists.{keep, keepOne}
 use Rattle.rules.specs.Line.{Message, Entry, down, replay, Node, Line, nodeAt, laneAt, withNode}
 use Rattle.rules.specs.Clock.{logged, messageOf}
 use Rattle.rules.specs.Replay.{passedOn}

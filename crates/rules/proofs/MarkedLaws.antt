@@ -1,6 +1,6 @@
 -- The events of a node that has crashed, and its neighbours, which have not.
-use Prim.Native.Nat.{ℕ, _<_, _≤_}
-use mathlib.Core.Path.{_≡_, refl, sym, ap, subst, _∙_}
+use Prim.Native.Nat.{ℕ, _<_}
+use mathlib.Core.Path.{_≡_, sym, ap, subst, _∙_}
 use mathlib.Core.Logic.{_≢_, inl, inr}
 use mathlib.Core.Bool.{Bool, true, false, true≢false}
 use mathlib.Core.List.{List, map}
@@ -16,10 +16,10 @@ use Rattle.rules.specs.Plain.{Act, Receipt}
 use Rattle.rules.proofs.Rising.{until, Rises, rises-keep}
 use Rattle.rules.proofs.Members.{In, keep-in, map-in, greatest-in}
 use Rattle.rules.proofs.Witness.{Taken}
-use Rattle.rules.proofs.Ghost.{Event, tookAt, Ghost, inputOf, put, got, gotOf}
+use Rattle.rules.proofs.Ghost.{tookAt, Ghost, inputOf, put, got, gotOf}
 use Rattle.rules.proofs.Passing.{goesOn}
 use Rattle.rules.proofs.Carried.{in-got-of}
-use Rattle.rules.proofs.Inv.{timeOf, isUp, Enters, Leaves, Channels, Inv}
+use Rattle.rules.proofs.Inv.{timeOf, isUp, Enters, Leaves, Inv}
 use Rattle.rules.proofs.InvLaws.{took-enters, if-marked, marked-took, replay-marked, reached-goes}
 
 -- A channel at either end of a node, or beside it.

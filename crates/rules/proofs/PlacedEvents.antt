@@ -8,13 +8,12 @@ use native.Mathlib.Omega.{arith}
 use native.Mathlib.Decide.{ℕ-discrete, decLt}
 use lib.ListN.{length, getD}
 use lib.Dec.{eqb, ltb}
-use borrow.Author.Tests.{eq-eqb, ne-eqb, lt-ltb, le-ltb, ltb-false, eqb-true}
-use Rattle.plan.specs.declared.Channel.{Channel}
+use borrow.Author.Tests.{eq-eqb, ne-eqb, lt-ltb, le-ltb, ltb-false}
 use Rattle.plan.specs.Rule.{applied}
 use Rattle.plan.specs.Plan.{Plan, ruleAt, channelAt, entering}
 use Rattle.placing.specs.Item.{Item, itemAt}
 use Rattle.placing.specs.Rules.{KeepsRules}
-use Rattle.rules.specs.Lists.{keep, keepOne, joined}
+use Rattle.rules.specs.Lists.{keep, joined}
 use Rattle.rules.specs.Line.{Message, Entry, Held, Line, nodeAt}
 use Rattle.rules.specs.Recover.{highOf}
 use Rattle.rules.specs.Replay.{fixedAt, floorOf, itemOf, heldByRow, itemsByRow, entryAt, addEntry, placedLog}

@@ -1,12 +1,12 @@
 -- A history is a run: what each node took, in order, is what a run of the plain line gives it.
-use Prim.Native.Nat.{ℕ, zero, suc, _+_, _<_, _≤_}
+use Prim.Native.Nat.{ℕ, zero, suc, _<_}
 use mathlib.Core.Path.{_≡_, refl, sym, ap, subst, _∙_}
 use mathlib.Core.Logic.{_≢_}
 use mathlib.Core.Bool.{Bool, true, false, _&&_}
 use mathlib.Core.List.{List, [], _∷_, _++_, map, append-assoc}
 use native.Mathlib.Omega.{arith}
 use native.Mathlib.Decide.{ℕ-discrete}
-use lib.ListN.{length, getD, set, length-set, length-map}
+use lib.ListN.{length, getD, set, length-set}
 use lib.Seq.{getD-set-same, getD-set-other}
 use lib.Dec.{eqb}
 use borrow.Author.Tests.{eq-eqb, ne-eqb}
@@ -16,10 +16,10 @@ use Rattle.plan.specs.Rule.{applied}
 use Rattle.plan.specs.Channel.{takes}
 use Rattle.plan.specs.Plan.{Plan, ruleAt, channelAt, noChannel}
 use Rattle.rules.specs.Lists.{keep, keepOne}
-use Rattle.rules.specs.Plain.{Act, feeds, takesFrom, Receipt, PlainLine, joinIf, joinEach, passOn, takeFirst, act, runFrom}
+use Rattle.rules.specs.Plain.{feeds, takesFrom, Receipt, PlainLine, joinIf, joinEach, passOn, act}
 use Rattle.rules.specs.Claim.{receivedBy}
 use Rattle.basics.specs.Update.{changed, changed-there, changed-else}
-use Rattle.rules.proofs.ListLaws.{keep-append, map-append, append-cancel, nil-right}
+use Rattle.rules.proofs.ListLaws.{keep-append, map-append, nil-right}
 
 -- What a node took in: a record fed, or a record taken from a channel.
 pub data Input : Type 0 where

@@ -1,22 +1,17 @@
 -- A quiet line: nothing put on a channel is still to come, so the run of its history is at rest.
-use Prim.Native.Nat.{ℕ, zero, suc, _+_, _<_, _≤_}
+use Prim.Native.Nat.{ℕ, suc, _<_}
 use mathlib.Core.Path.{_≡_, refl, sym, ap, subst, _∙_}
 use mathlib.Core.Logic.{_≢_}
-use mathlib.Core.Bool.{Bool, true, false, _&&_, true≢false}
-use mathlib.Core.List.{List, [], _∷_, _++_, map, cons≢nil}
+use mathlib.Core.Bool.{Bool, true, _&&_, true≢false}
+use mathlib.Core.List.{List, [], _∷_, _++_, cons≢nil}
 use mathlib.Core.Option.{Option}
 use native.Mathlib.Omega.{arith}
-use native.Mathlib.Decide.{ℕ-discrete}
 use lib.ListN.{length, getD}
-use lib.Dec.{ltb}
 use Rattle.basics.specs.Bools.{both-true}
 use Rattle.plan.specs.declared.Record.{Record}
-use Rattle.plan.specs.declared.Channel.{Channel}
-use Rattle.plan.specs.Channel.{takes}
 use Rattle.plan.specs.Plan.{channelAt, nodeCount, channelCount}
-use Rattle.rules.specs.Lists.{keep, allOf, upTo, isEmpty}
+use Rattle.rules.specs.Lists.{allOf, upTo, isEmpty}
 use Rattle.rules.specs.Line.{Message, Entry, Status, up, down, replay, Line, nodeAt, laneAt, isUp}
-use Rattle.rules.specs.Clock.{messageOf, nextToSend}
 use Rattle.rules.specs.Step.{sendable, isNothing}
 use Rattle.rules.specs.Plain.{Act, Receipt, plainRun, atRest}
 use Rattle.rules.specs.Claim.{quiet}

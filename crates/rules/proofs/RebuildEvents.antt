@@ -1,31 +1,31 @@
 -- The history that a recovered node is given: what it took up to the restored entries, then what was placed. Its channels, seen from both ends.
-use Prim.Native.Nat.{ℕ, zero, suc, max, _+_, _<_, _≤_}
+use Prim.Native.Nat.{ℕ, _<_, _≤_}
 use mathlib.Core.Path.{_≡_, refl, sym, ap, subst, _∙_}
-use mathlib.Core.Logic.{_≢_, _⊎_, inl, inr}
-use mathlib.Core.Bool.{Bool, true, false, true≢false, _&&_}
-use mathlib.Core.List.{List, [], _∷_, _++_, map}
+use mathlib.Core.Logic.{_⊎_, inl, inr}
+use mathlib.Core.Bool.{Bool, true}
+use mathlib.Core.List.{List, [], _++_, map}
 use native.Mathlib.Omega.{arith}
-use native.Mathlib.Decide.{decLe, decLt, ℕ-discrete}
-use lib.Dec.{eqb, leb}
-use borrow.Author.Tests.{eqb-true, le-leb, leb-true}
+use native.Mathlib.Decide.{decLe}
+use lib.Dec.{leb}
+use borrow.Author.Tests.{le-leb, leb-true}
 use Rattle.plan.specs.Rule.{applied}
 use Rattle.plan.specs.Channel.{takes}
-use Rattle.plan.specs.Plan.{Plan, ruleAt, channelAt, channelCount}
-use Rattle.basics.specs.Update.{changed, changed-there, changed-else}
-use Rattle.rules.specs.Lists.{keep, greatestOf}
-use Rattle.rules.specs.Line.{Message, Target, Status, up, replay, Node, Lane, Line, nodeAt, laneAt}
+use Rattle.plan.specs.Plan.{ruleAt, channelAt}
+use Rattle.basics.specs.Update.{changed, changed-there}
+use Rattle.rules.specs.Lists.{keep}
+use Rattle.rules.specs.Line.{Message, replay, Line, nodeAt, laneAt}
 use Rattle.rules.specs.Recover.{rowGoal}
 use Rattle.rules.specs.Plain.{Act, Receipt}
-use Rattle.rules.proofs.ListLaws.{keep-append, keep-wider}
-use Rattle.rules.proofs.Rising.{until, past, Rises, none, more, Within, none-in, more-in, rises-lower, past-none, within-until, within-higher, until-all, until-none, rises-past, rises-keep, within-keep, until-until, rises-append, within-append, rises-map, within-map}
-use Rattle.rules.proofs.Members.{In, in-keep, keep-in, in-map, map-in, in-left, in-right, append-in, greatest-in, rises-same, within-by}
+use Rattle.rules.proofs.ListLaws.{keep-append}
+use Rattle.rules.proofs.Rising.{until, past, Rises, Within, past-none, within-until, within-higher, rises-keep, within-keep, until-until, rises-append, within-append, rises-map, within-map}
+use Rattle.rules.proofs.Members.{In, in-keep, keep-in, in-map, map-in, in-left, in-right, append-in, rises-same}
 use Rattle.rules.proofs.Witness.{Taken}
 use Rattle.rules.proofs.Ghost.{Event, tookAt, Ghost, eventTime, inputOf, sentOf, takesMessage, put, got, gotOf}
 use Rattle.rules.proofs.Passing.{passing, goesOn}
 use Rattle.rules.proofs.Carried.{put-in, in-put, taken-event}
 use Rattle.rules.proofs.Leaving.{put-passing, taken-until}
 use Rattle.rules.proofs.Rebuilt.{rebuilt, ends-held, rebuilt-got, rebuilt-taken, rebuilt-passing}
-use Rattle.rules.proofs.Inv.{timeOf, isUp, Enters, Leaves, Reached, targetFrom, Replays, Row, Channels, Inv}
+use Rattle.rules.proofs.Inv.{timeOf, Enters, Leaves, Reached, Row, Inv}
 use Rattle.rules.proofs.InvLaws.{replay-marked}
 use Rattle.rules.proofs.MarkedLaws.{own, goal-message}
 

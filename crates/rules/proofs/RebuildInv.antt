@@ -1,18 +1,18 @@
 -- A replaying node goes up with the events placed: the invariant holds with the rebuilt history.
-use Prim.Native.Nat.{ℕ, zero, suc, max, _+_, _<_, _≤_}
+use Prim.Native.Nat.{ℕ, _<_}
 use mathlib.Core.Path.{_≡_, refl, sym, ap, subst, _∙_}
-use mathlib.Core.Logic.{_≢_, _⊎_, inl, inr}
+use mathlib.Core.Logic.{_≢_}
 use mathlib.Core.Bool.{Bool, true, false, true≢false, cond}
-use mathlib.Core.List.{List, [], _∷_, _++_, map, map-map}
+use mathlib.Core.List.{List, [], _++_, map, map-map}
 use native.Mathlib.Omega.{arith}
 use native.Mathlib.Decide.{ℕ-discrete}
 use lib.ListN.{length}
 use lib.Dec.{eqb, ltb}
 use borrow.Author.Tests.{eq-eqb, ne-eqb}
-use Rattle.plan.specs.Plan.{Plan, channelAt, nodeCount, channelCount, isSource}
-use Rattle.basics.specs.Update.{changed, changed-there, changed-else}
+use Rattle.plan.specs.Plan.{channelAt, nodeCount, isSource}
+use Rattle.basics.specs.Update.{changed-there, changed-else}
 use Rattle.rules.specs.Lists.{keep, greatestOf}
-use Rattle.rules.specs.Line.{Message, Entry, Status, up, down, replay, Node, Lane, Line, nodeAt, laneAt}
+use Rattle.rules.specs.Line.{Message, up, down, replay, Node, Line, nodeAt, laneAt}
 use Rattle.rules.specs.Clock.{messageOf}
 use Rattle.rules.specs.Plain.{Act, Receipt}
 use Rattle.rules.proofs.ListLaws.{keep-append}
@@ -21,12 +21,12 @@ use Rattle.rules.proofs.PlainRun.{receiptsIn}
 use Rattle.rules.proofs.Witness.{Taken}
 use Rattle.rules.proofs.Ghost.{Event, Ghost, inputOf, entryOf, sentOf, takesMessage, put, got, gotOf, logPut}
 use Rattle.rules.proofs.Passing.{passing}
-use Rattle.rules.proofs.Inv.{timeOf, isUp, Enters, Leaves, Marks, Nodes, Shape, SenderUp, Channels, Events, Ends, Replays, Inv}
+use Rattle.rules.proofs.Inv.{timeOf, isUp, Enters, Leaves, Nodes, Channels, Events, Ends, Replays, Inv}
 use Rattle.rules.proofs.InvLaws.{up-not-replay, replay-not-down, replay-marked}
 use Rattle.rules.proofs.MarkedLaws.{at-ends, sender-other, receiver-other, parent-unmarked, child-unmarked}
 use Rattle.rules.proofs.Stays.{moved, unmarked-other, marks-beside, channel-stays, ends-stay, events-stay, replays-stay}
 use Rattle.rules.proofs.Grow.{sender-same, sender-receiving}
-use Rattle.rules.proofs.RebuildEvents.{Rebuilding, row, events, ghost, got-rebuilt, took-rebuilt, rise-rebuilt, within-rebuilt, put-rebuilt, put-rises, put-within, until-rebuilt}
+use Rattle.rules.proofs.RebuildEvents.{Rebuilding, events, ghost, got-rebuilt, took-rebuilt, rise-rebuilt, within-rebuilt, put-rebuilt, put-rises, put-within, until-rebuilt}
 
 module _ (l : Line) (g : Ghost) (cut base : ℕ → ℕ) (fed : List Act) (receipts : List Receipt) (crashes : List ℕ) (inv : Inv l g cut base fed receipts crashes) (n : ℕ) (inside : n < nodeCount (l .plan)) (replaying : nodeAt l n .status ≡ replay)
     (T : ℕ) (fs : List Event) (r : Rebuilding l g base n T fs)

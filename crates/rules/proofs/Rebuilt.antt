@@ -3,7 +3,7 @@ use Prim.Native.Nat.{ℕ, _<_, _≤_}
 use mathlib.Core.Path.{_≡_, refl, sym, ap, subst, _∙_}
 use mathlib.Core.Logic.{_⊎_, inl, inr, _≢_}
 use mathlib.Core.Bool.{Bool, true, false}
-use mathlib.Core.List.{List, [], _∷_, _++_, map, append-assoc}
+use mathlib.Core.List.{List, [], _∷_, _++_, map}
 use native.Mathlib.Omega.{arith}
 use native.Mathlib.Decide.{ℕ-discrete, decLe}
 use lib.Dec.{ltb}
@@ -12,8 +12,7 @@ use Rattle.basics.specs.Update.{changed, changed-there, changed-else}
 use Rattle.plan.specs.Plan.{Plan, channelAt, channelCount}
 use Rattle.rules.specs.Lists.{keep, keepOne}
 use Rattle.rules.specs.Line.{Message}
-use Rattle.rules.specs.Replay.{passedOn}
-use Rattle.rules.proofs.ListLaws.{keep-append, map-append}
+use Rattle.rules.proofs.ListLaws.{map-append}
 use Rattle.rules.proofs.Rising.{until, past, Rises, Within, cut-at, rises-past, past-past, past-none, within-higher, first-above, first-until, first-past}
 use Rattle.rules.proofs.Members.{In, in-none, in-keep}
 use Rattle.rules.proofs.Witness.{Taken, none, more, taken-append}

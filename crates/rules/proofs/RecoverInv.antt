@@ -1,18 +1,18 @@
 -- Recover keeps the invariant: the node replays from what its children have of it, or is up at once where it has no targets.
-use Prim.Native.Nat.{ℕ, zero, suc, max, _+_, _<_, _≤_}
+use Prim.Native.Nat.{ℕ, _<_, _≤_}
 use mathlib.Core.Path.{_≡_, refl, sym, ap, subst, _∙_}
-use mathlib.Core.Logic.{_≢_, _⊎_, inl, inr}
+use mathlib.Core.Logic.{_≢_, inl, inr}
 use mathlib.Core.Bool.{Bool, true, false, true≢false, cond}
-use mathlib.Core.List.{List, [], _∷_, _++_, map, map-map}
-use mathlib.Core.Option.{Option, none, some}
+use mathlib.Core.List.{List, [], _∷_, map, map-map}
+use mathlib.Core.Option.{none, some}
 use native.Mathlib.Omega.{arith}
 use native.Mathlib.Decide.{ℕ-discrete}
 use lib.ListN.{length, length-set}
 use lib.Dec.{eqb, leb}
 use borrow.Author.Tests.{eq-eqb, ne-eqb, leb-true}
-use Rattle.plan.specs.Plan.{Plan, channelAt, nodeCount, channelCount, isSource, entering, leaving}
-use Rattle.rules.specs.Lists.{keep, greatestOf, isEmpty}
-use Rattle.rules.specs.Line.{Message, Entry, Held, Target, Status, up, down, replay, Node, Lane, Line, nodeAt, laneAt, withNode, withLane, withLanes, freshLane}
+use Rattle.plan.specs.Plan.{channelAt, nodeCount, channelCount}
+use Rattle.rules.specs.Lists.{keep, isEmpty}
+use Rattle.rules.specs.Line.{Message, Entry, Held, Target, Status, up, down, replay, Node, Lane, Line, nodeAt, laneAt, withNode, freshLane}
 use Rattle.rules.specs.Clock.{messageOf}
 use Rattle.rules.specs.Recover.{lowOf, targetsOf, restored, recovered, statusOf, rowGoal, conflict}
 use Rattle.rules.specs.Replay.{endedIfComplete}
@@ -23,18 +23,18 @@ use Rattle.rules.proofs.Members.{In, in-none, keep-in}
 use Rattle.rules.proofs.Options.{some-same, none-some}
 use Rattle.rules.proofs.Witness.{Taken, none}
 use Rattle.rules.proofs.LineLaws.{node-there, node-else}
-use Rattle.rules.proofs.Ghost.{Event, tookAt, Ghost, inputOf, entryOf, takesMessage, put, got, gotOf, logPut}
+use Rattle.rules.proofs.Ghost.{Ghost, inputOf, entryOf, takesMessage, put, got, gotOf, logPut}
 use Rattle.rules.proofs.Passing.{goesOn, heldOf}
 use Rattle.rules.proofs.Kept.{cuts-at}
 use Rattle.rules.proofs.Carried.{in-got-of}
 use Rattle.rules.proofs.Joins.{no-source}
-use Rattle.rules.proofs.Targets.{low-below, high-above, targets-from, targets-of}
+use Rattle.rules.proofs.Targets.{low-below, targets-from, targets-of}
 use Rattle.rules.proofs.Children.{Child, triples-from, triples-of, restored-reach, restored-is, none-above}
-use Rattle.rules.proofs.Inv.{timeOf, isUp, Enters, Leaves, Reached, targetFrom, Marks, Nodes, Shape, SenderUp, Channels, Events, Ends, Row, Replays, Inv}
-use Rattle.rules.proofs.InvLaws.{took-enters, up-not-replay, up-not-down, replay-not-down, marked-unless-up, replay-marked, marked-took}
-use Rattle.rules.proofs.MarkedLaws.{at-ends, sender-other, receiver-other, parent-unmarked, child-unmarked, parent-up, child-up, own, got-rises, taken-put}
+use Rattle.rules.proofs.Inv.{timeOf, isUp, Enters, Leaves, targetFrom, Nodes, Shape, Channels, Ends, Row, Replays, Inv}
+use Rattle.rules.proofs.InvLaws.{took-enters, up-not-replay, up-not-down, marked-unless-up, replay-marked, marked-took}
+use Rattle.rules.proofs.MarkedLaws.{at-ends, sender-other, receiver-other, parent-unmarked, child-unmarked, parent-up, child-up, own, got-rises}
 use Rattle.rules.proofs.Stays.{moved, unmarked-same, marks-beside, nodes-stay, reached-back, reached-on, channel-stays, ends-stay, events-stay, replays-stay}
-use Rattle.rules.proofs.Swept.{swept, swept-line, swept-long, swept-enters, swept-leaves, swept-else}
+use Rattle.rules.proofs.Swept.{swept-line, swept-long, swept-enters, swept-leaves, swept-else}
 use Rattle.rules.proofs.RebuildEvents.{Rebuilding}
 use Rattle.rules.proofs.RebuildInv.{ghostAfter, cutAfter, rebuild-inv}
 use Rattle.rules.proofs.EndInv.{Goes, ended-inv}

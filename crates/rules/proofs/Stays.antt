@@ -1,26 +1,24 @@
 -- What holds of a line's nodes and channels stays where a change does not reach.
-use Prim.Native.Nat.{ℕ, zero, suc, max, _+_, _<_, _≤_}
+use Prim.Native.Nat.{ℕ, _≤_}
 use mathlib.Core.Path.{_≡_, refl, sym, ap, subst, _∙_}
 use mathlib.Core.Logic.{_≢_}
 use mathlib.Core.Bool.{true, false, true≢false}
-use mathlib.Core.List.{List, [], _∷_, _++_, map}
+use mathlib.Core.List.{List, map}
 use native.Mathlib.Omega.{arith}
 use native.Mathlib.Decide.{ℕ-discrete}
-use lib.Dec.{eqb}
 use lib.ListN.{length-set}
-use Rattle.plan.specs.Plan.{Plan, channelAt, channelCount}
+use Rattle.plan.specs.Plan.{channelAt}
 use Rattle.rules.specs.Lists.{keep, greatestOf}
-use Rattle.rules.specs.Line.{Message, Entry, Held, Target, Status, up, down, replay, Node, Lane, Line, nodeAt, laneAt, withLane}
-use Rattle.rules.specs.Recover.{rowGoal}
+use Rattle.rules.specs.Line.{Message, Target, down, Node, Lane, Line, nodeAt, laneAt, withLane}
 use Rattle.rules.specs.Clock.{messageOf}
 use Rattle.rules.specs.Plain.{Act, Receipt}
 use Rattle.rules.specs.Claim.{receivedBy}
-use Rattle.rules.proofs.Rising.{until, past, Rises, Within}
+use Rattle.rules.proofs.Rising.{until, Rises, Within}
 use Rattle.rules.proofs.Members.{In}
 use Rattle.rules.proofs.LineLaws.{lane-else}
 use Rattle.rules.proofs.Ghost.{Event, tookAt, Ghost, takesMessage, put, got, logPut}
-use Rattle.rules.proofs.Passing.{passing, goesOn, heldOf}
-use Rattle.rules.proofs.Inv.{timeOf, isUp, named, Leaves, Enters, Reached, targetFrom, Marks, Nodes, Shape, SenderUp, Channels, Events, Ends, Row, Replays}
+use Rattle.rules.proofs.Passing.{passing}
+use Rattle.rules.proofs.Inv.{timeOf, isUp, Leaves, Enters, Reached, targetFrom, Marks, Nodes, Shape, Channels, Events, Ends, Row, Replays}
 use Rattle.rules.proofs.Grow.{sender-same, sender-receiving}
 
 -- A line with the plan of another.

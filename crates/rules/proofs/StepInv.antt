@@ -4,11 +4,10 @@ use mathlib.Core.Path.{_≡_, refl, sym, ap, subst, _∙_}
 use mathlib.Core.Logic.{_≢_, _⊎_, inl, inr}
 use mathlib.Core.Bool.{true, false}
 use mathlib.Core.List.{List, [], _∷_, _++_, nil≢cons}
-use mathlib.Core.Option.{Option, none, some}
-use native.Mathlib.Omega.{arith}
+use mathlib.Core.Option.{Option, some}
 use Rattle.basics.specs.Update.{changed}
 use Rattle.plan.specs.Record.{recordLayout}
-use Rattle.plan.specs.Plan.{channelAt, nodeCount, channelCount, isSource, isSink}
+use Rattle.plan.specs.Plan.{channelAt, channelCount}
 use Rattle.rules.specs.Line.{Message, Entry, Status, up, down, replay, Line, nodeAt, laneAt, parents, isReplay, senderOf, receiverOf}
 use Rattle.rules.specs.Frame.{Frame, feed, send, take, crash, recover, frameOf}
 use Rattle.rules.specs.Clock.{nextToSend, raiseHeard}

@@ -1,15 +1,11 @@
 -- A change to all channels that enter a node and another to all that leave it, as Crash and Recover make them.
-use Prim.Native.Nat.{ℕ, zero, suc, _+_, _<_, _≤_}
-use mathlib.Core.Path.{_≡_, refl, sym, ap, subst, _∙_}
+use Prim.Native.Nat.{ℕ}
+use mathlib.Core.Path.{_≡_, refl, ap, _∙_}
 use mathlib.Core.Logic.{_≢_}
-use mathlib.Core.Bool.{Bool, true, false}
 use mathlib.Core.List.{List, [], _∷_}
 use native.Mathlib.Omega.{arith}
-use lib.ListN.{length, getD}
-use lib.Dec.{eqb}
-use borrow.Author.Tests.{eq-eqb, ne-eqb}
-use Rattle.plan.specs.declared.Channel.{Channel}
-use Rattle.plan.specs.Plan.{Plan, noChannel, channelAt, channelCount, entering, leaving}
+use lib.ListN.{length}
+use Rattle.plan.specs.Plan.{channelAt, channelCount, entering, leaving}
 use Rattle.rules.specs.Line.{Lane, Line, laneAt, withLane, withLanes}
 use Rattle.rules.proofs.LanesLaws.{lanes-in, lanes-away, lanes-count}
 use Rattle.rules.proofs.Joins.{in-entering, in-leaving, entering-rise, leaving-rise, away-entering, away-leaving}
