@@ -18,9 +18,9 @@ use Rattle.rules.proofs.Rising.{Within}
 use Rattle.rules.proofs.LineLaws.{node-there, node-else}
 use Rattle.rules.proofs.Ghost.{Ghost, put, logPut}
 use Rattle.rules.proofs.Inv.{Inv, Shape, isUp, named, timeOf, Enters, Leaves, Marks, Channels, Ends, Replays}
-use Rattle.rules.proofs.InvLaws.{up-not-down, replay-not-down, up-not-replay, replay-marked}
-use Rattle.rules.proofs.MarkedLaws.{at-ends, sender-other, receiver-other}
-use Rattle.rules.proofs.Stays.{moved, unmarked-same, nodes-stay, channel-stays, ends-stay, events-stay, replays-stay}
+use Rattle.rules.proofs.InvLaws.{up-not-down, replay-not-down, replay-marked, ends-up}
+use Rattle.rules.proofs.MarkedLaws.{sender-other, receiver-other}
+use Rattle.rules.proofs.Stays.{moved, unmarked-other, nodes-stay, channels-beside, ends-beside, events-stay, replays-stay}
 use Rattle.rules.proofs.Swept.{swept-line, swept-long, swept-enters, swept-leaves, swept-else}
 
 -- Names joined to a list.
@@ -116,17 +116,6 @@ module _ (l : Line) (g : Ghost) (cut base : ℕ → ℕ) (fed : List Act) (recei
         sender-up = λ e. absurd (down-not-up (ap (λ (x : ℕ). nodeAt after x .status) (sym q) ∙ e));
       }
 
-  ends-enters : (c : ℕ) → Enters (l .plan) n c → Ends after g c
-  unfolding freshLane
-  ends-enters c (h, q) =
-      let node = node-other (channelAt (l .plan) c .sender) (sender-other inv n c (h, q)) in
-      let alive : isUp after (channelAt (l .plan) c .sender) = ap (λ (x : Node). x .status) node ∙ parent-up c (h, q) in
-      record {
-        exact = λ e. absurd (true≢false (sym (ap (λ (x : ℕ). nodeAt after x .crashed) q ∙ ap (λ (x : Node). x .crashed) node-now) ∙ e));
-        stopped = λ e. absurd (e alive);
-        waiting = λ e. absurd (up-not-replay (sym alive ∙ e));
-      }
-
   ends-leaves : (c : ℕ) → Leaves (l .plan) n c → Ends after g c
   ends-leaves c (h, q) =
       let lane = lane-leaves c (h, q) in
@@ -141,8 +130,14 @@ module _ (l : Line) (g : Ghost) (cut base : ℕ → ℕ) (fed : List Act) (recei
   marked-now : (m : ℕ) → nodeAt after m .crashed ≡ true → ((m ≢ n) × (nodeAt l m .crashed ≡ true)) ⊎ (m ≡ n)
   marked-now m e = elim (ℕ-discrete m n) [ yes q ↦ inr q | no d ↦ inl (d, ap (λ (x : Node). x .crashed) (sym (node-other m d)) ∙ e) ]
 
+  other-unmarked : (m : ℕ) → nodeAt after m .crashed ≡ false → m ≢ n
+  other-unmarked = unmarked-other l (l .steps) (stopped .nodes) lanes n (ap (λ (x : Node). x .crashed) node-now) node-other
+
   unmarked-old : (m : ℕ) → nodeAt after m .crashed ≡ false → nodeAt after m ≡ nodeAt l m
-  unmarked-old = unmarked-same l (l .steps) (stopped .nodes) lanes n (ap (λ (x : Node). x .crashed) node-now) node-other
+  unmarked-old m e = node-other m (other-unmarked m e)
+
+  ends-enters : (c : ℕ) → Enters (l .plan) n c → Ends after g c
+  ends-enters c (h, q) = ends-up (ap (λ (x : Node). x .status) (node-other (channelAt (l .plan) c .sender) (sender-other inv n c (h, q))) ∙ parent-up c (h, q)) (λ e. absurd (other-unmarked (channelAt (l .plan) c .receiver) e q))
 
   crash-marks : Marks after (crashes ++ n ∷ [])
   crash-marks =
@@ -187,9 +182,7 @@ module _ (l : Line) (g : Ghost) (cut base : ℕ → ℕ) (fed : List Act) (recei
         marks = crash-marks;
         nodes = nodes-stay l (l .steps) (stopped .nodes) lanes unmarked-old (λ m e. refl) (inv .nodes);
         events = λ m. events-stay l (l .steps) (stopped .nodes) lanes g g m (λ e. node-other m (λ q. down-not-up (ap (λ (x : ℕ). nodeAt after x .status) (sym q) ∙ e))) refl (inv .events m);
-        channels = λ c h. at-ends (l .plan) n c h (channel-enters c) (channel-leaves c)
-            (λ r s. channel-stays l (l .steps) (stopped .nodes) lanes g g c (ap (λ (x : Node). x .status) (node-other (channelAt (l .plan) c .sender) s)) (ap (λ (x : Node). x .status) (node-other (channelAt (l .plan) c .receiver) r)) (lane-other c r s) refl (λ _. node-other (channelAt (l .plan) c .sender) s) cut cut refl refl (inv .channels c h));
-        ends = λ c h. at-ends (l .plan) n c h (ends-enters c) (ends-leaves c)
-            (λ r s. ends-stay l (l .steps) (stopped .nodes) lanes g g c (ap (λ (x : Node). x .status) (node-other (channelAt (l .plan) c .sender) s)) (ap (λ (x : Node). x .status) (node-other (channelAt (l .plan) c .receiver) r)) (lane-other c r s) refl (ap (λ (x : Node). x .crashed) (node-other (channelAt (l .plan) c .receiver) r)) (inv .ends c h));
+        channels = λ c h. channels-beside l (l .steps) (stopped .nodes) lanes g g n node-other lane-other (λ x d. refl) c h cut cut (λ d. refl) (λ d. refl) (channel-enters c) (channel-leaves c) (inv .channels c h);
+        ends = λ c h. ends-beside l (l .steps) (stopped .nodes) lanes g g n node-other lane-other (λ x d. refl) c h (ends-enters c) (ends-leaves c) (inv .ends c h);
         replays = crash-replays;
       })

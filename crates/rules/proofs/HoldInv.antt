@@ -24,7 +24,7 @@ use Rattle.rules.proofs.LineLaws.{lane-else, lanes-long, node-there, no
 use Rattle.rules.proofs.Ghost.{Ghost, takesMessage, put, logPut}
 use Rattle.rules.proofs.Passing.{goesOn, heldOf}
 use Rattle.rules.proofs.Inv.{Inv, isUp, timeOf, Enters, SenderUp, Channels, Ends, Row, Replays}
-use Rattle.rules.proofs.InvLaws.{up-not-replay, replay-not-down, replay-marked}
+use Rattle.rules.proofs.InvLaws.{up-not-replay, replay-not-down, replay-marked, ends-up}
 use Rattle.rules.proofs.MarkedLaws.{goal-message}
 use Rattle.rules.proofs.Grow.{sender-taken, sender-cut, sender-same, sender-receiving}
 use Rattle.rules.proofs.Stays.{moved, everywhere, marks-stay, unmarked-other, nodes-stay, channel-stays, ends-stay, events-stay, replays-stay, replays-keep}
@@ -82,8 +82,8 @@ module _ (l : Line) (g : Ghost) (cut base : ℕ → ℕ) (fed : List Act) (recei
   -- The message lies within the row's goal, which is the time of a message put on the channel.
   to-goal : m .time ≤ rowGoal (nodeAt l n .targets) (channelAt (l .plan) b .sender)
   to-goal =
-      let (y, there, _, time) = goal-message inv n replaying b (here, refl) (λ q. omega arith) in
-      omega (arith, next-first timeOf (next .1) there (omega (arith, time)), time)
+      let (y, on, _, time) = goal-message inv n replaying b (here, refl) (λ q. omega arith) in
+      omega (arith, next-first timeOf (next .1) on (omega (arith, time)), time)
 
   -- What goes on of the row's messages.
   row-more : keep (goesOn (l .plan) n) (past timeOf (base b) (until timeOf (m .time) puts)) ≡ keep (goesOn (l .plan) n) (past timeOf (base b) (until timeOf (laneAt l b .taken) puts)) ++ keepOne (goesOn (l .plan) n m) m []
@@ -135,13 +135,7 @@ module _ (l : Line) (g : Ghost) (cut base : ℕ → ℕ) (fed : List Act) (recei
         }
 
     ends-own : Ends after g b
-    ends-own =
-        let alive = statuses (channelAt (l .plan) b .sender) ∙ sender in
-        record {
-          exact = λ e. absurd (other-unmarked n e refl);
-          stopped = λ e. absurd (e alive);
-          waiting = λ e. absurd (up-not-replay (sym alive ∙ e));
-        }
+    ends-own = ends-up (statuses (channelAt (l .plan) b .sender) ∙ sender) (λ e. absurd (other-unmarked n e refl))
 
     row-own : Row after g (cut b) (base b) n b
     row-own =

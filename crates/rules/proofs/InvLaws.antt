@@ -6,15 +6,16 @@ use mathlib.Core.Bool.{Bool, true, false, true≢false}
 use mathlib.Core.List.{List, _∷_, map}
 use native.Mathlib.Omega.{arith}
 use Rattle.plan.specs.Rule.{applied}
-use Rattle.plan.specs.Plan.{ruleAt, Plan, isSource}
-use Rattle.rules.specs.Line.{Message, up, down, replay, Line, nodeAt}
+use Rattle.plan.specs.Plan.{Plan, ruleAt, channelAt, isSource}
+use Rattle.rules.specs.Lists.{greatestOf}
+use Rattle.rules.specs.Line.{Message, up, down, replay, Line, nodeAt, laneAt}
 use Rattle.rules.specs.Plain.{Act, Receipt}
 use Rattle.rules.proofs.Members.{In, here, there}
 use Rattle.rules.proofs.Witness.{Taken, more}
-use Rattle.rules.proofs.Ghost.{Event, tookAt, Ghost, inputOf}
+use Rattle.rules.proofs.Ghost.{Event, tookAt, Ghost, inputOf, got}
 use Rattle.rules.proofs.Passing.{goesOn}
 use Rattle.rules.proofs.Joins.{takes-passed}
-use Rattle.rules.proofs.Inv.{isUp, Enters, Reached, Marks, Nodes}
+use Rattle.rules.proofs.Inv.{timeOf, isUp, Enters, Reached, Marks, Nodes, Ends}
 
 pub up-not-replay : up ≡ replay → ⊥
 up-not-replay e = let z : _≡_ {A = ℕ} 0 1 = cc in omega arith
@@ -34,6 +35,10 @@ if-marked false f g = g refl
 pub took-enters : {p : Plan} {n : ℕ} (es : List Event) (b : ℕ) (m : Message) (t : ℕ) → Taken p n (map inputOf es) → In (tookAt b m t) es → Enters p n b
 took-enters (tookAt c x u ∷ es) b m t (more h q s r) here = (h, q)
 took-enters (tookAt c x u ∷ es) b m t (more h q s r) (there i) = took-enters es b m t r i
+
+-- The ends of a channel whose sender is up.
+pub ends-up : {l : Line} {g : Ghost} {b : ℕ} → isUp l (channelAt (l .plan) b .sender) → (nodeAt l (channelAt (l .plan) b .receiver) .crashed ≡ false → laneAt l b .taken ≡ greatestOf (map timeOf (got (l .plan) g b))) → Ends l g b
+ends-up alive exact = record { exact = exact; stopped = λ d. absurd (d alive); waiting = λ e. absurd (up-not-replay (sym alive ∙ e)) }
 
 -- What has reached a child goes on.
 pub reached-goes : {l : Line} {n : ℕ} {m : Message} {t : ℕ} → Reached l n m t → goesOn (l .plan) n m ≡ true

@@ -22,10 +22,6 @@ use Rattle.rules.proofs.Carried.{in-got-of}
 use Rattle.rules.proofs.Inv.{timeOf, isUp, Enters, Leaves, Inv}
 use Rattle.rules.proofs.InvLaws.{took-enters, if-marked, marked-took, replay-marked, reached-goes}
 
--- A channel at either end of a node, or beside it.
-pub at-ends : {A : Type 0} (p : Plan) (n c : ℕ) → c < channelCount p → (Enters p n c → A) → (Leaves p n c → A) → (channelAt p c .receiver ≢ n → channelAt p c .sender ≢ n → A) → A
-at-ends p n c h f g k = elim (ℕ-discrete (channelAt p c .receiver) n) [ yes q ↦ f (h, q) | no d ↦ elim (ℕ-discrete (channelAt p c .sender) n) [ yes q ↦ g (h, q) | no e ↦ k d e ] ]
-
 module _ {l : Line} {g : Ghost} {cut base : ℕ → ℕ} {fed : List Act} {receipts : List Receipt} {crashes : List ℕ} (inv : Inv l g cut base fed receipts crashes) (n : ℕ) where
   pub sender-other : (b : ℕ) → Enters (l .plan) n b → channelAt (l .plan) b .sender ≢ n
   sender-other b (h, q) z = omega (arith, inv .ordered .forward b h)

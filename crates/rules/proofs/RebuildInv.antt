@@ -22,9 +22,9 @@ use Rattle.rules.proofs.Witness.{Taken}
 use Rattle.rules.proofs.Ghost.{Event, Ghost, inputOf, entryOf, sentOf, takesMessage, put, got, gotOf, logPut}
 use Rattle.rules.proofs.Passing.{passing}
 use Rattle.rules.proofs.Inv.{timeOf, isUp, Enters, Leaves, Nodes, Channels, Events, Ends, Replays, Inv}
-use Rattle.rules.proofs.InvLaws.{up-not-replay, replay-not-down, replay-marked}
-use Rattle.rules.proofs.MarkedLaws.{at-ends, sender-other, receiver-other, parent-unmarked, child-unmarked}
-use Rattle.rules.proofs.Stays.{moved, unmarked-other, marks-beside, channel-stays, ends-stay, events-stay, replays-stay}
+use Rattle.rules.proofs.InvLaws.{up-not-replay, replay-not-down, replay-marked, ends-up}
+use Rattle.rules.proofs.MarkedLaws.{sender-other, receiver-other, parent-up, child-unmarked, child-up}
+use Rattle.rules.proofs.Stays.{moved, unmarked-other, marks-beside, channels-beside, ends-beside, events-stay, replays-stay}
 use Rattle.rules.proofs.Grow.{sender-same, sender-receiving}
 use Rattle.rules.proofs.RebuildEvents.{Rebuilding, events, ghost, got-rebuilt, took-rebuilt, rise-rebuilt, within-rebuilt, put-rebuilt, put-rises, put-within, until-rebuilt}
 
@@ -82,8 +82,7 @@ module _ (l : Line) (g : Ghost) (cut base : ℕ → ℕ) (fed : List Act) (recei
       let old = inv .channels b (h .0) in
       let sender = other (channelAt (l .plan) b .sender) (sender-other inv n b h) in
       let puts = put-other b (sender-other inv n b h) in
-      let was-up : isUp l (channelAt (l .plan) b .sender) = inv .marks .stopped (channelAt (l .plan) b .sender) (parent-unmarked inv n marked b h) in
-      let s = old .sender-up was-up in
+      let s = old .sender-up (parent-up inv n marked b h) in
       let cuts = cut-now b (h .1) in
       record {
         rises = subst (λ (x : List Message). Rises timeOf 0 x) (sym puts) (old .rises);
@@ -107,9 +106,9 @@ module _ (l : Line) (g : Ghost) (cut base : ℕ → ℕ) (fed : List Act) (recei
       let old = inv .channels c (h .0) in
       let end = inv .ends c (h .0) in
       let down-here : nodeAt l (channelAt (l .plan) c .sender) .status ≡ replay = ap (λ (x : ℕ). nodeAt l x .status) (h .1) ∙ replaying in
-      let child-up : isUp l (channelAt (l .plan) c .receiver) = inv .marks .stopped (channelAt (l .plan) c .receiver) (child-unmarked inv n marked c h) in
+      let up-there = child-up inv n marked c h in
       let d = receiver-other inv n c h in
-      let cuts : cutAfter c ≡ laneAt l c .taken = cut-other c d ∙ old .cut-up child-up in
+      let cuts : cutAfter c ≡ laneAt l c .taken = cut-other c d ∙ old .cut-up up-there in
       let t = laneAt l c .taken in
       let placed = keep (takesMessage (l .plan) c) (map (sentOf (l .plan) n) fs) in
       let time : nodeAt k (channelAt (l .plan) c .sender) .time ≡ T = ap (λ (x : ℕ). nodeAt k x .time) (h .1) ∙ ap (λ (x : Node). x .time) now in
@@ -123,7 +122,7 @@ module _ (l : Line) (g : Ghost) (cut base : ℕ → ℕ) (fed : List Act) (recei
       record {
         rises = put-rises l g cut base fed receipts crashes inv n replaying T fs r c h;
         cut-is =
-            got-other c d ∙ old .cut-is ∙ ap (λ (x : ℕ). until timeOf x (put (l .plan) g c)) (old .cut-up child-up)
+            got-other c d ∙ old .cut-is ∙ ap (λ (x : ℕ). until timeOf x (put (l .plan) g c)) (old .cut-up up-there)
             ∙ sym (until-rebuilt l g cut base fed receipts crashes inv n replaying T fs r c h) ∙ ap (λ (x : ℕ). until timeOf x (put (l .plan) ghostAfter c)) (sym cuts);
         cut-up = λ e. cuts;
         sender-up = λ e.
@@ -141,30 +140,19 @@ module _ (l : Line) (g : Ghost) (cut base : ℕ → ℕ) (fed : List Act) (recei
             };
       }
 
-  ends-enters : (b : ℕ) → Enters (l .plan) n b → Ends k ghostAfter b
-  ends-enters b h =
-      let up-now : isUp k (channelAt (l .plan) b .sender) = ap (λ (x : Node). x .status) (other (channelAt (l .plan) b .sender) (sender-other inv n b h)) ∙ inv .marks .stopped (channelAt (l .plan) b .sender) (parent-unmarked inv n marked b h) in
-      record {
-        exact = λ e. absurd (true≢false (sym (ap (λ (x : ℕ). nodeAt k x .crashed) (h .1) ∙ still-marked) ∙ e));
-        stopped = λ e. absurd (e up-now);
-        waiting = λ e. absurd (up-not-replay (sym up-now ∙ e));
-      }
-
-  ends-leaves : (c : ℕ) → Leaves (l .plan) n c → Ends k ghostAfter c
-  ends-leaves c h =
-      let d = receiver-other inv n c h in
-      let up-now : isUp k (channelAt (l .plan) c .sender) = ap (λ (x : ℕ). nodeAt k x .status) (h .1) ∙ alive in
-      record {
-        exact = λ e. inv .ends c (h .0) .exact (child-unmarked inv n marked c h) ∙ ap (λ (x : List Message). greatestOf (map timeOf x)) (sym (got-other c d));
-        stopped = λ e. absurd (e up-now);
-        waiting = λ e. absurd (up-not-replay (sym up-now ∙ e));
-      }
-
   other-unmarked : (m : ℕ) → nodeAt k m .crashed ≡ false → m ≢ n
   other-unmarked = unmarked-other l steps nodes (l .lanes) n still-marked other
 
   unmarked-was : (m : ℕ) → nodeAt k m .crashed ≡ false → nodeAt l m .crashed ≡ false
   unmarked-was m e = ap (λ (x : Node). x .crashed) (sym (other m (other-unmarked m e))) ∙ e
+
+  ends-enters : (b : ℕ) → Enters (l .plan) n b → Ends k ghostAfter b
+  ends-enters b h = ends-up (ap (λ (x : Node). x .status) (other (channelAt (l .plan) b .sender) (sender-other inv n b h)) ∙ parent-up inv n marked b h) (λ e. absurd (other-unmarked (channelAt (l .plan) b .receiver) e (h .1)))
+
+  ends-leaves : (c : ℕ) → Leaves (l .plan) n c → Ends k ghostAfter c
+  ends-leaves c h =
+      ends-up (ap (λ (x : ℕ). nodeAt k x .status) (h .1) ∙ alive) λ e.
+      inv .ends c (h .0) .exact (child-unmarked inv n marked c h) ∙ ap (λ (x : List Message). greatestOf (map timeOf x)) (sym (got-other c (receiver-other inv n c h)))
 
   rebuild-nodes : Nodes k ghostAfter fed receipts
   rebuild-nodes =
@@ -217,9 +205,7 @@ module _ (l : Line) (g : Ghost) (cut base : ℕ → ℕ) (fed : List Act) (recei
         marks = marks-beside l steps nodes (l .lanes) n still-marked other crashes marked (inv .marks);
         nodes = rebuild-nodes;
         events = rebuild-events;
-        channels = λ c h. at-ends (l .plan) n c h (channel-enters c) (channel-leaves c)
-            (λ d e. channel-stays l steps nodes (l .lanes) g ghostAfter c (ap (λ (x : Node). x .status) (other (channelAt (l .plan) c .sender) e)) (ap (λ (x : Node). x .status) (other (channelAt (l .plan) c .receiver) d)) refl (got-other c d) (λ _. other (channelAt (l .plan) c .sender) e) cut cutAfter (put-other c e) (cut-other c d) (inv .channels c h));
-        ends = λ c h. at-ends (l .plan) n c h (ends-enters c) (ends-leaves c)
-            (λ d e. ends-stay l steps nodes (l .lanes) g ghostAfter c (ap (λ (x : Node). x .status) (other (channelAt (l .plan) c .sender) e)) (ap (λ (x : Node). x .status) (other (channelAt (l .plan) c .receiver) d)) refl (got-other c d) (ap (λ (x : Node). x .crashed) (other (channelAt (l .plan) c .receiver) d)) (inv .ends c h));
+        channels = λ c h. channels-beside l steps nodes (l .lanes) g ghostAfter n other (λ x d e. refl) got-other c h cut cutAfter (cut-other c) (put-other c) (channel-enters c) (channel-leaves c) (inv .channels c h);
+        ends = λ c h. ends-beside l steps nodes (l .lanes) g ghostAfter n other (λ x d e. refl) got-other c h (ends-enters c) (ends-leaves c) (inv .ends c h);
         replays = rebuild-replays;
       }

@@ -31,9 +31,9 @@ use Rattle.rules.proofs.Joins.{no-source}
 use Rattle.rules.proofs.Targets.{low-below, targets-from, targets-of}
 use Rattle.rules.proofs.Children.{Child, triples-from, triples-of, restored-reach, restored-is, none-above}
 use Rattle.rules.proofs.Inv.{timeOf, isUp, Enters, Leaves, targetFrom, Nodes, Shape, Channels, Ends, Row, Replays, Inv}
-use Rattle.rules.proofs.InvLaws.{took-enters, up-not-replay, up-not-down, marked-unless-up, replay-marked, marked-took}
-use Rattle.rules.proofs.MarkedLaws.{at-ends, sender-other, receiver-other, parent-unmarked, child-unmarked, parent-up, child-up, own, got-rises}
-use Rattle.rules.proofs.Stays.{moved, unmarked-same, marks-beside, nodes-stay, reached-back, reached-on, channel-stays, ends-stay, events-stay, replays-stay}
+use Rattle.rules.proofs.InvLaws.{took-enters, up-not-replay, up-not-down, marked-unless-up, replay-marked, marked-took, ends-up}
+use Rattle.rules.proofs.MarkedLaws.{sender-other, receiver-other, parent-unmarked, child-unmarked, parent-up, child-up, own, got-rises}
+use Rattle.rules.proofs.Stays.{moved, unmarked-other, marks-beside, nodes-stay, reached-back, reached-on, channels-beside, ends-beside, events-stay, replays-stay}
 use Rattle.rules.proofs.Swept.{swept-line, swept-long, swept-enters, swept-leaves, swept-else}
 use Rattle.rules.proofs.RebuildEvents.{Rebuilding}
 use Rattle.rules.proofs.RebuildInv.{ghostAfter, cutAfter, rebuild-inv}
@@ -185,14 +185,11 @@ module _ (l : Line) (g : Ghost) (cut base : ℕ → ℕ) (fed : List Act) (recei
         sender-up = λ e. absurd (up-not-replay (sym e ∙ ap (λ (x : ℕ). nodeAt r x .status) (h .1) ∙ now-replays));
       }
 
+  other-unmarked : (m : ℕ) → nodeAt r m .crashed ≡ false → m ≢ n
+  other-unmarked = unmarked-other l (l .steps) (r .nodes) (r .lanes) n still-marked (node-other replay)
+
   ends-enters : (b : ℕ) → Enters (l .plan) n b → Ends r g b
-  ends-enters b h =
-      let up-now : isUp r (channelAt (l .plan) b .sender) = ap (λ (x : Node). x .status) (node-other replay (channelAt (l .plan) b .sender) (sender-other inv n b h)) ∙ parent-up inv n marked b h in
-      record {
-        exact = λ e. absurd (true≢false (sym (ap (λ (x : ℕ). nodeAt r x .crashed) (h .1) ∙ still-marked) ∙ e));
-        stopped = λ e. absurd (e up-now);
-        waiting = λ e. absurd (up-not-replay (sym up-now ∙ e));
-      }
+  ends-enters b h = ends-up (ap (λ (x : Node). x .status) (node-other replay (channelAt (l .plan) b .sender) (sender-other inv n b h)) ∙ parent-up inv n marked b h) (λ e. absurd (other-unmarked (channelAt (l .plan) b .receiver) e (h .1)))
 
   ends-leaves : (c : ℕ) → Leaves (l .plan) n c → Ends r g c
   ends-leaves c h =
@@ -273,12 +270,10 @@ module _ (l : Line) (g : Ghost) (cut base : ℕ → ℕ) (fed : List Act) (recei
         shape = restored-shape;
         ordered = inv .ordered;
         marks = marks-beside l (l .steps) (r .nodes) (r .lanes) n still-marked (node-other replay) crashes marked (inv .marks);
-        nodes = nodes-stay l (l .steps) (r .nodes) (r .lanes) (unmarked-same l (l .steps) (r .nodes) (r .lanes) n still-marked (node-other replay)) (λ m e. refl) (inv .nodes);
+        nodes = nodes-stay l (l .steps) (r .nodes) (r .lanes) (λ m e. node-other replay m (other-unmarked m e)) (λ m e. refl) (inv .nodes);
         events = λ m. events-stay l (l .steps) (r .nodes) (r .lanes) g g m (λ e. node-other replay m (λ q. up-not-replay (sym e ∙ ap (λ (x : ℕ). nodeAt r x .status) q ∙ now-replays))) refl (inv .events m);
-        channels = λ c h. at-ends (l .plan) n c h (channel-enters c) (channel-leaves c)
-            (λ d e. channel-stays l (l .steps) (r .nodes) (r .lanes) g g c (ap (λ (x : Node). x .status) (node-other replay (channelAt (l .plan) c .sender) e)) (ap (λ (x : Node). x .status) (node-other replay (channelAt (l .plan) c .receiver) d)) (lane-other c d e) refl (λ _. node-other replay (channelAt (l .plan) c .sender) e) cut cut refl refl (inv .channels c h));
-        ends = λ c h. at-ends (l .plan) n c h (ends-enters c) (ends-leaves c)
-            (λ d e. ends-stay l (l .steps) (r .nodes) (r .lanes) g g c (ap (λ (x : Node). x .status) (node-other replay (channelAt (l .plan) c .sender) e)) (ap (λ (x : Node). x .status) (node-other replay (channelAt (l .plan) c .receiver) d)) (lane-other c d e) refl (ap (λ (x : Node). x .crashed) (node-other replay (channelAt (l .plan) c .receiver) d)) (inv .ends c h));
+        channels = λ c h. channels-beside l (l .steps) (r .nodes) (r .lanes) g g n (node-other replay) lane-other (λ x d. refl) c h cut cut (λ d. refl) (λ d. refl) (channel-enters c) (channel-leaves c) (inv .channels c h);
+        ends = λ c h. ends-beside l (l .steps) (r .nodes) (r .lanes) g g n (node-other replay) lane-other (λ x d. refl) c h (ends-enters c) (ends-leaves c) (inv .ends c h);
         replays = λ m e. elim (ℕ-discrete m n) [
           | yes q ↦ subst (Replays r g cut baseAfter) (sym q) replays-now
           | no d ↦ replays-other m d e

@@ -20,7 +20,7 @@ use Rattle.rules.proofs.Rising.{past}
 use Rattle.rules.proofs.LineLaws.{lane-there, lane-else}
 use Rattle.rules.proofs.Ghost.{Ghost, logPut}
 use Rattle.rules.proofs.Inv.{Inv, timeOf, isUp, Channels, Ends}
-use Rattle.rules.proofs.InvLaws.{up-not-replay}
+use Rattle.rules.proofs.InvLaws.{ends-up}
 use Rattle.rules.proofs.Grow.{sender-sends, sender-same}
 use Rattle.rules.proofs.Stays.{shape-beside, marks-stay, nodes-stay, channel-beside, ends-stay, events-stay, replays-stay}
 
@@ -81,12 +81,7 @@ module _ (l : Line) (g : Ghost) (cut base : ℕ → ℕ) (fed : List Act) (recei
 
   own-ends : Ends after g b
   unfolding withLane
-  own-ends =
-      record {
-        exact = λ m. taken-same b ∙ inv .ends b here .exact m;
-        stopped = λ d. absurd (d sender);
-        waiting = λ d. absurd (up-not-replay (sym sender ∙ d));
-      }
+  own-ends = ends-up sender (λ m. taken-same b ∙ inv .ends b here .exact m)
 
   pub send-inv : Inv (withLane b (sentOn e (laneAt l b)) l) g cut base fed receipts crashes
   unfolding withLane

@@ -1,5 +1,5 @@
 -- What holds of a line's nodes and channels stays where a change does not reach.
-use Prim.Native.Nat.{ℕ, _≤_}
+use Prim.Native.Nat.{ℕ, _<_, _≤_}
 use mathlib.Core.Path.{_≡_, refl, sym, ap, subst, _∙_}
 use mathlib.Core.Logic.{_≢_}
 use mathlib.Core.Bool.{true, false, true≢false}
@@ -7,7 +7,7 @@ use mathlib.Core.List.{List, map}
 use native.Mathlib.Omega.{arith}
 use native.Mathlib.Decide.{ℕ-discrete}
 use lib.ListN.{length-set}
-use Rattle.plan.specs.Plan.{channelAt}
+use Rattle.plan.specs.Plan.{channelAt, channelCount}
 use Rattle.rules.specs.Lists.{keep, greatestOf}
 use Rattle.rules.specs.Line.{Message, Target, down, Node, Lane, Line, nodeAt, laneAt, withLane}
 use Rattle.rules.specs.Clock.{messageOf}
@@ -29,7 +29,7 @@ module _ (l : Line) (steps : ℕ) (nodes : List Node) (lanes : List Lane) where
   abbrev k : Line
   k = moved l steps nodes lanes
 
-  -- The marks, where they are as they were, and the statuses without them too.
+  -- The marks stay where each node's mark is as it was, and each unmarked node's status.
   marks-keep : (crashes : List ℕ) → ((n : ℕ) → nodeAt k n .crashed ≡ false → nodeAt k n .status ≡ nodeAt l n .status) → ((n : ℕ) → nodeAt k n .crashed ≡ nodeAt l n .crashed) → Marks l crashes → Marks k crashes
   marks-keep crashes status mark m =
       record {
@@ -46,16 +46,13 @@ module _ (l : Line) (steps : ℕ) (nodes : List Node) (lanes : List Lane) where
   pub everywhere : {A : Type 0} (n : ℕ) → ((m : ℕ) → m ≢ n → nodeAt k m ≡ nodeAt l m) → (f : Node → A) → f (nodeAt k n) ≡ f (nodeAt l n) → (m : ℕ) → f (nodeAt k m) ≡ f (nodeAt l m)
   everywhere n other f e m = elim (ℕ-discrete m n) [ yes q ↦ ap (λ (x : ℕ). f (nodeAt k x)) q ∙ e ∙ ap (λ (x : ℕ). f (nodeAt l x)) (sym q) | no d ↦ ap f (other m d) ]
 
-  -- It is marked now.
+  -- The one node is marked.
   module _ (n : ℕ) (now-marked : nodeAt k n .crashed ≡ true) (other : (m : ℕ) → m ≢ n → nodeAt k m ≡ nodeAt l m) where
     pub unmarked-other : (m : ℕ) → nodeAt k m .crashed ≡ false → m ≢ n
     unmarked-other m e q = true≢false (sym (ap (λ (x : ℕ). nodeAt k x .crashed) q ∙ now-marked) ∙ e)
 
-    pub unmarked-same : (m : ℕ) → nodeAt k m .crashed ≡ false → nodeAt k m ≡ nodeAt l m
-    unmarked-same m e = other m (unmarked-other m e)
-
     pub marks-beside : (crashes : List ℕ) → nodeAt l n .crashed ≡ true → Marks l crashes → Marks k crashes
-    marks-beside crashes marked = marks-keep crashes (λ m e. ap (λ (x : Node). x .status) (unmarked-same m e)) (everywhere n other (λ (x : Node). x .crashed) (now-marked ∙ sym marked))
+    marks-beside crashes marked = marks-keep crashes (λ m e. ap (λ (x : Node). x .status) (other m (unmarked-other m e))) (everywhere n other (λ (x : Node). x .crashed) (now-marked ∙ sym marked))
 
   -- The nodes, where histories do not move and the unmarked ones are as they were.
   pub nodes-stay : {g : Ghost} {fed : List Act} {receipts receipts′ : List Receipt} → ((n : ℕ) → nodeAt k n .crashed ≡ false → nodeAt k n ≡ nodeAt l n) → ((n : ℕ) → nodeAt k n .crashed ≡ false → receivedBy n receipts′ ≡ receivedBy n receipts)
@@ -102,6 +99,29 @@ module _ (l : Line) (steps : ℕ) (nodes : List Node) (lanes : List Lane) where
             stopped = λ h. ap (λ (x : Lane). x .queue) lane ∙ e .stopped (λ z. h (sender ∙ z));
             waiting = λ h. ap (λ (x : Lane). x .mark) lane ∙ e .waiting (sym sender ∙ h) ∙ ap (λ (x : Lane). x .taken) (sym lane);
           }
+
+    -- One node and its channels change; the others are as they were.
+    module _ (n : ℕ) (node-other : (m : ℕ) → m ≢ n → nodeAt k m ≡ nodeAt l m) (lane-other : (c : ℕ) → channelAt (l .plan) c .receiver ≢ n → channelAt (l .plan) c .sender ≢ n → laneAt k c ≡ laneAt l c)
+        (got-other : (c : ℕ) → channelAt (l .plan) c .receiver ≢ n → got (l .plan) g′ c ≡ got (l .plan) g c) (c : ℕ) (h : c < channelCount (l .plan)) where
+      at-ends : {A : Type 0} → (Enters (l .plan) n c → A) → (Leaves (l .plan) n c → A) → (channelAt (l .plan) c .receiver ≢ n → channelAt (l .plan) c .sender ≢ n → A) → A
+      at-ends enters leaves else =
+          elim (ℕ-discrete (channelAt (l .plan) c .receiver) n) [
+            | yes q ↦ enters (h, q)
+            | no d ↦ elim (ℕ-discrete (channelAt (l .plan) c .sender) n) [ yes q ↦ leaves (h, q) | no e ↦ else d e ]
+          ]
+
+      pub channels-beside : (cut cut′ : ℕ → ℕ) → (channelAt (l .plan) c .receiver ≢ n → cut′ c ≡ cut c) → (channelAt (l .plan) c .sender ≢ n → put (l .plan) g′ c ≡ put (l .plan) g c)
+          → (Enters (l .plan) n c → Channels k g′ cut′ c) → (Leaves (l .plan) n c → Channels k g′ cut′ c) → Channels l g cut c → Channels k g′ cut′ c
+      channels-beside cut cut′ cuts puts enters leaves was =
+          at-ends enters leaves (λ d e.
+          (let sender = node-other (channelAt (l .plan) c .sender) e in
+          channel-stays c (ap (λ (x : Node). x .status) sender) (ap (λ (x : Node). x .status) (node-other (channelAt (l .plan) c .receiver) d)) (lane-other c d e) (got-other c d) (λ _. sender) cut cut′ (puts e) (cuts d) was))
+
+      pub ends-beside : (Enters (l .plan) n c → Ends k g′ c) → (Leaves (l .plan) n c → Ends k g′ c) → Ends l g c → Ends k g′ c
+      ends-beside enters leaves was =
+          at-ends enters leaves (λ d e.
+          (let receiver = node-other (channelAt (l .plan) c .receiver) d in
+          ends-stay c (ap (λ (x : Node). x .status) (node-other (channelAt (l .plan) c .sender) e)) (ap (λ (x : Node). x .status) receiver) (lane-other c d e) (got-other c d) (ap (λ (x : Node). x .crashed) receiver) was))
 
     -- The events of a node that is as it was, if it is up.
     pub events-stay : (n : ℕ) → (isUp k n → nodeAt k n ≡ nodeAt l n) → g′ n ≡ g n → Events l g n → Events k g′ n

@@ -22,7 +22,7 @@ use Rattle.rules.proofs.Witness.{Taken, none, more, taken-append}
 use Rattle.rules.proofs.Ghost.{Event, tookAt, Ghost, inputOf, historyOf, put, got, gotOne, logPut, later, later-there, later-else, put-else, got-there}
 use Rattle.rules.proofs.Joins.{no-source}
 use Rattle.rules.proofs.Inv.{Inv, isUp, timeOf, Enters, Leaves, Nodes, Channels, Ends, Replays}
-use Rattle.rules.proofs.InvLaws.{up-not-replay, up-not-down}
+use Rattle.rules.proofs.InvLaws.{up-not-replay, up-not-down, ends-up}
 use Rattle.rules.proofs.Grow.{sender-taken, sender-same, sender-receiving}
 use Rattle.rules.proofs.Stays.{shape-beside, marks-stay, channel-stays, channel-beside, ends-stay, events-stay, replays-stay, replays-cut}
 use Rattle.rules.proofs.Logging.{nodeLogs, status-kept, mark-kept, log-put-else, logging-shape, logging-marks, logging-logs, logging-channels, logging-events, logging-ends, logging-replays}
@@ -114,14 +114,9 @@ module _ (l : Line) (g : Ghost) (cut base : ℕ → ℕ) (fed : List Act) (recei
     own-ends : Ends after (later g n event) b
     unfolding withNode withLane
     own-ends =
-        let alive = status-kept beside n event there (channelAt (l .plan) b .sender) ∙ sender in
-        record {
-          exact = λ h.
-              ap (λ (x : Lane). x .taken) lane-now ∙ ap (λ (t : ℕ). max t (m .time)) (inv .ends b here .exact (sym (mark-kept beside n event there n) ∙ h))
-              ∙ sym (ap (λ (x : List Message). greatestOf (map timeOf x)) got-now ∙ greatest-snoc timeOf (got (l .plan) g b) m);
-          stopped = λ d. absurd (d alive);
-          waiting = λ d. absurd (up-not-replay (sym alive ∙ d));
-        }
+        ends-up (status-kept beside n event there (channelAt (l .plan) b .sender) ∙ sender) λ h.
+        ap (λ (x : Lane). x .taken) lane-now ∙ ap (λ (t : ℕ). max t (m .time)) (inv .ends b here .exact (sym (mark-kept beside n event there n) ∙ h))
+        ∙ sym (ap (λ (x : List Message). greatestOf (map timeOf x)) got-now ∙ greatest-snoc timeOf (got (l .plan) g b) m)
 
     -- The receiver's inputs and receipts.
     inputs-there : (k : ℕ) → k ≡ n → map inputOf (later g n event k) ≡ map inputOf (g k) ++ tookIn b (m .what) ∷ []
