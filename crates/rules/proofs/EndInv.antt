@@ -39,7 +39,7 @@ use Rattle.rules.proofs.Inv.{timeOf, Enters, Leaves, Reached, Replays, 
 use Rattle.rules.proofs.InvLaws.{took-enters, reached-goes, replay-marked}
 use Rattle.rules.proofs.MarkedLaws.{own, one-channel, taken-put, got-rises}
 use Rattle.rules.proofs.RebuildEvents.{Rebuilding}
-use Rattle.rules.proofs.RebuildInv.{ghostAfter, cutAfter, rebuild-inv}
+use Rattle.rules.proofs.RebuildInv.{rebuild-inv}
 
 module _ (l : Line) (g : Ghost) (cut base : ℕ → ℕ) (fed : List Act) (receipts : List Receipt) (crashes : List ℕ) (inv : Inv l g cut base fed receipts crashes) (n : ℕ) (replaying : nodeAt l n .status ≡ replay)
     (columns : List ℕ) (keeps : KeepsRules (nodeAt l n .time) (highOf l n) (itemsByRow l n 0 (heldByRow (nodeAt l n .held) l (entering (l .plan) n))) columns)
@@ -152,30 +152,16 @@ module _ (l : Line) (g : Ghost) (cut base : ℕ → ℕ) (fed : List Act) (recei
         placed-reached = placed-reached;
       }
 
+  abbrev placed : Node
+  placed = nodePlaced l n (joined (heldByRow (nodeAt l n .held) l (entering (l .plan) n))) columns
+
+  node-now : n < nodeCount (l .plan) → nodeAt (withNode n placed l) n ≡ record { status = up; crashed = true; time = highOf l n; log = map (entryOf (l .plan) n) fs; held = []; targets = [] }
+  unfolding nodePlaced
+  node-now inside = node-there n placed l (rw (inv .shape .nodes-long) inside) ∙ (λ i. record { status = up; crashed = marked i; time = highOf l n; log = P .log-is i; held = []; targets = [] })
+
   pub end-inv : n < nodeCount (l .plan) → (g′ : Ghost) × (cut′ : ℕ → ℕ) × Inv (withNode n (nodePlaced l n (joined (heldByRow (nodeAt l n .held) l (entering (l .plan) n))) columns) l) g′ cut′ base fed receipts crashes
-  unfolding withNode nodePlaced
-  end-inv inside = (
-    ghostAfter l g cut base fed receipts crashes inv n inside replaying (highOf l n) fs rebuilding (l .steps) nodes long now other,
-    cutAfter l g cut base fed receipts crashes inv n inside replaying (highOf l n) fs rebuilding (l .steps) nodes long now other,
-    rebuild-inv l g cut base fed receipts crashes inv n inside replaying (highOf l n) fs rebuilding (l .steps) nodes long now other,
-  )
-    where
-      placed : Node
-      placed = nodePlaced l n (joined (heldByRow (nodeAt l n .held) l (entering (l .plan) n))) columns
-
-      nodes : List Node
-      nodes = withNode n (nodePlaced l n (joined (heldByRow (nodeAt l n .held) l (entering (l .plan) n))) columns) l .nodes
-
-      long : length (withNode n (nodePlaced l n (joined (heldByRow (nodeAt l n .held) l (entering (l .plan) n))) columns) l .nodes) ≡ length (l .nodes)
-      long = length-set (l .nodes) n placed
-
-      now : nodeAt (withNode n (nodePlaced l n (joined (heldByRow (nodeAt l n .held) l (entering (l .plan) n))) columns) l) n ≡ record { status = up; crashed = true; time = highOf l n; log = map (entryOf (l .plan) n) fs; held = []; targets = [] }
-      now =
-          node-there n placed l (rw (inv .shape .nodes-long) inside) ∙ ap (λ (x : Bool). record { status = up; crashed = x; time = highOf l n; log = placedLog (joined (heldByRow (nodeAt l n .held) l (entering (l .plan) n))) columns; held = []; targets = [] }) marked
-          ∙ ap (λ (x : List Entry). record { status = up; crashed = true; time = highOf l n; log = x; held = []; targets = [] }) (P .log-is)
-
-      other : (m : ℕ) → m ≢ n → nodeAt (withNode n (nodePlaced l n (joined (heldByRow (nodeAt l n .held) l (entering (l .plan) n))) columns) l) m ≡ nodeAt l m
-      other m d = node-else n placed l m d
+  unfolding withNode
+  end-inv inside = (_, _, rebuild-inv l g cut base fed receipts crashes inv n inside replaying (highOf l n) fs rebuilding (l .steps) (withNode n placed l .nodes) (length-set (l .nodes) n placed) (node-now inside) (node-else n placed l))
 
 -- The placing's promise: columns that it gives keep the rules.
 placing-keeps : (low high : ℕ) (table : List Item) (columns : List ℕ) → placing low high table ≡ some columns → KeepsRules low high table columns

@@ -21,6 +21,7 @@ use Rattle.rules.proofs.ListLaws.{keep-append, keep-more, keep-none, ma
 use Rattle.rules.proofs.Rising.{until, past, past-snoc}
 use Rattle.rules.proofs.Members.{next-first}
 use Rattle.rules.proofs.LineLaws.{lane-else, lanes-long, node-there, node-else}
+use Rattle.rules.proofs.PlainRun.{receipt-else}
 use Rattle.rules.proofs.Ghost.{Ghost, takesMessage, put, logPut}
 use Rattle.rules.proofs.Passing.{goesOn, heldOf}
 use Rattle.rules.proofs.Inv.{Inv, isUp, timeOf, Enters, SenderUp, Channels, Ends, Row, Replays}
@@ -29,11 +30,6 @@ use Rattle.rules.proofs.MarkedLaws.{goal-message}
 use Rattle.rules.proofs.Grow.{sender-taken, sender-cut, sender-same, sender-receiving}
 use Rattle.rules.proofs.Stays.{moved, everywhere, marks-stay, unmarked-other, nodes-stay, channel-stays, ends-stay, events-stay, replays-stay, replays-keep}
 use Rattle.rules.proofs.TakeInv.{lane-raised, replay-beside}
-
--- A receipt of another node.
-receipt-else : (receipts : List Receipt) (x : Receipt) (k : ℕ) → k ≢ x .receiver → receivedBy k (receipts ++ x ∷ []) ≡ receivedBy k receipts
-receipt-else receipts x k d =
-    keep-append (λ (r : Receipt). eqb (r .receiver) k) receipts (x ∷ []) ∙ ap (λ (t : Bool). receivedBy k receipts ++ keepOne t x []) (ne-eqb (x .receiver) k (λ q. d (sym q))) ∙ nil-right (receivedBy k receipts)
 
 module _ (l : Line) (g : Ghost) (cut base : ℕ → ℕ) (fed : List Act) (receipts : List Receipt) (crashes : List ℕ) (inv : Inv l g cut base fed receipts crashes)
     (b : ℕ) (here : b < channelCount (l .plan)) (m : Message) (rest : List Message) (heardOf : List ℕ) (first : laneAt l b .queue ≡ m ∷ rest) (sender : isUp l (channelAt (l .plan) b .sender))

@@ -156,21 +156,24 @@ follows-feed p h l n r f =
       ];
     }
 
+-- A receipt of another node.
+pub receipt-else : (receipts : List Receipt) (x : Receipt) (k : ℕ) → k ≢ x .receiver → receivedBy k (receipts ++ x ∷ []) ≡ receivedBy k receipts
+receipt-else receipts x k d =
+    keep-append (λ (r : Receipt). eqb (r .receiver) k) receipts (x ∷ []) ∙ ap (λ (t : Bool). receivedBy k receipts ++ keepOne t x []) (ne-eqb (x .receiver) k (λ q. d (sym q))) ∙ nil-right (receivedBy k receipts)
+
 pub taken-receipt : (p : Plan) (h : History) (l : PlainLine) (b : ℕ) (r : Record) (k : ℕ) → receivedBy k (l .received) ≡ receiptsIn p k (h k)
     → receivedBy k (l .received ++ record { receiver = channelAt p b .receiver; what = r; sender = channelAt p b .sender } ∷ []) ≡ receiptsIn p k (grown h (channelAt p b .receiver) (tookIn b r) k)
 taken-receipt p h l b r k e =
     let n : ℕ = channelAt p b .receiver in
     let one : Receipt = record { receiver = n; what = r; sender = channelAt p b .sender } in
-    keep-append (λ (x : Receipt). eqb (x .receiver) k) (l .received) (one ∷ [])
-    ∙ ap (λ (x : List Receipt). x ++ keepOne (eqb n k) one []) e
-    ∙ elim (ℕ-discrete k n) [
+    elim (ℕ-discrete k n) [
       | yes q ↦
-          ap (λ (t : Bool). receiptsIn p k (h k) ++ keepOne t one []) (eq-eqb n k (sym q))
+          keep-append (λ (x : Receipt). eqb (x .receiver) k) (l .received) (one ∷ [])
+          ∙ ap (λ (x : List Receipt). x ++ keepOne (eqb n k) one []) e
+          ∙ ap (λ (t : Bool). receiptsIn p k (h k) ++ keepOne t one []) (eq-eqb n k (sym q))
           ∙ ap (λ (x : ℕ). receiptsIn p k (h k) ++ record { receiver = x; what = r; sender = channelAt p b .sender } ∷ []) (sym q)
           ∙ sym (receipts-there p h n k (tookIn b r) q)
-      | no d ↦
-          ap (λ (t : Bool). receiptsIn p k (h k) ++ keepOne t one []) (ne-eqb n k (λ q. d (sym q)))
-          ∙ nil-right (receiptsIn p k (h k)) ∙ sym (receipts-else p h n k (tookIn b r) d)
+      | no d ↦ receipt-else (l .received) one k d ∙ e ∙ sym (receipts-else p h n k (tookIn b r) d)
     ]
 
 -- A take follows the history with one more record taken.

@@ -36,7 +36,7 @@ use Rattle.rules.proofs.MarkedLaws.{sender-other, receiver-other, paren
 use Rattle.rules.proofs.Stays.{moved, unmarked-other, marks-beside, nodes-stay, reached-back, reached-on, channels-beside, ends-beside, events-stay, replays-stay}
 use Rattle.rules.proofs.Swept.{swept-line, swept-long, swept-enters, swept-leaves, swept-else}
 use Rattle.rules.proofs.RebuildEvents.{Rebuilding}
-use Rattle.rules.proofs.RebuildInv.{ghostAfter, cutAfter, rebuild-inv}
+use Rattle.rules.proofs.RebuildInv.{rebuild-inv}
 use Rattle.rules.proofs.EndInv.{Goes, ended-inv}
 
 -- The log of a node that never crashed holds all that it put on a channel.
@@ -300,15 +300,8 @@ module _ (l : Line) (g : Ghost) (cut base : ℕ → ℕ) (fed : List Act) (recei
         }
 
     up-inv : (g′ : Ghost) × (cut′ : ℕ → ℕ) × Inv (restoredAs up) g′ cut′ baseAfter fed receipts crashes
-    up-inv = (
-      ghostAfter r g cut baseAfter fed receipts crashes restored-inv n inside now-replays (lowOf l n) [] nothing-placed (l .steps) (restoredAs up .nodes) long now other,
-      cutAfter r g cut baseAfter fed receipts crashes restored-inv n inside now-replays (lowOf l n) [] nothing-placed (l .steps) (restoredAs up .nodes) long now other,
-      rebuild-inv r g cut baseAfter fed receipts crashes restored-inv n inside now-replays (lowOf l n) [] nothing-placed (l .steps) (restoredAs up .nodes) long now other,
-    )
+    up-inv = (_, _, rebuild-inv r g cut baseAfter fed receipts crashes restored-inv n inside now-replays (lowOf l n) [] nothing-placed (l .steps) (restoredAs up .nodes) (nodes-count up ∙ sym (nodes-count replay)) now other)
       where
-        long : length (restoredAs up .nodes) ≡ length (restoredAs replay .nodes)
-        long = nodes-count up ∙ sym (nodes-count replay)
-
         now : nodeAt (restoredAs up) n ≡ record { status = up; crashed = true; time = lowOf l n; log = []; held = []; targets = [] }
         now = node-now up ∙ ap (λ (x : List Target). record { status = up; crashed = true; time = lowOf l n; log = []; held = []; targets = x }) no-targets
 
