@@ -1,4 +1,4 @@
--- What the acceptance of a frame says, for each kind what its step takes.
+-- What an accepted frame says of the line: for each kind of frame, what its step goes by.
 use Prim.Native.Nat.{ℕ, suc, _<_}
 use mathlib.Core.Path.{_≡_, refl, sym, ap, _∙_}
 use mathlib.Core.Logic.{_≢_}

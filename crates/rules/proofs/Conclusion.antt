@@ -1,4 +1,4 @@
--- From the invariant to a run of the plain line: what the never crashed nodes received, and rest where the line is quiet.
+-- From the invariant to one run of the plain line, which gives every node that never crashed what it received.
 use Prim.Native.Nat.{ℕ, _<_, _≤_}
 use mathlib.Core.Path.{_≡_, refl, sym, ap, _∙_}
 use mathlib.Core.Bool.{Bool, true, false, cond}

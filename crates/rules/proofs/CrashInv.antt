@@ -1,4 +1,4 @@
--- Crash keeps the invariant: histories do not move, and the logs of the neighbours, which never crashed, hold all that was put on.
+-- Crash keeps the invariant: histories do not move, and what the node and its channels held is gone.
 use Prim.Native.Nat.{ℕ, _<_}
 use mathlib.Core.Path.{_≡_, refl, sym, ap, subst, _∙_}
 use mathlib.Core.Logic.{_≢_, _⊎_, inl, inr}

@@ -7,7 +7,7 @@ use mathlib.Core.List.{List, [], map}
 use mathlib.Core.Option.{Option, none, some}
 use native.Mathlib.Omega.{arith}
 use native.Mathlib.Decide.{ℕ-discrete}
-use lib.ListN.{length, length-set}
+use lib.ListN.{length-set}
 use lib.Dec.{eqb, leb, ltb}
 use borrow.Author.Tests.{eq-eqb, eqb-true, leb-true}
 use Rattle.placing.specs.Item.{Item}
@@ -21,9 +21,9 @@ use Rattle.plan.specs.Plan.{ruleAt, channelAt, nodeCount, entering}
 use Rattle.plan.specs.Mask.{taking}
 use Rattle.basics.specs.Bools.{both-true}
 use Rattle.rules.specs.Lists.{keep, allOf, joined, greatestOf}
-use Rattle.rules.specs.Line.{Message, Entry, Held, Target, up, replay, Node, Line, nodeAt, laneAt, withNode}
+use Rattle.rules.specs.Line.{Message, Held, Target, up, replay, Node, Line, nodeAt, laneAt, withNode}
 use Rattle.rules.specs.Recover.{highOf, rowGoal, rowComplete, rowsComplete}
-use Rattle.rules.specs.Replay.{fixedAt, floorOf, heldByRow, itemsByRow, isHeld, placedLog, placing, nodePlaced, replayEnd, endedIfComplete}
+use Rattle.rules.specs.Replay.{fixedAt, floorOf, heldByRow, itemsByRow, isHeld, placing, nodePlaced, replayEnd, endedIfComplete}
 use Rattle.rules.specs.Plain.{Act, Receipt}
 use Rattle.rules.proofs.Rising.{until, past}
 use Rattle.rules.proofs.Members.{In, in-keep, keep-in, in-map, map-in, all-in, any-in, in-greatest, greatest-in, rises-once}

@@ -1,4 +1,4 @@
--- A node logs one more event: what its leaving channels hold and what the log has for them grow together.
+-- A channel whose sender is up: its sender logs or sends one more message, or its receiver takes one.
 use Prim.Native.Nat.{ℕ, _<_, _≤_}
 use mathlib.Core.Path.{_≡_, sym, ap, subst, _∙_}
 use mathlib.Core.Bool.{Bool, true, false}

@@ -16,7 +16,6 @@ use Rattle.rules.specs.Clock.{messageOf}
 use Rattle.rules.specs.Recover.{rowGoal}
 use Rattle.rules.specs.Replay.{holding}
 use Rattle.rules.specs.Plain.{Act, Receipt}
-use Rattle.rules.specs.Claim.{receivedBy}
 use Rattle.rules.proofs.ListLaws.{keep-append, keep-more, keep-none, map-more, nil-right}
 use Rattle.rules.proofs.Rising.{until, past, past-snoc}
 use Rattle.rules.proofs.Members.{next-first}

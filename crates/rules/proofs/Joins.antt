@@ -1,4 +1,4 @@
--- Which channels leave or enter a node, and which of the leaving ones take a record.
+-- Which channels enter a node, which leave it, and which of these take a record.
 use Prim.Native.Nat.{ℕ, suc, _+_, _<_}
 use mathlib.Core.Path.{_≡_, refl, ap, subst}
 use mathlib.Core.Logic.{_≢_, inl, inr}

@@ -1,4 +1,4 @@
--- Changes to several channels at once, and which channels enter or leave a node.
+-- Changes to several channels at once, and numbers of channels, which rise.
 use Prim.Native.Nat.{ℕ, zero, suc, _+_, _<_, _≤_}
 use mathlib.Core.Path.{_≡_, refl, sym, ap, subst, _∙_}
 use mathlib.Core.Logic.{_≢_}

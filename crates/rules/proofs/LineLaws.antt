@@ -1,4 +1,4 @@
--- Reading a line after a small change.
+-- Reading a line after one node or one channel has changed.
 use Prim.Native.Nat.{ℕ, _<_}
 use mathlib.Core.Path.{_≡_, refl}
 use mathlib.Core.Logic.{_≢_}

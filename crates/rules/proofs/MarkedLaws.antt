@@ -1,14 +1,13 @@
--- The events of a node that has crashed, and its neighbours, which have not.
-use Prim.Native.Nat.{ℕ, _<_}
+-- A node that has crashed: its neighbours, which have not, the events that it had, and its rows' goals.
+use Prim.Native.Nat.{ℕ, _≤_}
 use mathlib.Core.Path.{_≡_, sym, ap, subst, _∙_}
 use mathlib.Core.Logic.{_≢_, inl, inr}
 use mathlib.Core.Bool.{Bool, true, false, true≢false}
 use mathlib.Core.List.{List, map}
 use native.Mathlib.Omega.{arith}
-use native.Mathlib.Decide.{ℕ-discrete}
 use lib.Dec.{leb, eqb}
-use borrow.Author.Tests.{eqb-true}
-use Rattle.plan.specs.Plan.{Plan, channelAt, channelCount}
+use borrow.Author.Tests.{eqb-true, leb-true}
+use Rattle.plan.specs.Plan.{channelAt}
 use Rattle.rules.specs.Lists.{keep}
 use Rattle.rules.specs.Line.{Message, Target, replay, Line, nodeAt}
 use Rattle.rules.specs.Recover.{rowGoal}
@@ -57,9 +56,16 @@ module _ {l : Line} {g : Ghost} {cut base : ℕ → ℕ} {fed : List Act} {recei
     pub got-rises : (b : ℕ) → Enters (l .plan) n b → Rises timeOf 0 (gotOf b (g n))
     got-rises b h = subst (λ (x : List Message). Rises timeOf 0 x) (sym (got-here b h)) (rises-keep timeOf (λ (m : Message). leb (m .time) (cut b)) (inv .channels b (h .0) .rises))
 
-    -- What it took of a channel was put on it.
-    pub taken-put : (b : ℕ) (m : Message) (t : ℕ) → Enters (l .plan) n b → In (tookAt b m t) (g n) → In m (put (l .plan) g b)
-    taken-put b m t h i = keep-in (λ (x : Message). leb (x .time) (cut b)) (put (l .plan) g b) (subst (λ (x : List Message). In m x) (got-here b h) (in-got-of b i)) .0
+    -- What it took of a channel was put on it, up to the cut.
+    module _ (b : ℕ) (m : Message) (t : ℕ) (h : Enters (l .plan) n b) (i : In (tookAt b m t) (g n)) where
+      in-cut : In m (put (l .plan) g b) × (leb (m .time) (cut b) ≡ true)
+      in-cut = keep-in (λ (x : Message). leb (x .time) (cut b)) (put (l .plan) g b) (subst (λ (x : List Message). In m x) (got-here b h) (in-got-of b i))
+
+      pub taken-put : In m (put (l .plan) g b)
+      taken-put = in-cut .0
+
+      pub taken-cut : m .time ≤ cut b
+      taken-cut = leb-true (m .time) (cut b) (in-cut .1)
 
   -- A replaying node's row whose goal is not 0: the goal is the time of a message that goes on.
   pub goal-message : nodeAt l n .status ≡ replay → (b : ℕ) → Enters (l .plan) n b → rowGoal (nodeAt l n .targets) (channelAt (l .plan) b .sender) ≢ 0

@@ -1,4 +1,4 @@
--- Members of lists: through selections, maps and joins; two rising lists with the same members are equal.
+-- Members of lists: through tests, selections, maps and joins; two rising lists with the same members are equal.
 use Prim.Native.Nat.{ℕ, zero, suc, max, _+_, _<_, _≤_}
 use mathlib.Core.Path.{_≡_, refl, sym, ap, subst, _∙_}
 use mathlib.Core.Logic.{_⊎_, inl, inr}

@@ -1,4 +1,4 @@
--- An optional value: what it is when it is there, and that nothing is not something.
+-- Optional values: what is there is one thing, and nothing is not something.
 use mathlib.Core.Path.{_≡_, refl, sym}
 use mathlib.Core.Bool.{true, false, true≢false}
 use mathlib.Core.Option.{Option, none, some, Option·some-injective, Option·none-ne-some}

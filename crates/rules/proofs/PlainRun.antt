@@ -1,4 +1,4 @@
--- A history is a run: what each node took, in order, is what a run of the plain line gives it.
+-- The plain line after a feed or a take, by its history: what each node took in, and what each channel was given and holds.
 use Prim.Native.Nat.{ℕ, zero, suc, _<_}
 use mathlib.Core.Path.{_≡_, refl, sym, ap, subst, _∙_}
 use mathlib.Core.Logic.{_≢_}

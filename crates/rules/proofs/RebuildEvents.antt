@@ -1,4 +1,4 @@
--- The history that a recovered node is given: what it took up to the restored entries, then what was placed. Its channels, seen from both ends.
+-- The history that a recovered node is given, seen from its entering and from its leaving channels.
 use Prim.Native.Nat.{ℕ, _<_, _≤_}
 use mathlib.Core.Path.{_≡_, refl, sym, ap, subst, _∙_}
 use mathlib.Core.Logic.{_⊎_, inl, inr}

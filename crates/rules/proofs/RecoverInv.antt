@@ -8,8 +8,8 @@ use mathlib.Core.Option.{none, some}
 use native.Mathlib.Omega.{arith}
 use native.Mathlib.Decide.{ℕ-discrete}
 use lib.ListN.{length, length-set}
-use lib.Dec.{eqb, leb}
-use borrow.Author.Tests.{eq-eqb, ne-eqb, leb-true}
+use lib.Dec.{eqb}
+use borrow.Author.Tests.{eq-eqb, ne-eqb}
 use Rattle.plan.specs.Plan.{channelAt, nodeCount, channelCount}
 use Rattle.rules.specs.Lists.{keep, isEmpty}
 use Rattle.rules.specs.Line.{Message, Entry, Held, Target, Status, up, down, replay, Node, Lane, Line, nodeAt, laneAt, withNode, freshLane}
@@ -19,25 +19,24 @@ use Rattle.rules.specs.Replay.{endedIfComplete}
 use Rattle.rules.specs.Step.{recoveredLine}
 use Rattle.rules.specs.Plain.{Act, Receipt}
 use Rattle.rules.proofs.Rising.{until, past, Rises, none, Within, none-in, past-none, within-until, within-higher, until-none, rises-past}
-use Rattle.rules.proofs.Members.{In, in-none, keep-in}
+use Rattle.rules.proofs.Members.{In, in-none}
 use Rattle.rules.proofs.Options.{some-same, none-some}
 use Rattle.rules.proofs.Witness.{Taken, none}
 use Rattle.rules.proofs.LineLaws.{node-there, node-else}
-use Rattle.rules.proofs.Ghost.{Ghost, inputOf, entryOf, takesMessage, put, got, gotOf, logPut}
+use Rattle.rules.proofs.Ghost.{Ghost, inputOf, entryOf, takesMessage, put, logPut}
 use Rattle.rules.proofs.Passing.{goesOn, heldOf}
 use Rattle.rules.proofs.Kept.{cuts-at}
-use Rattle.rules.proofs.Carried.{in-got-of}
 use Rattle.rules.proofs.Joins.{no-source}
 use Rattle.rules.proofs.Targets.{low-below, targets-from, targets-of}
 use Rattle.rules.proofs.Children.{Child, triples-from, triples-of, restored-reach, restored-is, none-above}
-use Rattle.rules.proofs.Inv.{timeOf, isUp, Enters, Leaves, targetFrom, Nodes, Shape, Channels, Ends, Row, Replays, Inv}
+use Rattle.rules.proofs.Inv.{timeOf, Enters, Leaves, targetFrom, Nodes, Shape, Channels, Ends, Row, Replays, Inv}
 use Rattle.rules.proofs.InvLaws.{took-enters, up-not-replay, up-not-down, marked-unless-up, replay-marked, marked-took, ends-up}
-use Rattle.rules.proofs.MarkedLaws.{sender-other, receiver-other, parent-unmarked, child-unmarked, parent-up, child-up, own, got-rises}
+use Rattle.rules.proofs.MarkedLaws.{sender-other, receiver-other, parent-unmarked, child-unmarked, parent-up, child-up, own, got-rises, taken-cut}
 use Rattle.rules.proofs.Stays.{moved, unmarked-other, marks-beside, nodes-stay, reached-back, reached-on, channels-beside, ends-beside, events-stay, replays-stay}
 use Rattle.rules.proofs.Swept.{swept-line, swept-long, swept-enters, swept-leaves, swept-else}
 use Rattle.rules.proofs.RebuildEvents.{Rebuilding}
 use Rattle.rules.proofs.RebuildInv.{rebuild-inv}
-use Rattle.rules.proofs.EndInv.{Goes, ended-inv}
+use Rattle.rules.proofs.EndInv.{ended-inv}
 
 -- The log of a node that never crashed holds all that it put on a channel.
 log-whole : {l : Line} {g : Ghost} {fed : List Act} {receipts : List Receipt} → Nodes l g fed receipts → (b : ℕ) → nodeAt l (channelAt (l .plan) b .sender) .crashed ≡ false → logPut l b ≡ put (l .plan) g b
@@ -74,14 +73,7 @@ module _ (l : Line) (g : Ghost) (cut base : ℕ → ℕ) (fed : List Act) (recei
 
   -- A restored entry is not past what was got.
   restored-got : (b : ℕ) → Enters (l .plan) n b → restored l n (channelAt (l .plan) b .sender) ≤ cut b
-  unfolding got
-  restored-got b h =
-      elim (restored-is l g n (inv .ordered) took-own child b (h .0) (h .1)) [
-        | inl z ↦ omega arith
-        | inr (m, t, i, _, _, e) ↦
-            (let in-cut = keep-in (λ (x : Message). leb (x .time) (cut b)) (put (l .plan) g b) (subst (λ (x : List Message). In m x) (inv .channels b (h .0) .cut-is) (subst (λ (k : ℕ). In m (gotOf b (g k))) (sym (h .1)) (in-got-of b i))) .1 in
-            omega (arith, e, leb-true (m .time) (cut b) in-cut))
-      ]
+  restored-got b h = elim (restored-is l g n (inv .ordered) took-own child b (h .0) (h .1)) [ inl z ↦ omega arith | inr (m, t, i, _, _, e) ↦ omega (arith, e, taken-cut inv n marked b m t h i) ]
 
   abbrev restoredNode : Status → Node
   restoredNode s = record { status = s; crashed = true; time = lowOf l n; log = []; held = []; targets = targetsOf l n }
@@ -311,9 +303,6 @@ module _ (l : Line) (g : Ghost) (cut base : ℕ → ℕ) (fed : List Act) (recei
   abbrev Goes-on : Line → Type 0
   Goes-on k = (g′ : Ghost) × (cut′ : ℕ → ℕ) × (base′ : ℕ → ℕ) × Inv k g′ cut′ base′ fed receipts crashes
 
-  goes-on : (k : Line) → Goes k baseAfter fed receipts crashes → Goes-on k
-  goes-on k (g′, cut′, i) = (g′, cut′, baseAfter, i)
-
   pub recover-inv : (k : Line) → recoveredLine n l ≡ some k → (g′ : Ghost) × (cut′ : ℕ → ℕ) × (base′ : ℕ → ℕ) × Inv k g′ cut′ base′ fed receipts crashes
   unfolding recoveredLine
   recover-inv k = go (conflict (targetsOf l n)) (targetsOf l n) refl
@@ -325,4 +314,5 @@ module _ (l : Line) (g : Ghost) (cut base : ℕ → ℕ) (fed : List Act) (recei
           subst Goes-on (sym (recovered-is ∙ ap (λ (x : List Target). restoredAs (statusOf x)) q) ∙ some-same e) (g′, cut′, baseAfter, i)
       go false (t ∷ ts) q e =
           let same : recovered n l ≡ restoredAs replay = recovered-is ∙ ap (λ (x : List Target). restoredAs (statusOf x)) q in
-          goes-on k (ended-inv r g cut baseAfter fed receipts crashes restored-inv n now-replays inside k (ap (endedIfComplete n) (sym same) ∙ e))
+          let (g′, cut′, i) = ended-inv r g cut baseAfter fed receipts crashes restored-inv n now-replays inside k (ap (endedIfComplete n) (sym same) ∙ e) in
+          (g′, cut′, baseAfter, i)

@@ -1,4 +1,4 @@
--- What holds of a line's nodes and channels stays where a change does not reach.
+-- What holds of a line stays where a change does not reach.
 use Prim.Native.Nat.{ℕ, _<_, _≤_}
 use mathlib.Core.Path.{_≡_, refl, sym, ap, subst, _∙_}
 use mathlib.Core.Logic.{_≢_}

@@ -1,4 +1,4 @@
--- Every accepted frame keeps the invariant: its kinds put together.
+-- Every accepted frame keeps the invariant: the kinds of steps put together.
 use Prim.Native.Nat.{ℕ, suc, _<_}
 use mathlib.Core.Path.{_≡_, refl, sym, ap, subst, _∙_}
 use mathlib.Core.Logic.{_≢_, _⊎_, inl, inr}

@@ -1,4 +1,4 @@
--- A change to all channels that enter a node and another to all that leave it, as Crash and Recover make them.
+-- One change to all channels that enter a node and another to all that leave it, as Crash and Recover make them.
 use Prim.Native.Nat.{ℕ}
 use mathlib.Core.Path.{_≡_, refl, ap, _∙_}
 use mathlib.Core.Logic.{_≢_}
