@@ -39,10 +39,10 @@ module _ (l : Line) (g : Ghost) (cut base : ℕ → ℕ) (fed : List Act) (recei
   abbrev pub beside : Line
   beside = withLane b taken l
 
-  abbrev n : ℕ
+  abbrev pub n : ℕ
   n = channelAt (l .plan) b .receiver
 
-  abbrev receipt : Receipt
+  abbrev pub receipt : Receipt
   receipt = record { receiver = n; what = m .what; sender = channelAt (l .plan) b .sender }
 
   abbrev puts : List Message

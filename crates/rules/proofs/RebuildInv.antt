@@ -36,11 +36,11 @@ module _ (l : Line) (g : Ghost) (cut base : ℕ → ℕ) (fed : List Act) (recei
   abbrev k : Line
   k = moved l steps nodes (l .lanes)
 
-  abbrev ghostAfter : Ghost
+  abbrev pub ghostAfter : Ghost
   ghostAfter = ghost l g cut base fed receipts crashes inv n replaying T fs r
 
   -- The cut of an entering channel is the entry.
-  abbrev cutAfter : ℕ → ℕ
+  abbrev pub cutAfter : ℕ → ℕ
   cutAfter b = cond (eqb (channelAt (l .plan) b .receiver) n) (laneAt l b .taken) (cut b)
 
   marked : nodeAt l n .crashed ≡ true

@@ -29,13 +29,13 @@ use Rattle.rules.proofs.Logging.{nodeLogs, status-kept, mark-kept, log-
 
 module _ (l : Line) (g : Ghost) (cut base : ℕ → ℕ) (fed : List Act) (receipts : List Receipt) (crashes : List ℕ) (inv : Inv l g cut base fed receipts crashes)
     (b : ℕ) (here : b < channelCount (l .plan)) (m : Message) (rest : List Message) (heardOf : List ℕ) (first : laneAt l b .queue ≡ m ∷ rest) (sender : isUp l (channelAt (l .plan) b .sender)) where
-  abbrev taken : Lane
+  abbrev pub taken : Lane
   taken = record { mark = laneAt l b .mark; taken = max (laneAt l b .taken) (m .time); heard = heardOf; queue = rest }
 
-  abbrev beside : Line
+  abbrev pub beside : Line
   beside = withLane b taken l
 
-  abbrev n : ℕ
+  abbrev pub n : ℕ
   n = channelAt (l .plan) b .receiver
 
   lane-now : laneAt beside b ≡ taken
@@ -63,7 +63,7 @@ module _ (l : Line) (g : Ghost) (cut base : ℕ → ℕ) (fed : List Act) (recei
         (λ c h. (ap (λ (x : Lane). x .taken) (entering-other c h), omega arith, refl, refl)) (inv .replays k replaying)
 
   module _ (receiver : isUp l n) where
-    abbrev event : Event
+    abbrev pub event : Event
     event = tookAt b m (suc (nodeAt l n .time))
 
     abbrev after : Line
