@@ -102,6 +102,15 @@ pub got-append : (b : ℕ) (es fs : List Event) → gotOf b (es ++ fs) ≡ gotOf
 got-append b [] fs = refl
 got-append b (e ∷ es) fs = ap (λ (x : List Message). gotOne b e ++ x) (got-append b es fs) ∙ sym (append-assoc (gotOne b e) (gotOf b es) (gotOf b fs))
 
+-- A channel whose sender's events are as they were, or its receiver's.
+pub put-same : (p : Plan) (g g′ : Ghost) (b : ℕ) → g′ (channelAt p b .sender) ≡ g (channelAt p b .sender) → put p g′ b ≡ put p g b
+unfolding put
+put-same p g g′ b e = ap (λ (es : List Event). keep (takesMessage p b) (map (sentOf p (channelAt p b .sender)) es)) e
+
+pub got-same : (p : Plan) (g g′ : Ghost) (b : ℕ) → g′ (channelAt p b .receiver) ≡ g (channelAt p b .receiver) → got p g′ b ≡ got p g b
+unfolding got
+got-same p g g′ b e = ap (gotOf b) e
+
 -- One more event at node n.
 abbrev pub later : Ghost → ℕ → Event → Ghost
 later g n e = changed g n (g n ++ e ∷ [])
@@ -123,13 +132,11 @@ module _ (p : Plan) (g : Ghost) (n b : ℕ) (e : Event) where
       ∙ ap (λ (k : ℕ). put p g b ++ keepOne (takesMessage p b (sentOf p k e)) (sentOf p k e) []) q
 
   pub put-else : channelAt p b .sender ≢ n → put p (later g n e) b ≡ put p g b
-  unfolding put
-  put-else d = ap (λ (es : List Event). keep (takesMessage p b) (map (sentOf p (channelAt p b .sender)) es)) (later-else g n (channelAt p b .sender) e d)
+  put-else d = put-same p g (later g n e) b (later-else g n (channelAt p b .sender) e d)
 
   pub got-there : channelAt p b .receiver ≡ n → got p (later g n e) b ≡ got p g b ++ (gotOne b e ++ [])
   unfolding got
   got-there q = ap (gotOf b) (later-there g n (channelAt p b .receiver) e q) ∙ got-append b (g (channelAt p b .receiver)) (e ∷ [])
 
   pub got-else : channelAt p b .receiver ≢ n → got p (later g n e) b ≡ got p g b
-  unfolding got
-  got-else d = ap (gotOf b) (later-else g n (channelAt p b .receiver) e d)
+  got-else d = got-same p g (later g n e) b (later-else g n (channelAt p b .receiver) e d)

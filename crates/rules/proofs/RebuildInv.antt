@@ -19,13 +19,13 @@ use Rattle.rules.proofs.ListLaws.{keep-append}
 use Rattle.rules.proofs.Rising.{until, past, Rises, Within, rises-past, until-none, past-none, within-higher, within-until, rises-keep, rises-map}
 use Rattle.rules.proofs.PlainRun.{receiptsIn}
 use Rattle.rules.proofs.Witness.{Taken}
-use Rattle.rules.proofs.Ghost.{Event, Ghost, inputOf, entryOf, sentOf, takesMessage, put, got, gotOf, logPut}
+use Rattle.rules.proofs.Ghost.{Event, Ghost, inputOf, entryOf, sentOf, takesMessage, put, got, gotOf, put-same, got-same, logPut}
 use Rattle.rules.proofs.Passing.{passing}
 use Rattle.rules.proofs.Inv.{timeOf, isUp, Enters, Leaves, Nodes, Channels, Events, Ends, Replays, Inv}
 use Rattle.rules.proofs.InvLaws.{up-not-replay, replay-not-down, replay-marked, ends-up}
 use Rattle.rules.proofs.MarkedLaws.{sender-other, receiver-other, parent-up, child-unmarked, child-up}
 use Rattle.rules.proofs.Stays.{moved, unmarked-other, marks-beside, channels-beside, ends-beside, events-stay, replays-stay}
-use Rattle.rules.proofs.Grow.{sender-same, sender-receiving}
+use Rattle.rules.proofs.Grow.{sender-same, sender-cut, sender-receiving}
 use Rattle.rules.proofs.RebuildEvents.{Rebuilding, events, ghost, got-rebuilt, took-rebuilt, rise-rebuilt, within-rebuilt, put-rebuilt, put-rises, put-within, until-rebuilt}
 
 module _ (l : Line) (g : Ghost) (cut base : ℕ → ℕ) (fed : List Act) (receipts : List Receipt) (crashes : List ℕ) (inv : Inv l g cut base fed receipts crashes) (n : ℕ) (inside : n < nodeCount (l .plan)) (replaying : nodeAt l n .status ≡ replay)
@@ -59,12 +59,10 @@ module _ (l : Line) (g : Ghost) (cut base : ℕ → ℕ) (fed : List Act) (recei
   ghost-now m q = changed-there g n (events l g cut base fed receipts crashes inv n replaying T fs r) m q
 
   put-other : (c : ℕ) → channelAt (l .plan) c .sender ≢ n → put (l .plan) ghostAfter c ≡ put (l .plan) g c
-  unfolding put
-  put-other c d = ap (λ (x : List Event). keep (takesMessage (l .plan) c) (map (sentOf (l .plan) (channelAt (l .plan) c .sender)) x)) (ghost-other (channelAt (l .plan) c .sender) d)
+  put-other c d = put-same (l .plan) g ghostAfter c (ghost-other (channelAt (l .plan) c .sender) d)
 
   got-other : (c : ℕ) → channelAt (l .plan) c .receiver ≢ n → got (l .plan) ghostAfter c ≡ got (l .plan) g c
-  unfolding got
-  got-other c d = ap (gotOf c) (ghost-other (channelAt (l .plan) c .receiver) d)
+  got-other c d = got-same (l .plan) g ghostAfter c (ghost-other (channelAt (l .plan) c .receiver) d)
 
   got-now : (b : ℕ) → Enters (l .plan) n b → got (l .plan) ghostAfter b ≡ until timeOf (laneAt l b .taken) (put (l .plan) g b)
   unfolding got
@@ -91,7 +89,7 @@ module _ (l : Line) (g : Ghost) (cut base : ℕ → ℕ) (fed : List Act) (recei
         sender-up = λ e.
             sender-receiving {old = nodeAt l (channelAt (l .plan) b .receiver) .status ≢ down} (λ x z. replay-not-down (sym (ap (λ (y : ℕ). nodeAt l y .status) (h .1) ∙ replaying) ∙ z))
             (sender-same (ap (λ (x : Node). x .time) (sym sender)) refl (ap (λ (x : Node). keep (takesMessage (l .plan) b) (map messageOf (x .log))) (sym sender)) (sym puts) (sym cuts)
-            (record { within = s .within; cut-within = s .taken-within; taken-within = s .taken-within; to-come = s .to-come; queue = s .queue }));
+            (sender-cut (s .taken-within) s));
       }
 
   -- The log is what was placed.
