@@ -1,13 +1,14 @@
 -- A node that has crashed: its neighbours, which have not, the events that it had, and its rows' goals.
-use Prim.Native.Nat.{ℕ, _≤_}
+use Prim.Native.Nat.{ℕ, _<_, _≤_}
 use mathlib.Core.Path.{_≡_, sym, ap, subst, _∙_}
 use mathlib.Core.Logic.{_≢_, inl, inr}
 use mathlib.Core.Bool.{Bool, true, false, true≢false}
 use mathlib.Core.List.{List, map}
 use native.Mathlib.Omega.{arith}
+use native.Mathlib.Decide.{ℕ-discrete}
 use lib.Dec.{leb, eqb}
 use borrow.Author.Tests.{eqb-true, leb-true}
-use Rattle.plan.specs.Plan.{channelAt}
+use Rattle.plan.specs.Plan.{Plan, channelAt, channelCount}
 use Rattle.rules.specs.Lists.{keep}
 use Rattle.rules.specs.Line.{Message, Target, replay, Line, nodeAt}
 use Rattle.rules.specs.Recover.{rowGoal}
@@ -20,6 +21,10 @@ use Rattle.rules.proofs.Passing.{goesOn}
 use Rattle.rules.proofs.Carried.{in-got-of}
 use Rattle.rules.proofs.Inv.{timeOf, isUp, Enters, Leaves, Inv}
 use Rattle.rules.proofs.InvLaws.{took-enters, if-marked, marked-took, replay-marked, reached-goes}
+
+-- A channel at either end of a node, or beside it.
+pub at-ends : {A : Type 0} (p : Plan) (n c : ℕ) → c < channelCount p → (Enters p n c → A) → (Leaves p n c → A) → (channelAt p c .receiver ≢ n → channelAt p c .sender ≢ n → A) → A
+at-ends p n c h f g k = elim (ℕ-discrete (channelAt p c .receiver) n) [ yes q ↦ f (h, q) | no d ↦ elim (ℕ-discrete (channelAt p c .sender) n) [ yes q ↦ g (h, q) | no e ↦ k d e ] ]
 
 module _ {l : Line} {g : Ghost} {cut base : ℕ → ℕ} {fed : List Act} {receipts : List Receipt} {crashes : List ℕ} (inv : Inv l g cut base fed receipts crashes) (n : ℕ) where
   pub sender-other : (b : ℕ) → Enters (l .plan) n b → channelAt (l .plan) b .sender ≢ n

@@ -19,6 +19,7 @@ use Rattle.rules.proofs.LineLaws.{lane-else}
 use Rattle.rules.proofs.Ghost.{Event, tookAt, Ghost, takesMessage, put, got, logPut}
 use Rattle.rules.proofs.Passing.{passing}
 use Rattle.rules.proofs.Inv.{timeOf, isUp, Leaves, Enters, Reached, targetFrom, Marks, Nodes, Shape, Channels, Events, Ends, Row, Replays}
+use Rattle.rules.proofs.MarkedLaws.{at-ends}
 use Rattle.rules.proofs.Grow.{sender-same, sender-receiving}
 
 -- A line with the plan of another.
@@ -103,23 +104,16 @@ module _ (l : Line) (steps : ℕ) (nodes : List Node) (lanes : List Lane) where
     -- One node and its channels change; the others are as they were.
     module _ (n : ℕ) (node-other : (m : ℕ) → m ≢ n → nodeAt k m ≡ nodeAt l m) (lane-other : (c : ℕ) → channelAt (l .plan) c .receiver ≢ n → channelAt (l .plan) c .sender ≢ n → laneAt k c ≡ laneAt l c)
         (got-other : (c : ℕ) → channelAt (l .plan) c .receiver ≢ n → got (l .plan) g′ c ≡ got (l .plan) g c) (c : ℕ) (h : c < channelCount (l .plan)) where
-      at-ends : {A : Type 0} → (Enters (l .plan) n c → A) → (Leaves (l .plan) n c → A) → (channelAt (l .plan) c .receiver ≢ n → channelAt (l .plan) c .sender ≢ n → A) → A
-      at-ends enters leaves else =
-          elim (ℕ-discrete (channelAt (l .plan) c .receiver) n) [
-            | yes q ↦ enters (h, q)
-            | no d ↦ elim (ℕ-discrete (channelAt (l .plan) c .sender) n) [ yes q ↦ leaves (h, q) | no e ↦ else d e ]
-          ]
-
       pub channels-beside : (cut cut′ : ℕ → ℕ) → (channelAt (l .plan) c .receiver ≢ n → cut′ c ≡ cut c) → (channelAt (l .plan) c .sender ≢ n → put (l .plan) g′ c ≡ put (l .plan) g c)
           → (Enters (l .plan) n c → Channels k g′ cut′ c) → (Leaves (l .plan) n c → Channels k g′ cut′ c) → Channels l g cut c → Channels k g′ cut′ c
       channels-beside cut cut′ cuts puts enters leaves was =
-          at-ends enters leaves (λ d e.
+          at-ends (l .plan) n c h enters leaves (λ d e.
           (let sender = node-other (channelAt (l .plan) c .sender) e in
           channel-stays c (ap (λ (x : Node). x .status) sender) (ap (λ (x : Node). x .status) (node-other (channelAt (l .plan) c .receiver) d)) (lane-other c d e) (got-other c d) (λ _. sender) cut cut′ (puts e) (cuts d) was))
 
       pub ends-beside : (Enters (l .plan) n c → Ends k g′ c) → (Leaves (l .plan) n c → Ends k g′ c) → Ends l g c → Ends k g′ c
       ends-beside enters leaves was =
-          at-ends enters leaves (λ d e.
+          at-ends (l .plan) n c h enters leaves (λ d e.
           (let receiver = node-other (channelAt (l .plan) c .receiver) d in
           ends-stay c (ap (λ (x : Node). x .status) (node-other (channelAt (l .plan) c .sender) e)) (ap (λ (x : Node). x .status) receiver) (lane-other c d e) (got-other c d) (ap (λ (x : Node). x .crashed) receiver) was))
 
