@@ -1,20 +1,22 @@
--- What the acceptance of a frame says, for each kind what its step takes.
+-- What an accepted frame says of the line: for each kind of frame, what its step goes by.
 use Prim.Native.Nat.{ℕ, suc, _<_}
 use mathlib.Core.Path.{_≡_, refl, sym, ap, _∙_}
 use mathlib.Core.Logic.{_≢_}
 use mathlib.Core.Bool.{Bool, true, false, _&&_, true≢false}
 use mathlib.Core.List.{List, [], _∷_}
-use mathlib.Core.Option.{Option, none, some}
+use mathlib.Core.Option.{some}
 use native.Mathlib.Omega.{arith}
 use borrow.Author.Tests.{leb-false, eq-eqb, ne-eqb, not-false}
 use Rattle.basics.specs.Bools.{neither-true}
 use Rattle.plan.specs.Plan.{nodeCount, channelCount, channelAt, isSource, isSink, entering, leaving}
-use Rattle.rules.specs.Lists.{anyOf, isEmpty}
+use Rattle.rules.specs.Lists.{anyOf}
 use Rattle.rules.specs.Line.{stepLimit, Message, Entry, Status, up, down, replay, Line, nodeAt, laneAt, isDown, isReplay}
 use Rattle.rules.specs.Frame.{Frame, feed, send, take, crash, recover, frameOf, badFrameLength, badFrameVersion, badKind}
 use Rattle.rules.specs.Recover.{rowGoal, rowComplete}
-use Rattle.rules.specs.Step.{noStepsLeft, noSuch, wrongNode, nodeDown, endDown, wrongStatus, neighbourCrashed, besideCrashed, badRecord, sendable, isNothing, nothingThere, queueFull, rowDone, noSpace, effect, noPlacing, lineRefusal, refusal, accepted, step}
-use Rattle.rules.proofs.Members.{In, here, there}
+use Rattle.rules.specs.Step.{noStepsLeft, noSuch, wrongNode, nodeDown, endDown, wrongStatus, neighbourCrashed, besideCrashed, badRecord, sendable, nothingThere, queueFull, rowDone, noSpace, effect, noPlacing, lineRefusal, refusal, accepted, step}
+use Rattle.rules.proofs.ListLaws.{some-first}
+use Rattle.rules.proofs.Members.{none-any}
+use Rattle.rules.proofs.Options.{something-there}
 use Rattle.rules.proofs.Inv.{Enters, Leaves}
 use Rattle.rules.proofs.Joins.{in-entering, in-leaving}
 
@@ -47,10 +49,6 @@ pub record Passed (l : Line) (f : Frame) : Type 0 where
   pub next : Line
   pub leads : effect l f ≡ some next
 
-something-there : {A : Type 0} (x : Option A) → isNothing x ≡ false → (y : A) × (x ≡ some y)
-something-there none e = absurd (true≢false e)
-something-there (some y) e = (y, refl)
-
 pub passed : (l : Line) (f : Frame) → lineRefusal l f ≡ 0 → Passed l f
 unfolding lineRefusal noStepsLeft noPlacing
 passed l f e =
@@ -74,10 +72,6 @@ passed l f e =
       leads = q;
     }
 
-none-any : {A : Type 0} (f : A → Bool) {x : A} {xs : List A} → anyOf f xs ≡ false → In x xs → f x ≡ false
-none-any f {x = x} e (here {xs = xs}) = neither-true (f x) (anyOf f xs) e .0
-none-any f e (there {y = y} {xs = xs} i) = none-any f (neither-true (f y) (anyOf f xs) e .1) i
-
 not-down : (s : Status) → isDown s ≡ false → s ≢ down
 not-down s e q = true≢false (sym (ap isDown q) ∙ e)
 
@@ -85,10 +79,6 @@ is-down : (s : Status) → isDown s ≡ true → s ≡ down
 is-down up e = absurd (true≢false (sym e))
 is-down down e = refl
 is-down replay e = absurd (true≢false (sym e))
-
-some-message : (q : List Message) → isEmpty q ≡ false → (m : Message) × (rest : List Message) × (q ≡ m ∷ rest)
-some-message [] e = absurd (true≢false e)
-some-message (m ∷ rest) e = (m, rest, refl)
 
 -- Both ends of a channel are not down.
 module _ (l : Line) (b : ℕ) (e : endDown l b ≡ false) where
@@ -136,7 +126,7 @@ row-below l b e q =
 pub can-take : {l : Line} {b : ℕ} → Passed l (take b) → CanTake l b
 can-take {l} {b} p =
     let (s, r) = ends-apart l b (p .right-status) in
-    let (m, rest, q) = some-message (laneAt l b .queue) (p .something) in
+    let (m, rest, q) = some-first (laneAt l b .queue) (p .something) in
     record { here = leb-false (channelCount (l .plan)) b (p .is-there); sender = s; receiver = r; message = m; rest = rest; first = q; below-goal = row-below l b (p .row-open) }
 
 pub record CanCrash (l : Line) (n : ℕ) : Type 0 where

@@ -28,9 +28,9 @@ module _ (p : Plan) (g : Ghost) (b : ℕ) where
 
 -- Got from a channel: the messages that its receiver took from it.
 module _ (b : ℕ) where
-  took-got : {m : Message} {t : ℕ} {es : List Event} → In (tookAt b m t) es → In m (gotOf b es)
-  took-got {m = m} (here {xs = es}) = rw (eq-eqb b b refl) here
-  took-got (there {y = e} i) = in-right (gotOne b e) (took-got i)
+  pub in-got-of : {m : Message} {t : ℕ} {es : List Event} → In (tookAt b m t) es → In m (gotOf b es)
+  in-got-of {m = m} (here {xs = es}) = rw (eq-eqb b b refl) here
+  in-got-of (there {y = e} i) = in-right (gotOne b e) (in-got-of i)
 
   one-took : (e : Event) {m : Message} → In m (gotOne b e) → (t : ℕ) × (e ≡ tookAt b m t)
   one-took (fedAt r t) i = absurd (in-none i)
@@ -40,22 +40,22 @@ module _ (b : ℕ) where
       one true q j = elim (in-first j) [ inl s ↦ (t, λ k. tookAt (eqb-true c b q k) (sym s k) t) | inr k ↦ absurd (in-none k) ]
       one false q j = absurd (in-none j)
 
-  got-took : (es : List Event) {m : Message} → In m (gotOf b es) → (t : ℕ) × In (tookAt b m t) es
-  got-took [] i = absurd (in-none i)
-  got-took (e ∷ es) i =
+  pub got-of-in : (es : List Event) {m : Message} → In m (gotOf b es) → (t : ℕ) × In (tookAt b m t) es
+  got-of-in [] i = absurd (in-none i)
+  got-of-in (e ∷ es) i =
       elim (append-in (gotOne b e) i) [
         | inl j ↦ (let (t, q) = one-took e j in (t, subst (λ (x : Event). In x (e ∷ es)) q here))
-        | inr j ↦ (let (t, k) = got-took es j in (t, there k))
+        | inr j ↦ (let (t, k) = got-of-in es j in (t, there k))
       ]
 
 module _ (p : Plan) (g : Ghost) (b : ℕ) where
   pub in-got : (m : Message) (t : ℕ) → In (tookAt b m t) (g (channelAt p b .receiver)) → In m (got p g b)
   unfolding got
-  in-got m t i = took-got b i
+  in-got m t i = in-got-of b i
 
   pub got-in : (m : Message) → In m (got p g b) → (t : ℕ) × In (tookAt b m t) (g (channelAt p b .receiver))
   unfolding got
-  got-in m i = got-took b (g (channelAt p b .receiver)) i
+  got-in m i = got-of-in b (g (channelAt p b .receiver)) i
 
 -- An event of a node whose inputs were all taken was taken from a channel that enters the node.
 pub record TookFrom (p : Plan) (n : ℕ) (e : Event) : Type 0 where
@@ -70,12 +70,3 @@ pub taken-event : (p : Plan) (n : ℕ) (es : List Event) {e : Event} → Taken p
 taken-event p n [] k i = absurd (in-none i)
 taken-event p n (tookAt b m t ∷ es) (more h q s k) here = record { channel = b; message = m; time = t; is = refl; on-plan = h; enters = q }
 taken-event p n (tookAt b m t ∷ es) (more h q s k) (there i) = taken-event p n es k i
-
-pub took-enters : (p : Plan) (n : ℕ) (es : List Event) {b : ℕ} {m : Message} {t : ℕ} → Taken p n (map inputOf es) → In (tookAt b m t) es → (b < channelCount p) × (channelAt p b .receiver ≡ n)
-took-enters p n es k i =
-    let from = taken-event p n es k i in
-    let same = channel-same (from .is) in
-    (rw same (from .on-plan), rw same (from .enters))
-  where
-    channel-same : {b c : ℕ} {m x : Message} {t s : ℕ} → tookAt b m t ≡ tookAt c x s → b ≡ c
-    channel-same e = cc

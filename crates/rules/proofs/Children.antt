@@ -10,8 +10,7 @@ use lib.Dec.{leb, eqb}
 use borrow.Author.Tests.{eq-eqb, eqb-true, le-leb, leb-true}
 use Rattle.basics.specs.Bools.{both-true}
 use Rattle.plan.specs.Rule.{applied}
-use Rattle.plan.specs.Channel.{takes}
-use Rattle.plan.specs.Plan.{Plan, ruleAt, channelAt, channelCount}
+use Rattle.plan.specs.Plan.{ruleAt, channelAt, channelCount}
 use Rattle.rules.specs.Lists.{keep, greatestOf}
 use Rattle.rules.specs.Line.{made, Message, Entry, Target, Line, nodeAt, laneAt}
 use Rattle.rules.specs.Recover.{lowOf, childTriples, restored, targetsOf}
@@ -21,8 +20,9 @@ use Rattle.rules.proofs.Members.{In, in-none, in-keep, keep-in, in-map,
 use Rattle.rules.proofs.Witness.{Taken}
 use Rattle.rules.proofs.Ghost.{Event, tookAt, Ghost, inputOf, entryOf, sentOf, takesMessage, put, got}
 use Rattle.rules.proofs.Inv.{timeOf, Ordered, targetFrom, Reached}
-use Rattle.rules.proofs.Joins.{passed-takes, takes-passed}
-use Rattle.rules.proofs.Carried.{in-put, put-in, in-got, got-in, taken-event, took-enters}
+use Rattle.rules.proofs.InvLaws.{took-enters, reached-goes}
+use Rattle.rules.proofs.Joins.{passed-takes}
+use Rattle.rules.proofs.Carried.{in-put, put-in, in-got, got-in, taken-event}
 use Rattle.rules.proofs.Targets.{in-triples-at, triples-at-in, low-below, targets-of}
 
 -- The child at channel c's end: it took all its events and logged them, and its entry is the greatest time that it got.
@@ -151,13 +151,13 @@ module _ (l : Line) (g : Ghost) (n : ℕ) (ordered : Ordered (l .plan)) (own : T
             let (k, e) = keep-in (restoring a) (childTriples l n) j in
             let (parent, upto) = both-true (eqb (u .parent) a) (leb (u .time) (lowOf l n)) e in
             let (d, m, t, event, is, r) = triples-from u k in
-            let (on-plan, into) = took-enters (l .plan) n (g n) own event in
+            let (on-plan, into) = took-enters (g n) d m t own event in
             let row : d ≡ b = ordered .alone d b on-plan h (sym (ap (λ (v : Target). v .parent) is) ∙ eqb-true (u .parent) a parent) (into ∙ sym enters) in
             inr (
               m,
               t,
               subst (λ (c : ℕ). In (tookAt c m t) (g n)) row event,
-              takes-passed (l .plan) n (applied (ruleAt (l .plan) n) (m .what)) (r .channel) (r .on-plan) (r .leaves) (r .takes-it),
+              reached-goes r,
               subst (λ (x : ℕ). x ≤ lowOf l n) (ap (λ (v : Target). v .time) is) (leb-true (u .time) (lowOf l n) upto),
               sym (ap (λ (v : Target). v .parentTime) is) ∙ sym q,
             ))

@@ -1,24 +1,20 @@
--- From the invariant to a run of the plain line: what the never crashed nodes received, and rest where the line is quiet.
-use Prim.Native.Nat.{ℕ, zero, suc, _+_, _<_, _≤_}
-use mathlib.Core.Path.{_≡_, refl, sym, ap, subst, _∙_}
-use mathlib.Core.Logic.{_≢_}
-use mathlib.Core.Bool.{Bool, true, false, cond, _&&_}
-use mathlib.Core.List.{List, [], _∷_, _++_, map}
-use native.Mathlib.Omega.{arith}
-use lib.ListN.{length, getD}
-use lib.Dec.{eqb, ltb, leb}
+-- From the invariant to one run of the plain line, which gives every node that never crashed what it received.
+use Prim.Native.Nat.{ℕ, _<_, _≤_}
+use mathlib.Core.Path.{_≡_, refl, sym, ap, _∙_}
+use mathlib.Core.Bool.{Bool, true, false, cond}
+use mathlib.Core.List.{List, [], _++_, map}
+use lib.ListN.{getD}
 use Rattle.plan.specs.declared.Record.{Record}
-use Rattle.plan.specs.Plan.{Plan, channelAt, nodeCount, channelCount, isSource}
-use Rattle.rules.specs.Lists.{keep}
-use Rattle.rules.specs.Line.{Message, Line, nodeAt, laneAt}
-use Rattle.rules.specs.Plain.{Act, Receipt, PlainLine, plainRun, runFeeds, atRest}
+use Rattle.plan.specs.Plan.{nodeCount, channelCount, isSource}
+use Rattle.rules.specs.Line.{Message, Line, nodeAt}
+use Rattle.rules.specs.Plain.{Act, Receipt, plainRun, runFeeds}
 use Rattle.rules.specs.Claim.{receivedBy}
-use Rattle.rules.proofs.ListLaws.{keep-append, map-append, append-cancel, nil-right}
-use Rattle.rules.proofs.Rising.{until, past, Rises, cut-at}
-use Rattle.rules.proofs.PlainRun.{Input, History, ins, outs, receiptsIn, Follows}
+use Rattle.rules.proofs.ListLaws.{map-append, append-cancel, nil-right}
+use Rattle.rules.proofs.Rising.{past, cut-at}
+use Rattle.rules.proofs.PlainRun.{Input, ins, Follows}
 use Rattle.rules.proofs.Witness.{Taken, none, Prefixed, HistoryOf, fedOnto, noInputs, history-is-run}
 use Rattle.rules.proofs.Ghost.{Ghost, inputOf, put, got, whatOf, historyOf, outs-put, ins-got}
-use Rattle.rules.proofs.Inv.{timeOf, Marks, Nodes, Channels}
+use Rattle.rules.proofs.Inv.{timeOf, Nodes, Channels}
 
 module _ (l : Line) (g : Ghost) (cut : ℕ → ℕ) (fed : List Act) (receipts : List Receipt) (crashes : List ℕ)
     (nodes : Nodes l g fed receipts) (channels : (b : ℕ) → b < channelCount (l .plan) → Channels l g cut b) where

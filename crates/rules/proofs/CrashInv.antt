@@ -1,32 +1,30 @@
--- Crash keeps the invariant: histories do not move, and the logs of the neighbours, which never crashed, hold all that was put on.
-use Prim.Native.Nat.{ℕ, zero, suc, max, _+_, _<_, _≤_}
+-- Crash keeps the invariant: histories do not move, and what the node and its channels held is gone.
+use Prim.Native.Nat.{ℕ, _<_}
 use mathlib.Core.Path.{_≡_, refl, sym, ap, subst, _∙_}
 use mathlib.Core.Logic.{_≢_, _⊎_, inl, inr}
-use mathlib.Core.Bool.{Bool, true, false, true≢false}
-use mathlib.Core.List.{List, [], _∷_, _++_, map}
+use mathlib.Core.Bool.{true, false, true≢false}
+use mathlib.Core.List.{List, [], _∷_, _++_}
 use native.Mathlib.Omega.{arith}
 use native.Mathlib.Decide.{ℕ-discrete}
 use lib.ListN.{length, length-set}
 use lib.Dec.{eqb}
-use borrow.Author.Tests.{eq-eqb, ne-eqb}
-use Rattle.plan.specs.Plan.{Plan, channelAt, nodeCount, channelCount, isSource, isSink, entering, leaving}
+use borrow.Author.Tests.{eq-eqb}
+use Rattle.plan.specs.Plan.{channelAt, nodeCount, isSource, isSink}
 use Rattle.basics.specs.Bools.{neither-true}
-use Rattle.rules.specs.Lists.{keep, anyOf}
-use Rattle.rules.specs.Line.{Message, Entry, Status, up, down, replay, Node, Lane, Line, nodeAt, laneAt, withNode, withLane, withLanes, freshLane}
-use Rattle.rules.specs.Clock.{messageOf}
+use Rattle.rules.specs.Line.{up, down, replay, Node, Lane, Line, nodeAt, laneAt, withNode, freshLane}
 use Rattle.rules.specs.Step.{crashedLine}
 use Rattle.rules.specs.Plain.{Act, Receipt}
-use Rattle.rules.proofs.Rising.{until, past, Within}
+use Rattle.rules.proofs.Rising.{Within}
 use Rattle.rules.proofs.LineLaws.{node-there, node-else}
-use Rattle.rules.proofs.Ghost.{Ghost, Event, entryOf, sentOf, takesMessage, put, got, logPut, map-map}
-use Rattle.rules.proofs.Inv.{Inv, Shape, isUp, named, timeOf, Enters, Leaves, Marks, Nodes, SenderUp, Channels, Ends, Replays}
-use Rattle.rules.proofs.InvLaws.{up-not-down, replay-not-down, up-not-replay, if-marked, replay-marked, marked-took, took-enters}
-use Rattle.rules.proofs.MarkedLaws.{at-ends, sender-other, receiver-other}
-use Rattle.rules.proofs.Stays.{moved, channel-stays, ends-stay, events-stay, replays-stay, row-stays}
-use Rattle.rules.proofs.Swept.{swept, swept-line, swept-long, swept-enters, swept-leaves, swept-else}
+use Rattle.rules.proofs.Ghost.{Ghost, put, logPut}
+use Rattle.rules.proofs.Inv.{Inv, Shape, isUp, named, timeOf, Enters, Leaves, Marks, Channels, Ends, Replays}
+use Rattle.rules.proofs.InvLaws.{up-not-down, replay-not-down, replay-marked, ends-up}
+use Rattle.rules.proofs.MarkedLaws.{sender-other, receiver-other}
+use Rattle.rules.proofs.Stays.{moved, unmarked-other, nodes-stay, channels-beside, ends-beside, events-stay, replays-stay}
+use Rattle.rules.proofs.Swept.{swept-line, swept-long, swept-enters, swept-leaves, swept-else}
 
 -- Names joined to a list.
-pub named-left : (n : ℕ) (ns ms : List ℕ) → named n (ns ++ ms) ≡ false → (named n ns ≡ false) × (named n ms ≡ false)
+named-left : (n : ℕ) (ns ms : List ℕ) → named n (ns ++ ms) ≡ false → (named n ns ≡ false) × (named n ms ≡ false)
 named-left n [] ms e = (refl, e)
 named-left n (k ∷ ns) ms e = let (a, b) = neither-true (eqb n k) (named n (ns ++ ms)) e in let (c, d) = named-left n ns ms b in (rw a c, d)
 
@@ -118,17 +116,6 @@ module _ (l : Line) (g : Ghost) (cut base : ℕ → ℕ) (fed : List Act) (recei
         sender-up = λ e. absurd (down-not-up (ap (λ (x : ℕ). nodeAt after x .status) (sym q) ∙ e));
       }
 
-  ends-enters : (c : ℕ) → Enters (l .plan) n c → Ends after g c
-  unfolding freshLane
-  ends-enters c (h, q) =
-      let node = node-other (channelAt (l .plan) c .sender) (sender-other inv n c (h, q)) in
-      let alive : isUp after (channelAt (l .plan) c .sender) = ap (λ (x : Node). x .status) node ∙ parent-up c (h, q) in
-      record {
-        exact = λ e. absurd (true≢false (sym (ap (λ (x : ℕ). nodeAt after x .crashed) q ∙ ap (λ (x : Node). x .crashed) node-now) ∙ e));
-        stopped = λ e. absurd (e alive);
-        waiting = λ e. absurd (up-not-replay (sym alive ∙ e));
-      }
-
   ends-leaves : (c : ℕ) → Leaves (l .plan) n c → Ends after g c
   ends-leaves c (h, q) =
       let lane = lane-leaves c (h, q) in
@@ -142,6 +129,15 @@ module _ (l : Line) (g : Ghost) (cut base : ℕ → ℕ) (fed : List Act) (recei
 
   marked-now : (m : ℕ) → nodeAt after m .crashed ≡ true → ((m ≢ n) × (nodeAt l m .crashed ≡ true)) ⊎ (m ≡ n)
   marked-now m e = elim (ℕ-discrete m n) [ yes q ↦ inr q | no d ↦ inl (d, ap (λ (x : Node). x .crashed) (sym (node-other m d)) ∙ e) ]
+
+  other-unmarked : (m : ℕ) → nodeAt after m .crashed ≡ false → m ≢ n
+  other-unmarked = unmarked-other l (l .steps) (stopped .nodes) lanes n (ap (λ (x : Node). x .crashed) node-now) node-other
+
+  unmarked-old : (m : ℕ) → nodeAt after m .crashed ≡ false → nodeAt after m ≡ nodeAt l m
+  unmarked-old m e = node-other m (other-unmarked m e)
+
+  ends-enters : (c : ℕ) → Enters (l .plan) n c → Ends after g c
+  ends-enters c (h, q) = ends-up (ap (λ (x : Node). x .status) (node-other (channelAt (l .plan) c .sender) (sender-other inv n c (h, q))) ∙ parent-up c (h, q)) (λ e. absurd (other-unmarked (channelAt (l .plan) c .receiver) e q))
 
   crash-marks : Marks after (crashes ++ n ∷ [])
   crash-marks =
@@ -157,24 +153,7 @@ module _ (l : Line) (g : Ghost) (cut base : ℕ → ℕ) (fed : List Act) (recei
           | inr q ↦ (ap (isSource (l .plan)) q ∙ no-source, ap (isSink (l .plan)) q ∙ no-sink)
           | inl old ↦ inv .marks .between m (old .1)
         ];
-        stopped = λ m e.
-            (let d : m ≢ n = λ q. true≢false (sym (ap (λ (x : ℕ). nodeAt after x .crashed) q ∙ ap (λ (x : Node). x .crashed) node-now) ∙ e) in
-            ap (λ (x : Node). x .status) (node-other m d) ∙ inv .marks .stopped m (ap (λ (x : Node). x .crashed) (sym (node-other m d)) ∙ e));
-      }
-
-  unmarked-old : (m : ℕ) → nodeAt after m .crashed ≡ false → nodeAt after m ≡ nodeAt l m
-  unmarked-old m e = node-other m (λ q. true≢false (sym (ap (λ (x : ℕ). nodeAt after x .crashed) q ∙ ap (λ (x : Node). x .crashed) node-now) ∙ e))
-
-  crash-nodes : Nodes after g fed receipts
-  crash-nodes =
-      let old = inv .nodes in
-      record {
-        only-feeds = old .only-feeds;
-        sources = old .sources;
-        others = old .others;
-        beyond = old .beyond;
-        received = λ m e. old .received m (ap (λ (x : Node). x .crashed) (sym (unmarked-old m e)) ∙ e);
-        logged = λ m e. ap (λ (x : Node). x .log) (unmarked-old m e) ∙ old .logged m (ap (λ (x : Node). x .crashed) (sym (unmarked-old m e)) ∙ e);
+        stopped = λ m e. ap (λ (x : Node). x .status) (unmarked-old m e) ∙ inv .marks .stopped m (ap (λ (x : Node). x .crashed) (sym (unmarked-old m e)) ∙ e);
       }
 
   -- A replaying node is not joined to the crashed one.
@@ -188,9 +167,7 @@ module _ (l : Line) (g : Ghost) (cut base : ℕ → ℕ) (fed : List Act) (recei
       λ c h. lane-other c (λ q. d (sym (h .1) ∙ q)) (λ q. true≢false (sym (ap (λ (x : ℕ). nodeAt l x .crashed) (h .1) ∙ mark) ∙ children c (h .0, q))) in
       let out : (c : ℕ) → Leaves (l .plan) m c → laneAt after c ≡ laneAt l c =
       λ c h. lane-other c (λ q. true≢false (sym (ap (λ (x : ℕ). nodeAt l x .crashed) (h .1) ∙ mark) ∙ parents c (h .0, q))) (λ q. d (sym (h .1) ∙ q)) in
-      replays-stay l (l .steps) (stopped .nodes) lanes g g m same refl (λ c h. ap (λ (x : Lane). x .taken) (out c h)) cut cut base base
-      (λ c h row. row-stays l (l .steps) (stopped .nodes) lanes g g (cut c) (cut c) (base c) (base c) m c same (ap (λ (x : Lane). x .taken) (into c h)) (omega arith) refl refl row) (λ c h. refl)
-      (λ c y t i. took-enters (g m) c y t (marked-took (inv .marks) (inv .nodes) m mark) i .1) (inv .replays m old)
+      replays-stay l (l .steps) (stopped .nodes) lanes g g m same refl cut cut base base (λ c h. ap (λ (x : Lane). x .taken) (out c h)) (λ c y t i. refl) (λ c h. (ap (λ (x : Lane). x .taken) (into c h), omega arith, refl, refl)) (inv .replays m old)
 
   crash-shape : Shape after
   unfolding withNode crashedLine
@@ -203,14 +180,9 @@ module _ (l : Line) (g : Ghost) (cut base : ℕ → ℕ) (fed : List Act) (recei
         shape = crash-shape;
         ordered = inv .ordered;
         marks = crash-marks;
-        nodes = crash-nodes;
-        events = λ m. elim (ℕ-discrete m n) [
-          | yes q ↦ record { rise = inv .events m .rise; within = λ e. absurd (down-not-up (ap (λ (x : ℕ). nodeAt after x .status) (sym q) ∙ e)) }
-          | no d ↦ events-stay l (l .steps) (stopped .nodes) lanes g g m (node-other m d) refl (inv .events m)
-        ];
-        channels = λ c h. at-ends (l .plan) n c h (channel-enters c) (channel-leaves c)
-            (λ r s. channel-stays l (l .steps) (stopped .nodes) lanes g g c (node-other (channelAt (l .plan) c .sender) s) (ap (λ (x : Node). x .status) (node-other (channelAt (l .plan) c .receiver) r)) (lane-other c r s) refl cut cut refl refl (inv .channels c h));
-        ends = λ c h. at-ends (l .plan) n c h (ends-enters c) (ends-leaves c)
-            (λ r s. ends-stay l (l .steps) (stopped .nodes) lanes g g c (node-other (channelAt (l .plan) c .sender) s) (ap (λ (x : Node). x .status) (node-other (channelAt (l .plan) c .receiver) r)) (lane-other c r s) refl (ap (λ (x : Node). x .crashed) (node-other (channelAt (l .plan) c .receiver) r)) (inv .ends c h));
+        nodes = nodes-stay l (l .steps) (stopped .nodes) lanes unmarked-old (λ m e. refl) (inv .nodes);
+        events = λ m. events-stay l (l .steps) (stopped .nodes) lanes g g m (λ e. node-other m (λ q. down-not-up (ap (λ (x : ℕ). nodeAt after x .status) (sym q) ∙ e))) refl (inv .events m);
+        channels = λ c h. channels-beside l (l .steps) (stopped .nodes) lanes g g n node-other lane-other (λ x d. refl) c h cut cut (λ d. refl) (λ d. refl) (channel-enters c) (channel-leaves c) (inv .channels c h);
+        ends = λ c h. ends-beside l (l .steps) (stopped .nodes) lanes g g n node-other lane-other (λ x d. refl) c h (ends-enters c) (ends-leaves c) (inv .ends c h);
         replays = crash-replays;
       })

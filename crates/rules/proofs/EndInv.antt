@@ -1,13 +1,13 @@
 -- The end of a replay keeps the invariant, for any columns that keep the placing's rules.
-use Prim.Native.Nat.{ℕ, zero, suc, max, _+_, _<_, _≤_}
+use Prim.Native.Nat.{ℕ, _<_, _≤_}
 use mathlib.Core.Path.{_≡_, refl, sym, ap, subst, _∙_}
-use mathlib.Core.Logic.{_≢_, _⊎_, inl, inr}
-use mathlib.Core.Bool.{Bool, true, false, true≢false, not, _&&_, _||_}
-use mathlib.Core.List.{List, [], _∷_, _++_, map}
+use mathlib.Core.Logic.{_≢_, inl, inr}
+use mathlib.Core.Bool.{Bool, true, false, not, _&&_}
+use mathlib.Core.List.{List, [], map}
 use mathlib.Core.Option.{Option, none, some}
 use native.Mathlib.Omega.{arith}
 use native.Mathlib.Decide.{ℕ-discrete}
-use lib.ListN.{length, length-set}
+use lib.ListN.{length-set}
 use lib.Dec.{eqb, leb, ltb}
 use borrow.Author.Tests.{eq-eqb, eqb-true, leb-true}
 use Rattle.placing.specs.Item.{Item}
@@ -15,62 +15,31 @@ use Rattle.placing.specs.Table.{tableFits}
 use Rattle.placing.specs.Answer.{unplaceable, chosenColumns}
 use Rattle.placing.specs.Rules.{KeepsRules}
 use Rattle.placing.proofs.Promise.{accepted}
-use Rattle.plan.specs.declared.Record.{Record}
 use Rattle.plan.specs.Rule.{applied}
 use Rattle.plan.specs.Channel.{takes}
-use Rattle.plan.specs.Plan.{Plan, ruleAt, channelAt, nodeCount, channelCount, isSink, isNone, entering, leaving}
+use Rattle.plan.specs.Plan.{ruleAt, channelAt, nodeCount, entering}
 use Rattle.plan.specs.Mask.{taking}
 use Rattle.basics.specs.Bools.{both-true}
-use Rattle.rules.specs.Lists.{keep, allOf, anyOf, joined, greatestOf}
-use Rattle.rules.specs.Line.{Message, Entry, Held, Target, Status, up, replay, Node, Lane, Line, nodeAt, laneAt, withNode}
+use Rattle.rules.specs.Lists.{keep, allOf, joined, greatestOf}
+use Rattle.rules.specs.Line.{Message, Held, Target, up, replay, Node, Line, nodeAt, laneAt, withNode}
 use Rattle.rules.specs.Recover.{highOf, rowGoal, rowComplete, rowsComplete}
-use Rattle.rules.specs.Replay.{fixedAt, floorOf, heldByRow, itemsByRow, isHeld, placedLog, placing, nodePlaced, replayEnd, endedIfComplete}
+use Rattle.rules.specs.Replay.{fixedAt, floorOf, heldByRow, itemsByRow, isHeld, placing, nodePlaced, replayEnd, endedIfComplete}
 use Rattle.rules.specs.Plain.{Act, Receipt}
-use Rattle.rules.proofs.Rising.{until, past, Rises}
-use Rattle.rules.proofs.Members.{In, here, there, in-none, in-keep, keep-in, in-map, map-in, in-greatest, greatest-in, rises-once}
+use Rattle.rules.proofs.Rising.{until, past}
+use Rattle.rules.proofs.Members.{In, in-keep, keep-in, in-map, map-in, all-in, any-in, in-greatest, greatest-in, rises-once}
+use Rattle.rules.proofs.Options.{some-same, none-some}
 use Rattle.rules.proofs.LineLaws.{node-there, node-else}
-use Rattle.rules.proofs.Witness.{Taken}
-use Rattle.rules.proofs.Ghost.{Event, fedAt, tookAt, Ghost, eventTime, inputOf, entryOf, put, got, gotOf}
+use Rattle.rules.proofs.Ghost.{Event, tookAt, Ghost, entryOf, put}
 use Rattle.rules.proofs.Passing.{goesOn, heldOf}
-use Rattle.rules.proofs.Selecting.{rises-keep}
-use Rattle.rules.proofs.Kept.{Took, no-takes, took, taken-by, taken-in, in-got, order-kept}
-use Rattle.rules.proofs.Joins.{in-leaving, leaving-in, in-entering, entering-in, in-taking, takes-passed}
+use Rattle.rules.proofs.Kept.{taken-each, order-kept}
+use Rattle.rules.proofs.Joins.{in-entering, entering-in, in-taking, some-leaves}
 use Rattle.rules.proofs.Targets.{high-above}
 use Rattle.rules.proofs.PlacedEvents.{PlacedEvents, placed-events}
-use Rattle.rules.proofs.Inv.{timeOf, Enters, Leaves, Reached, targetFrom, Replays, Channels, Inv}
-use Rattle.rules.proofs.InvLaws.{replay-marked}
+use Rattle.rules.proofs.Inv.{timeOf, Enters, Leaves, Reached, Replays, Inv}
+use Rattle.rules.proofs.InvLaws.{took-enters, reached-goes, replay-marked}
 use Rattle.rules.proofs.MarkedLaws.{own, one-channel, taken-put, got-rises}
-use Rattle.rules.proofs.Stays.{moved}
 use Rattle.rules.proofs.RebuildEvents.{Rebuilding}
-use Rattle.rules.proofs.RebuildInv.{ghostAfter, cutAfter, rebuild-inv}
-
--- A test that all pass, and one that some pass.
-pub all-in : {A : Type 0} (f : A → Bool) {x : A} {xs : List A} → allOf f xs ≡ true → In x xs → f x ≡ true
-all-in f e (here {xs = xs}) = both-true (f _) (allOf f xs) e .0
-all-in f e (there {y = y} {xs = xs} i) = all-in f (both-true (f y) (allOf f xs) e .1) i
-
-pub any-in : {A : Type 0} (f : A → Bool) (xs : List A) → anyOf f xs ≡ true → (x : A) × In x xs × (f x ≡ true)
-any-in f [] e = absurd (true≢false (sym e))
-any-in {A} f (x ∷ xs) e = one (f x) refl e (λ z. any-in f xs z)
-  where
-    one : (t : Bool) → f x ≡ t → (t || anyOf f xs) ≡ true → (anyOf f xs ≡ true → (y : A) × In y xs × (f y ≡ true)) → (y : A) × In y (x ∷ xs) × (f y ≡ true)
-    one true q z ih = (x, here, q)
-    one false q z ih = let (y, i, k) = ih z in (y, there i, k)
-
--- Events that are all takes.
-took-all : (es : List Event) → ((e : Event) → In e es → (b : ℕ) × (m : Message) × (t : ℕ) × (e ≡ tookAt b m t)) → Took es
-took-all [] f = no-takes
-took-all (fedAt r u ∷ es) f = let (b, m, t, e) = f (fedAt r u) here in let z : _≡_ {A = ℕ} 0 1 = cc in let no : ⊥ = omega arith in absurd no
-took-all (tookAt b m t ∷ es) f = took (took-all es (λ e i. f e (there i)))
-
--- A node that is no sink has a leaving channel.
-pub some-leaves : (p : Plan) (n : ℕ) → isSink p n ≡ false → (c : ℕ) × Leaves p n c
-unfolding isSink
-some-leaves p n e = first (leaving p n) (λ c i. leaving-in p n c i) e
-  where
-    first : (cs : List ℕ) → ((c : ℕ) → In c cs → Leaves p n c) → isNone cs ≡ false → (c : ℕ) × Leaves p n c
-    first [] f z = absurd (true≢false z)
-    first (c ∷ cs) f z = (c, f c here)
+use Rattle.rules.proofs.RebuildInv.{rebuild-inv}
 
 module _ (l : Line) (g : Ghost) (cut base : ℕ → ℕ) (fed : List Act) (receipts : List Receipt) (crashes : List ℕ) (inv : Inv l g cut base fed receipts crashes) (n : ℕ) (replaying : nodeAt l n .status ≡ replay)
     (columns : List ℕ) (keeps : KeepsRules (nodeAt l n .time) (highOf l n) (itemsByRow l n 0 (heldByRow (nodeAt l n .held) l (entering (l .plan) n))) columns)
@@ -126,7 +95,7 @@ module _ (l : Line) (g : Ghost) (cut base : ℕ → ℕ) (fed : List Act) (recei
     -- An event past low that has reached a child is a target, is held, and is placed at its time.
     reached-placed : In (tookAt b m t) (g n) → nodeAt l n .time < t → Reached l n m t → In (tookAt b m t) fs
     reached-placed i late reached =
-        let (on, into, _) = taken-in (l .plan) n (g n) (own inv n marked) i in
+        let (on, into) = took-enters (g n) b m t (own inv n marked) i in
         let h : Enters (l .plan) n b = (on, into) in
         let A = channelAt (l .plan) b .sender in
         let ts = nodeAt l n .targets in
@@ -140,7 +109,7 @@ module _ (l : Line) (g : Ghost) (cut base : ℕ → ℕ) (fed : List Act) (recei
         let F = fixedAt ts (heldOf (l .plan) n b m) in
         let among : t ≤ F = in-greatest (in-map (λ (z : Target). z .time) (in-keep (λ (z : Target). eqb (z .parent) A && eqb (z .parentTime) (m .time)) target (rw (eq-eqb A A refl, eq-eqb (m .time) (m .time) refl)))) in
         let nonzero : F ≢ 0 = λ z. omega arith in
-        let goes = takes-passed (l .plan) n (applied (ruleAt (l .plan) n) (m .what)) (reached .channel) (reached .on-plan) (reached .leaves) (reached .takes-it) in
+        let goes = reached-goes reached in
         let not-later : F ≤ t = order-kept (l .plan) n (g n) (inv .events n .rise) (got-rises inv n marked b h) (fixed-event b m h put-m nonzero) i goes goes (omega arith) in
         let at : v ≡ t = P .fixed b m v w nonzero ∙ omega arith in
         subst (λ (z : ℕ). In (tookAt b m z) fs) at w
@@ -164,19 +133,15 @@ module _ (l : Line) (g : Ghost) (cut base : ℕ → ℕ) (fed : List Act) (recei
           | no d ↦ subst (λ (z : ℕ). In (tookAt b m z) (g n)) (sym (P .fixed b m t w d)) (fixed-event b m h (row-put b m on) d)
         ]
 
-  enters-took : (c : ℕ) (x : Message) (u : ℕ) → In (tookAt c x u) fs → (c < channelCount (l .plan)) × (channelAt (l .plan) c .receiver ≡ n) × (channelAt (l .plan) c .sender < n)
-  enters-took c x u w =
-      let (b′, m′, t′, e, i, j) = P .took (tookAt c x u) w in
-      let q : b′ ≡ c = cc in
-      let (on, into) = subst (Enters (l .plan) n) q (entering-in (l .plan) n b′ i) in
-      (on, into, omega (arith, into, inv .ordered .forward c on))
-
   rebuilding : Rebuilding l g base n (highOf l n) fs
   unfolding rowsComplete rowComplete
   rebuilding =
       let (c, out) = some-leaves (l .plan) n (inv .marks .between n marked .1) in
       record {
-        took = taken-by (l .plan) n (took-all fs (λ e i. (let (b, m, t, q, _, _) = P .took e i in (b, m, t, q)))) enters-took;
+        took = taken-each (l .plan) n fs λ e i.
+            (let (b, m, t, q, j, _) = P .took e i in
+            let (on, into) = entering-in (l .plan) n b j in
+            (b, m, t, q, on, into, omega (arith, into, inv .ordered .forward b on)));
         rises = P .rises;
         within = P .within;
         got-is = λ b h. P .got-is b (in-entering (l .plan) n b (h .0) (h .1));
@@ -187,36 +152,16 @@ module _ (l : Line) (g : Ghost) (cut base : ℕ → ℕ) (fed : List Act) (recei
         placed-reached = placed-reached;
       }
 
+  abbrev placed : Node
+  placed = nodePlaced l n (joined (heldByRow (nodeAt l n .held) l (entering (l .plan) n))) columns
+
+  node-now : n < nodeCount (l .plan) → nodeAt (withNode n placed l) n ≡ record { status = up; crashed = true; time = highOf l n; log = map (entryOf (l .plan) n) fs; held = []; targets = [] }
+  unfolding nodePlaced
+  node-now inside = node-there n placed l (rw (inv .shape .nodes-long) inside) ∙ (λ i. record { status = up; crashed = marked i; time = highOf l n; log = P .log-is i; held = []; targets = [] })
+
   pub end-inv : n < nodeCount (l .plan) → (g′ : Ghost) × (cut′ : ℕ → ℕ) × Inv (withNode n (nodePlaced l n (joined (heldByRow (nodeAt l n .held) l (entering (l .plan) n))) columns) l) g′ cut′ base fed receipts crashes
-  unfolding withNode nodePlaced
-  end-inv inside = (
-    ghostAfter l g cut base fed receipts crashes inv n inside replaying (highOf l n) fs rebuilding (l .steps) nodes long now other,
-    cutAfter l g cut base fed receipts crashes inv n inside replaying (highOf l n) fs rebuilding (l .steps) nodes long now other,
-    rebuild-inv l g cut base fed receipts crashes inv n inside replaying (highOf l n) fs rebuilding (l .steps) nodes long now other,
-  )
-    where
-      placed : Node
-      placed = nodePlaced l n (joined (heldByRow (nodeAt l n .held) l (entering (l .plan) n))) columns
-
-      nodes : List Node
-      nodes = withNode n (nodePlaced l n (joined (heldByRow (nodeAt l n .held) l (entering (l .plan) n))) columns) l .nodes
-
-      long : length (withNode n (nodePlaced l n (joined (heldByRow (nodeAt l n .held) l (entering (l .plan) n))) columns) l .nodes) ≡ length (l .nodes)
-      long = length-set (l .nodes) n placed
-
-      now : nodeAt (withNode n (nodePlaced l n (joined (heldByRow (nodeAt l n .held) l (entering (l .plan) n))) columns) l) n ≡ record { status = up; crashed = true; time = highOf l n; log = map (entryOf (l .plan) n) fs; held = []; targets = [] }
-      now =
-          node-there n placed l (rw (inv .shape .nodes-long) inside) ∙ ap (λ (x : Bool). record { status = up; crashed = x; time = highOf l n; log = placedLog (joined (heldByRow (nodeAt l n .held) l (entering (l .plan) n))) columns; held = []; targets = [] }) marked
-          ∙ ap (λ (x : List Entry). record { status = up; crashed = true; time = highOf l n; log = x; held = []; targets = [] }) (P .log-is)
-
-      other : (m : ℕ) → m ≢ n → nodeAt (withNode n (nodePlaced l n (joined (heldByRow (nodeAt l n .held) l (entering (l .plan) n))) columns) l) m ≡ nodeAt l m
-      other m d = node-else n placed l m d
-
-pub some-same : {A : Type 0} {x y : A} → some x ≡ some y → x ≡ y
-some-same e = cc
-
-pub none-some : {A B : Type 0} {x : A} → none ≡ some x → B
-none-some e = let z : _≡_ {A = ℕ} 0 1 = cc in let no : ⊥ = omega arith in absurd no
+  unfolding withNode
+  end-inv inside = (_, _, rebuild-inv l g cut base fed receipts crashes inv n inside replaying (highOf l n) fs rebuilding (l .steps) (withNode n placed l .nodes) (length-set (l .nodes) n placed) (node-now inside) (node-else n placed l))
 
 -- The placing's promise: columns that it gives keep the rules.
 placing-keeps : (low high : ℕ) (table : List Item) (columns : List ℕ) → placing low high table ≡ some columns → KeepsRules low high table columns

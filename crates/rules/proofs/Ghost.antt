@@ -1,21 +1,19 @@
 -- The ghost history of an engine's line: each node's events, and for each channel what was put on it and what was got from it.
-use Prim.Native.Nat.{ℕ, zero, suc, _+_, _<_, _≤_}
+use Prim.Native.Nat.{ℕ}
 use mathlib.Core.Path.{_≡_, refl, sym, ap, _∙_}
 use mathlib.Core.Logic.{_≢_}
 use mathlib.Core.Bool.{Bool, true, false}
-use mathlib.Core.List.{List, [], _∷_, _++_, map, append-assoc}
+use mathlib.Core.List.{List, [], _∷_, _++_, map, map-map, append-assoc}
 use Rattle.basics.specs.Update.{changed, changed-there, changed-else}
-use lib.ListN.{length}
 use lib.Dec.{eqb}
 use Rattle.plan.specs.declared.Record.{Record}
-use Rattle.plan.specs.declared.Channel.{Channel}
 use Rattle.plan.specs.Rule.{applied}
 use Rattle.plan.specs.Channel.{takes}
-use Rattle.plan.specs.Plan.{Plan, ruleAt, channelAt, nodeCount}
+use Rattle.plan.specs.Plan.{Plan, ruleAt, channelAt}
 use Rattle.rules.specs.Lists.{keep, keepOne}
 use Rattle.rules.specs.Line.{Origin, fed, made, Message, Entry, Line, nodeAt}
 use Rattle.rules.specs.Clock.{messageOf}
-use Rattle.rules.proofs.ListLaws.{keep-append, map-append, nil-right}
+use Rattle.rules.proofs.ListLaws.{keep-append, keep-map, map-append}
 use Rattle.rules.proofs.PlainRun.{Input, fedIn, tookIn, whatIn, fromChannel, History, ins, outs}
 
 -- An event of a node: a record fed, or a message taken from a channel; and the node's own time for it.
@@ -76,18 +74,6 @@ logPut l b = keep (takesMessage (l .plan) b) (map messageOf (nodeAt l (channelAt
 abbrev pub historyOf : Ghost → History
 historyOf g = λ n. map inputOf (g n)
 
-pub map-map : {A B C : Type 0} (f : A → B) (g : B → C) (xs : List A) → map g (map f xs) ≡ map (λ (x : A). g (f x)) xs
-map-map f g [] = refl
-map-map f g (x ∷ xs) = ap (λ (ys : List _). g (f x) ∷ ys) (map-map f g xs)
-
-keep-one-map : {A B : Type 0} (f : A → B) (b : Bool) (x : A) (xs : List A) (ys : List B) → ys ≡ map f xs → keepOne b (f x) ys ≡ map f (keepOne b x xs)
-keep-one-map f true x xs ys e = ap (λ (zs : List _). f x ∷ zs) e
-keep-one-map f false x xs ys e = e
-
-pub keep-map : {A B : Type 0} (f : A → B) (t : B → Bool) (xs : List A) → keep t (map f xs) ≡ map f (keep (λ (x : A). t (f x)) xs)
-keep-map f t [] = refl
-keep-map f t (x ∷ xs) = keep-one-map f (t (f x)) x (keep (λ (y : _). t (f y)) xs) (keep t (map f xs)) (keep-map f t xs)
-
 abbrev pub whatOf : Message → Record
 whatOf m = m .what
 
@@ -96,7 +82,7 @@ pub outs-put : (p : Plan) (g : Ghost) (b : ℕ) → outs p (historyOf g) b ≡ m
 unfolding outs put
 outs-put p g b =
     let n = channelAt p b .sender in
-    ap (keep (takes (channelAt p b))) (map-map inputOf (λ (i : Input). applied (ruleAt p n) (whatIn i)) (g n) ∙ sym (map-map (sentOf p n) whatOf (g n)))
+    ap (keep (takes (channelAt p b))) (map-map (λ (i : Input). applied (ruleAt p n) (whatIn i)) inputOf (g n) ∙ sym (map-map whatOf (sentOf p n) (g n)))
     ∙ keep-map whatOf (takes (channelAt p b)) (map (sentOf p n) (g n))
 
 ins-got-of : (b : ℕ) (es : List Event) → map whatIn (keep (fromChannel b) (map inputOf es)) ≡ map whatOf (gotOf b es)
@@ -112,16 +98,28 @@ pub ins-got : (p : Plan) (g : Ghost) (b : ℕ) → ins p (historyOf g) b ≡ map
 unfolding ins got
 ins-got p g b = ins-got-of b (g (channelAt p b .receiver))
 
--- One more event at node n.
-got-append : (b : ℕ) (es fs : List Event) → gotOf b (es ++ fs) ≡ gotOf b es ++ gotOf b fs
+pub got-append : (b : ℕ) (es fs : List Event) → gotOf b (es ++ fs) ≡ gotOf b es ++ gotOf b fs
 got-append b [] fs = refl
 got-append b (e ∷ es) fs = ap (λ (x : List Message). gotOne b e ++ x) (got-append b es fs) ∙ sym (append-assoc (gotOne b e) (gotOf b es) (gotOf b fs))
 
+-- A channel whose sender's events are as they were, or its receiver's.
+pub put-same : (p : Plan) (g g′ : Ghost) (b : ℕ) → g′ (channelAt p b .sender) ≡ g (channelAt p b .sender) → put p g′ b ≡ put p g b
+unfolding put
+put-same p g g′ b e = ap (λ (es : List Event). keep (takesMessage p b) (map (sentOf p (channelAt p b .sender)) es)) e
+
+pub got-same : (p : Plan) (g g′ : Ghost) (b : ℕ) → g′ (channelAt p b .receiver) ≡ g (channelAt p b .receiver) → got p g′ b ≡ got p g b
+unfolding got
+got-same p g g′ b e = ap (gotOf b) e
+
+-- One more event at node n.
 abbrev pub later : Ghost → ℕ → Event → Ghost
 later g n e = changed g n (g n ++ e ∷ [])
 
 pub later-there : (g : Ghost) (n m : ℕ) (e : Event) → m ≡ n → later g n e m ≡ g m ++ e ∷ []
 later-there g n m e q = changed-there g n (g n ++ e ∷ []) m q ∙ ap (λ (k : ℕ). g k ++ e ∷ []) (sym q)
+
+pub later-else : (g : Ghost) (n m : ℕ) (e : Event) → m ≢ n → later g n e m ≡ g m
+later-else g n m e d = changed-else g n (g n ++ e ∷ []) m d
 
 module _ (p : Plan) (g : Ghost) (n b : ℕ) (e : Event) where
   pub put-there : channelAt p b .sender ≡ n → put p (later g n e) b ≡ put p g b ++ keepOne (takesMessage p b (sentOf p n e)) (sentOf p n e) []
@@ -134,13 +132,11 @@ module _ (p : Plan) (g : Ghost) (n b : ℕ) (e : Event) where
       ∙ ap (λ (k : ℕ). put p g b ++ keepOne (takesMessage p b (sentOf p k e)) (sentOf p k e) []) q
 
   pub put-else : channelAt p b .sender ≢ n → put p (later g n e) b ≡ put p g b
-  unfolding put
-  put-else d = ap (λ (es : List Event). keep (takesMessage p b) (map (sentOf p (channelAt p b .sender)) es)) (changed-else g n (g n ++ e ∷ []) (channelAt p b .sender) d)
+  put-else d = put-same p g (later g n e) b (later-else g n (channelAt p b .sender) e d)
 
   pub got-there : channelAt p b .receiver ≡ n → got p (later g n e) b ≡ got p g b ++ (gotOne b e ++ [])
   unfolding got
   got-there q = ap (gotOf b) (later-there g n (channelAt p b .receiver) e q) ∙ got-append b (g (channelAt p b .receiver)) (e ∷ [])
 
   pub got-else : channelAt p b .receiver ≢ n → got p (later g n e) b ≡ got p g b
-  unfolding got
-  got-else d = ap (gotOf b) (changed-else g n (g n ++ e ∷ []) (channelAt p b .receiver) d)
+  got-else d = got-same p g (later g n e) b (later-else g n (channelAt p b .receiver) e d)

@@ -1,14 +1,12 @@
--- A node logs one more event: what its leaving channels hold and what the log has for them grow together.
-use Prim.Native.Nat.{ℕ, zero, suc, _+_, _<_, _≤_}
-use mathlib.Core.Path.{_≡_, refl, sym, ap, subst, _∙_}
-use mathlib.Core.Logic.{_≢_}
+-- A channel whose sender is up: its sender logs or sends one more message, or its receiver takes one.
+use Prim.Native.Nat.{ℕ, _<_, _≤_}
+use mathlib.Core.Path.{_≡_, sym, ap, subst, _∙_}
 use mathlib.Core.Bool.{Bool, true, false}
-use mathlib.Core.List.{List, [], _∷_, _++_, map}
+use mathlib.Core.List.{List, [], _∷_, _++_}
 use native.Mathlib.Omega.{arith}
-use lib.ListN.{length}
-use Rattle.rules.specs.Lists.{keep, keepOne}
+use Rattle.rules.specs.Lists.{keepOne}
 use Rattle.rules.specs.Line.{Message, Lane}
-use Rattle.rules.proofs.ListLaws.{keep-append, map-append, nil-right}
+use Rattle.rules.proofs.ListLaws.{keep-append, nil-right}
 use Rattle.rules.proofs.Rising.{until, past, Rises, Within, rises-snoc, within-snoc, within-higher, until-snoc, past-snoc, past-past, rises-past, cut-at, within-until, within-first, until-all, until-none, next-rises, next-until, next-past, within-past}
 use lib.Dec.{leb}
 use Rattle.rules.proofs.Inv.{timeOf, SenderUp}
@@ -33,7 +31,7 @@ pub until-more : (t : Bool) (m : Message) (xs : List Message) (j : ℕ) → j < 
 until-more true m xs j l = until-snoc timeOf xs m l
 until-more false m xs j l = ap (until timeOf j) (nil-right xs)
 
-pub past-more : (t : Bool) (m : Message) (xs : List Message) (j : ℕ) → j < m .time → past timeOf j (xs ++ keepOne t m []) ≡ past timeOf j xs ++ keepOne t m []
+past-more : (t : Bool) (m : Message) (xs : List Message) (j : ℕ) → j < m .time → past timeOf j (xs ++ keepOne t m []) ≡ past timeOf j xs ++ keepOne t m []
 past-more true m xs j l = past-snoc timeOf xs m l
 past-more false m xs j l = ap (past timeOf j) (nil-right xs) ∙ sym (nil-right (past timeOf j xs))
 

@@ -1,39 +1,34 @@
 -- Take, of a node that replays and goes on replaying, keeps the invariant: histories do not move, and the row of the message grows by it.
 use Prim.Native.Nat.{ℕ, max, _<_, _≤_}
 use mathlib.Core.Path.{_≡_, refl, sym, ap, subst, _∙_}
-use mathlib.Core.Logic.{_≢_, inl, inr}
-use mathlib.Core.Bool.{Bool, true, false, true≢false}
+use mathlib.Core.Logic.{_≢_}
+use mathlib.Core.Bool.{Bool, true, false}
 use mathlib.Core.List.{List, [], _∷_, _++_, map}
 use native.Mathlib.Omega.{arith}
 use native.Mathlib.Decide.{ℕ-discrete}
 use lib.ListN.{length, length-set}
-use lib.Dec.{leb, eqb}
-use borrow.Author.Tests.{eq-eqb, ne-eqb, eqb-true}
+use lib.Dec.{eqb}
+use borrow.Author.Tests.{eq-eqb, ne-eqb}
 use Rattle.plan.specs.Plan.{channelAt, channelCount}
 use Rattle.rules.specs.Lists.{keep, keepOne}
-use Rattle.rules.specs.Line.{Message, Held, Target, down, replay, Node, Lane, Line, nodeAt, laneAt, withNode, withLane}
+use Rattle.rules.specs.Line.{Message, Held, down, replay, Node, Lane, Line, nodeAt, laneAt, withNode, withLane}
 use Rattle.rules.specs.Clock.{messageOf}
 use Rattle.rules.specs.Recover.{rowGoal}
 use Rattle.rules.specs.Replay.{holding}
 use Rattle.rules.specs.Plain.{Act, Receipt}
-use Rattle.rules.specs.Claim.{receivedBy}
 use Rattle.rules.proofs.ListLaws.{keep-append, keep-more, keep-none, map-more, nil-right}
 use Rattle.rules.proofs.Rising.{until, past, past-snoc}
-use Rattle.rules.proofs.Members.{In, keep-in, map-in, greatest-in, next-first}
-use Rattle.rules.proofs.LineLaws.{lane-there, lane-else, lanes-long, node-there, node-else}
-use Rattle.rules.proofs.Ghost.{tookAt, Ghost, takesMessage, put, got, logPut}
-use Rattle.rules.proofs.Carried.{in-got}
+use Rattle.rules.proofs.Members.{next-first}
+use Rattle.rules.proofs.LineLaws.{lane-else, lanes-long, node-there, node-else}
+use Rattle.rules.proofs.PlainRun.{receipt-else}
+use Rattle.rules.proofs.Ghost.{Ghost, takesMessage, put, logPut}
 use Rattle.rules.proofs.Passing.{goesOn, heldOf}
-use Rattle.rules.proofs.Inv.{Inv, isUp, timeOf, Enters, Nodes, SenderUp, Channels, Ends, Row, Replays}
-use Rattle.rules.proofs.InvLaws.{up-not-replay, replay-not-down, replay-marked, marked-took, took-enters}
+use Rattle.rules.proofs.Inv.{Inv, isUp, timeOf, Enters, SenderUp, Channels, Ends, Row, Replays}
+use Rattle.rules.proofs.InvLaws.{up-not-replay, replay-not-down, replay-marked, ends-up}
+use Rattle.rules.proofs.MarkedLaws.{goal-message}
 use Rattle.rules.proofs.Grow.{sender-taken, sender-cut, sender-same, sender-receiving}
-use Rattle.rules.proofs.Stays.{moved, marks-stay, channel-stays, events-stay, replays-stay, replays-keep, row-stays}
-use Rattle.rules.proofs.TakeInv.{replay-beside}
-
--- A receipt of another node.
-receipt-else : (receipts : List Receipt) (x : Receipt) (k : ℕ) → k ≢ x .receiver → receivedBy k (receipts ++ x ∷ []) ≡ receivedBy k receipts
-receipt-else receipts x k d =
-    keep-append (λ (r : Receipt). eqb (r .receiver) k) receipts (x ∷ []) ∙ ap (λ (t : Bool). receivedBy k receipts ++ keepOne t x []) (ne-eqb (x .receiver) k (λ q. d (sym q))) ∙ nil-right (receivedBy k receipts)
+use Rattle.rules.proofs.Stays.{moved, everywhere, marks-stay, unmarked-other, nodes-stay, channel-stays, ends-stay, events-stay, replays-stay, replays-keep}
+use Rattle.rules.proofs.TakeInv.{lane-raised, replay-beside}
 
 module _ (l : Line) (g : Ghost) (cut base : ℕ → ℕ) (fed : List Act) (receipts : List Receipt) (crashes : List ℕ) (inv : Inv l g cut base fed receipts crashes)
     (b : ℕ) (here : b < channelCount (l .plan)) (m : Message) (rest : List Message) (heardOf : List ℕ) (first : laneAt l b .queue ≡ m ∷ rest) (sender : isUp l (channelAt (l .plan) b .sender))
@@ -74,31 +69,16 @@ module _ (l : Line) (g : Ghost) (cut base : ℕ → ℕ) (fed : List Act) (recei
   next = sender-taken m rest heardOf (λ q. replay-not-down (sym replaying ∙ q)) (inv .channels b here .rises) first refl (sender-cut (sent .taken-within) sent)
 
   lane-now : laneAt beside b ≡ record { mark = laneAt l b .mark; taken = m .time; heard = heardOf; queue = rest }
-  lane-now = lane-there b taken l (rw (inv .shape .lanes-long) here) ∙ (λ i. record { mark = laneAt l b .mark; taken = greater (next .2) i; heard = heardOf; queue = rest })
-    where
-      greater : laneAt l b .taken < m .time → max (laneAt l b .taken) (m .time) ≡ m .time
-      greater h = omega arith
+  lane-now = lane-raised l g cut base fed receipts crashes inv b here m rest heardOf first sender (next .2)
 
   entry-now : laneAt beside b .taken ≡ m .time
   entry-now = ap (λ (x : Lane). x .taken) lane-now
 
-  -- The message lies within the row's goal, which is the time of a message that the node got.
+  -- The message lies within the row's goal, which is the time of a message put on the channel.
   to-goal : m .time ≤ rowGoal (nodeAt l n .targets) (channelAt (l .plan) b .sender)
   to-goal =
-      elim (greatest-in (map (λ (u : Target). u .parentTime) (keep (λ (u : Target). eqb (u .parent) (channelAt (l .plan) b .sender)) (nodeAt l n .targets)))) [
-        | inl q ↦ (let no : ⊥ = omega arith in absurd no)
-        | inr i ↦
-            (let (u, j, goal) = map-in (λ (u : Target). u .parentTime) (keep (λ (u : Target). eqb (u .parent) (channelAt (l .plan) b .sender)) (nodeAt l n .targets)) i in
-            let (k, parent) = keep-in (λ (u : Target). eqb (u .parent) (channelAt (l .plan) b .sender)) (nodeAt l n .targets) j in
-            let (c, y, t, took, is, late, reached) = old .target-from u k in
-            let (h, into) = took-enters (g n) c y t (marked-took (inv .marks) (inv .nodes) n marked) took in
-            let same : c ≡ b = inv .ordered .alone c b h here (sym (ap (λ (x : Target). x .parent) is) ∙ eqb-true (u .parent) (channelAt (l .plan) b .sender) parent) into in
-            let time : u .parentTime ≡ y .time = ap (λ (x : Target). x .parentTime) is in
-            let gotten : In y (got (l .plan) g b) = in-got (l .plan) g b y t (subst (λ (x : ℕ). In (tookAt x y t) (g n)) same took) in
-            let there = keep-in (λ (x : Message). leb (x .time) (cut b)) puts (subst (λ (x : List Message). In y x) (inv .channels b here .cut-is) gotten) .0 in
-            let after = next-first timeOf (next .1) there (omega arith) in
-            omega arith)
-      ]
+      let (y, on, _, time) = goal-message inv n replaying b (here, refl) (λ q. omega arith) in
+      omega (arith, next-first timeOf (next .1) on (omega (arith, time)), time)
 
   -- What goes on of the row's messages.
   row-more : keep (goesOn (l .plan) n) (past timeOf (base b) (until timeOf (m .time) puts)) ≡ keep (goesOn (l .plan) n) (past timeOf (base b) (until timeOf (laneAt l b .taken) puts)) ++ keepOne (goesOn (l .plan) n m) m []
@@ -119,53 +99,17 @@ module _ (l : Line) (g : Ghost) (cut base : ℕ → ℕ) (fed : List Act) (recei
     abbrev after : Line
     after = lineOf nodes
 
-    everywhere : {A : Type 0} (f : Node → A) → f (nodeAt after n) ≡ f (nodeAt l n) → (k : ℕ) → f (nodeAt after k) ≡ f (nodeAt l k)
-    everywhere f e k = elim (ℕ-discrete k n) [ yes q ↦ ap (λ (x : ℕ). f (nodeAt after x)) q ∙ e ∙ ap (λ (x : ℕ). f (nodeAt l x)) (sym q) | no d ↦ ap f (others k d) ]
-
     statuses : (k : ℕ) → nodeAt after k .status ≡ nodeAt l k .status
-    statuses = everywhere (λ (x : Node). x .status) status
+    statuses = everywhere l (l .steps) nodes (beside .lanes) n others (λ (x : Node). x .status) status
 
     marks : (k : ℕ) → nodeAt after k .crashed ≡ nodeAt l k .crashed
-    marks = everywhere (λ (x : Node). x .crashed) mark
+    marks = everywhere l (l .steps) nodes (beside .lanes) n others (λ (x : Node). x .crashed) mark
 
     up-other : (k : ℕ) → isUp after k → nodeAt after k ≡ nodeAt l k
     up-other k e = others k (λ q. up-not-replay (sym e ∙ ap (λ (x : ℕ). nodeAt after x .status) q ∙ status ∙ replaying))
 
-    unmarked-other : (k : ℕ) → nodeAt after k .crashed ≡ false → k ≢ n
-    unmarked-other k e q = true≢false (sym marked ∙ sym mark ∙ ap (λ (x : ℕ). nodeAt after x .crashed) (sym q) ∙ e)
-
-    after-nodes : Nodes after g fed (receipts ++ receipt ∷ [])
-    after-nodes =
-        let was = inv .nodes in
-        record {
-          only-feeds = was .only-feeds;
-          sources = was .sources;
-          others = was .others;
-          beyond = was .beyond;
-          received = λ k e. receipt-else receipts receipt k (unmarked-other k e) ∙ was .received k (sym (marks k) ∙ e);
-          logged = λ k e. ap (λ (x : Node). x .log) (others k (unmarked-other k e)) ∙ was .logged k (sym (marks k) ∙ e);
-        }
-
-    channel-other : (c : ℕ) → c ≢ b → Channels l g cut c → Channels after g cut c
-    channel-other c d k =
-        record {
-          rises = k .rises;
-          cut-is = k .cut-is;
-          cut-up = λ e. k .cut-up (sym (statuses (channelAt (l .plan) c .receiver)) ∙ e) ∙ ap (λ (x : Lane). x .taken) (sym (lane-else b taken l c d));
-          sender-up = λ e.
-              channel-stays l (l .steps) nodes (beside .lanes) g g c (up-other (channelAt (l .plan) c .sender) e) (statuses (channelAt (l .plan) c .receiver)) (lane-else b taken l c d) refl cut cut refl refl k
-              .sender-up e;
-        }
-
-    ends-other : (c : ℕ) → c ≢ b → Ends l g c → Ends after g c
-    ends-other c d k =
-        let lane = lane-else b taken l c d in
-        let status = statuses (channelAt (l .plan) c .sender) in
-        record {
-          exact = λ e. ap (λ (x : Lane). x .taken) lane ∙ k .exact (sym (marks (channelAt (l .plan) c .receiver)) ∙ e);
-          stopped = λ e. ap (λ (x : Lane). x .queue) lane ∙ k .stopped (λ z. e (status ∙ z));
-          waiting = λ e. ap (λ (x : Lane). x .mark) lane ∙ k .waiting (sym status ∙ e) ∙ ap (λ (x : Lane). x .taken) (sym lane);
-        }
+    other-unmarked : (k : ℕ) → nodeAt after k .crashed ≡ false → k ≢ n
+    other-unmarked = unmarked-other l (l .steps) nodes (beside .lanes) n (mark ∙ marked) others
 
     -- The channel of the message.
     same-sender : nodeAt after (channelAt (l .plan) b .sender) ≡ nodeAt l (channelAt (l .plan) b .sender)
@@ -186,13 +130,7 @@ module _ (l : Line) (g : Ghost) (cut base : ℕ → ℕ) (fed : List Act) (recei
         }
 
     ends-own : Ends after g b
-    ends-own =
-        let alive = statuses (channelAt (l .plan) b .sender) ∙ sender in
-        record {
-          exact = λ e. absurd (unmarked-other n e refl);
-          stopped = λ e. absurd (e alive);
-          waiting = λ e. absurd (up-not-replay (sym alive ∙ e));
-        }
+    ends-own = ends-up (statuses (channelAt (l .plan) b .sender) ∙ sender) (λ e. absurd (other-unmarked n e refl))
 
     row-own : Row after g (cut b) (base b) n b
     row-own =
@@ -232,19 +170,15 @@ module _ (l : Line) (g : Ghost) (cut base : ℕ → ℕ) (fed : List Act) (recei
 
     replay-own : Replays after g cut base n
     replay-own =
-        replays-keep l (l .steps) nodes (beside .lanes) g g n log time targets refl
-        (λ c h. ap (λ (x : Lane). x .taken) (lane-else b taken l c (λ q. apart (ap (λ (x : ℕ). channelAt (l .plan) x .sender) (sym q) ∙ h .1)))) cut cut base base
-        (λ c h r. elim (ℕ-discrete c b) [ yes q ↦ subst (λ (x : ℕ). Row after g (cut x) (base x) n x) (sym q) row-own | no d ↦ row-other c d h r ]) (λ c h. refl)
-        (λ c y t i. took-enters (g n) c y t (marked-took (inv .marks) (inv .nodes) n marked) i .1) old
+        replays-keep l (l .steps) nodes (beside .lanes) g g n log time targets refl cut cut base base
+        (λ c h. ap (λ (x : Lane). x .taken) (lane-else b taken l c (λ q. apart (ap (λ (x : ℕ). channelAt (l .plan) x .sender) (sym q) ∙ h .1)))) (λ c y t i. refl)
+        (λ c h r. elim (ℕ-discrete c b) [ yes q ↦ subst (λ (x : ℕ). Row after g (cut x) (base x) n x) (sym q) row-own | no d ↦ row-other c d h r ]) old
 
     replay-other : (k : ℕ) → k ≢ n → nodeAt after k .status ≡ replay → Replays after g cut base k
     unfolding withLane
     replay-other k d e =
         let was : nodeAt l k .status ≡ replay = sym (statuses k) ∙ e in
-        let same = others k d in
-        replays-stay beside (l .steps) nodes (beside .lanes) g g k same refl (λ c h. refl) cut cut base base
-        (λ c h row. row-stays beside (l .steps) nodes (beside .lanes) g g (cut c) (cut c) (base c) (base c) k c same refl (omega arith) refl refl row) (λ c h. refl)
-        (λ c y t i. took-enters (g k) c y t (marked-took (inv .marks) (inv .nodes) k (replay-marked (inv .marks) k was)) i .1)
+        replays-stay beside (l .steps) nodes (beside .lanes) g g k (others k d) refl cut cut base base (λ c h. refl) (λ c y t i. refl) (λ c h. (refl, omega arith, refl, refl))
         (replay-beside l g cut base fed receipts crashes inv b here m rest heardOf first sender k was d)
 
     after-inv : Inv after g cut base fed (receipts ++ receipt ∷ []) crashes
@@ -253,10 +187,16 @@ module _ (l : Line) (g : Ghost) (cut base : ℕ → ℕ) (fed : List Act) (recei
           shape = record { nodes-long = long ∙ inv .shape .nodes-long; lanes-long = lanes-long b taken l ∙ inv .shape .lanes-long };
           ordered = inv .ordered;
           marks = marks-stay l (l .steps) nodes (beside .lanes) crashes statuses marks (inv .marks);
-          nodes = after-nodes;
-          events = λ k. record { rise = inv .events k .rise; within = λ e. events-stay l (l .steps) nodes (beside .lanes) g g k (up-other k e) refl (inv .events k) .within e };
-          channels = λ c h. elim (ℕ-discrete c b) [ yes q ↦ subst (Channels after g cut) (sym q) channel-own | no d ↦ channel-other c d (inv .channels c h) ];
-          ends = λ c h. elim (ℕ-discrete c b) [ yes q ↦ subst (Ends after g) (sym q) ends-own | no d ↦ ends-other c d (inv .ends c h) ];
+          nodes = nodes-stay l (l .steps) nodes (beside .lanes) (λ k e. others k (other-unmarked k e)) (λ k e. receipt-else receipts receipt k (other-unmarked k e)) (inv .nodes);
+          events = λ k. events-stay l (l .steps) nodes (beside .lanes) g g k (up-other k) refl (inv .events k);
+          channels = λ c h. elim (ℕ-discrete c b) [
+            | yes q ↦ subst (Channels after g cut) (sym q) channel-own
+            | no d ↦ channel-stays l (l .steps) nodes (beside .lanes) g g c (statuses (channelAt (l .plan) c .sender)) (statuses (channelAt (l .plan) c .receiver)) (lane-else b taken l c d) refl (up-other (channelAt (l .plan) c .sender)) cut cut refl refl (inv .channels c h)
+          ];
+          ends = λ c h. elim (ℕ-discrete c b) [
+            | yes q ↦ subst (Ends after g) (sym q) ends-own
+            | no d ↦ ends-stay l (l .steps) nodes (beside .lanes) g g c (statuses (channelAt (l .plan) c .sender)) (statuses (channelAt (l .plan) c .receiver)) (lane-else b taken l c d) refl (marks (channelAt (l .plan) c .receiver)) (inv .ends c h)
+          ];
           replays = λ k e. elim (ℕ-discrete k n) [ yes q ↦ subst (Replays after g cut base) (sym q) replay-own | no d ↦ replay-other k d e ];
         }
 

@@ -1,25 +1,24 @@
 -- What holds of a line, its ghost history and what was done, after every list of frames.
-use Prim.Native.Nat.{ℕ, zero, suc, max, _+_, _<_, _≤_}
-use mathlib.Core.Path.{_≡_, refl, sym, ap, subst, _∙_}
+use Prim.Native.Nat.{ℕ, max, _<_, _≤_}
+use mathlib.Core.Path.{_≡_}
 use mathlib.Core.Logic.{_≢_}
-use mathlib.Core.Bool.{Bool, true, false}
-use mathlib.Core.List.{List, [], _∷_, _++_, map}
-use lib.ListN.{length, getD}
+use mathlib.Core.Bool.{true, false}
+use mathlib.Core.List.{List, [], map}
+use lib.ListN.{length}
 use lib.Dec.{eqb}
-use Rattle.plan.specs.declared.Record.{Record}
 use Rattle.plan.specs.Plan.{Plan, ruleAt, channelAt, nodeCount, channelCount, isSource, isSink}
 use Rattle.plan.specs.Rule.{applied}
 use Rattle.plan.specs.Channel.{takes}
 use Rattle.rules.specs.Lists.{keep, greatestOf}
-use Rattle.rules.specs.Line.{Message, Entry, Held, Target, Status, up, down, replay, Node, Lane, Line, nodeAt, laneAt}
+use Rattle.rules.specs.Line.{Message, Held, Target, up, down, replay, Lane, Line, nodeAt, laneAt}
 use Rattle.rules.specs.Recover.{rowGoal}
 use Rattle.rules.specs.Plain.{Act, Receipt}
 use Rattle.rules.specs.Claim.{receivedBy}
 pub use Rattle.rules.specs.Claim.{named}
 use Rattle.rules.proofs.Rising.{until, past, Rises, Within}
-use Rattle.rules.proofs.PlainRun.{Input, receiptsIn}
+use Rattle.rules.proofs.PlainRun.{receiptsIn}
 use Rattle.rules.proofs.Witness.{fedOnto, noInputs, Feeds, Taken}
-use Rattle.rules.proofs.Ghost.{Event, tookAt, Ghost, entryOf, inputOf, put, got, logPut}
+use Rattle.rules.proofs.Ghost.{tookAt, Ghost, entryOf, inputOf, put, got, logPut}
 use Rattle.rules.proofs.Members.{In}
 use Rattle.rules.proofs.Passing.{passing, goesOn, heldOf}
 

@@ -1,20 +1,21 @@
 -- What follows from the invariant at once: who is up, and where a node's events came from.
-use Prim.Native.Nat.{ℕ, zero, suc, _+_, _<_, _≤_}
-use mathlib.Core.Path.{_≡_, refl, sym, ap, subst, _∙_}
-use mathlib.Core.Logic.{_≢_, _⊎_, inl, inr}
+use Prim.Native.Nat.{ℕ}
+use mathlib.Core.Path.{_≡_, refl, sym, _∙_}
+use mathlib.Core.Logic.{_≢_}
 use mathlib.Core.Bool.{Bool, true, false, true≢false}
-use mathlib.Core.List.{List, [], _∷_, _++_, map}
+use mathlib.Core.List.{List, _∷_, map}
 use native.Mathlib.Omega.{arith}
-use lib.ListN.{length}
-use Rattle.plan.specs.declared.Record.{Record}
-use Rattle.plan.specs.Plan.{Plan, channelAt, channelCount, isSource, isSink}
-use Rattle.rules.specs.Line.{Message, Status, up, down, replay, Line, nodeAt, laneAt}
+use Rattle.plan.specs.Rule.{applied}
+use Rattle.plan.specs.Plan.{Plan, ruleAt, channelAt, isSource}
+use Rattle.rules.specs.Lists.{greatestOf}
+use Rattle.rules.specs.Line.{Message, up, down, replay, Line, nodeAt, laneAt}
 use Rattle.rules.specs.Plain.{Act, Receipt}
-use Rattle.rules.proofs.Members.{In, in-none, in-first}
-use Rattle.rules.proofs.PlainRun.{Input, fedIn, tookIn}
-use Rattle.rules.proofs.Witness.{Taken, none, more}
-use Rattle.rules.proofs.Ghost.{Event, fedAt, tookAt, Ghost, inputOf}
-use Rattle.rules.proofs.Inv.{isUp, Enters, Marks, Nodes, Channels, Inv}
+use Rattle.rules.proofs.Members.{In, here, there}
+use Rattle.rules.proofs.Witness.{Taken, more}
+use Rattle.rules.proofs.Ghost.{Event, tookAt, Ghost, inputOf, got}
+use Rattle.rules.proofs.Passing.{goesOn}
+use Rattle.rules.proofs.Joins.{takes-passed}
+use Rattle.rules.proofs.Inv.{timeOf, isUp, Enters, Reached, Marks, Nodes, Ends}
 
 pub up-not-replay : up ≡ replay → ⊥
 up-not-replay e = let z : _≡_ {A = ℕ} 0 1 = cc in omega arith
@@ -30,23 +31,18 @@ pub if-marked : {A : Type 0} (b : Bool) → (b ≡ true → A) → (b ≡ false 
 if-marked true f g = f refl
 if-marked false f g = g refl
 
--- Inputs taken by node n came from channels that enter it.
-fed-first : {p : Plan} {n : ℕ} {r : Record} {is : List Input} → Taken p n (fedIn r ∷ is) → ⊥
-fed-first = elim [ ]
-
-took-first : {p : Plan} {n b : ℕ} {r : Record} {is : List Input} → Taken p n (tookIn b r ∷ is) → Enters p n b × Taken p n is
-took-first (more h q s r) = ((h, q), r)
-
-same-channel : {b c : ℕ} {m x : Message} {t u : ℕ} → tookAt b m t ≡ tookAt c x u → c ≡ b
-same-channel e = cc
-
-not-fed : {b : ℕ} {m : Message} {t : ℕ} {r : Record} {u : ℕ} → tookAt b m t ≡ fedAt r u → ⊥
-not-fed e = let z : _≡_ {A = ℕ} 0 1 = cc in omega arith
-
+-- What a node took came by a channel that enters it.
 pub took-enters : {p : Plan} {n : ℕ} (es : List Event) (b : ℕ) (m : Message) (t : ℕ) → Taken p n (map inputOf es) → In (tookAt b m t) es → Enters p n b
-took-enters [] b m t r i = absurd (in-none i)
-took-enters (fedAt x u ∷ es) b m t r i = absurd (fed-first r)
-took-enters {p} {n} (tookAt c x u ∷ es) b m t r i = elim (in-first i) [ inl q ↦ subst (Enters p n) (same-channel q) (took-first r .0) | inr j ↦ took-enters es b m t (took-first r .1) j ]
+took-enters (tookAt c x u ∷ es) b m t (more h q s r) here = (h, q)
+took-enters (tookAt c x u ∷ es) b m t (more h q s r) (there i) = took-enters es b m t r i
+
+-- The ends of a channel whose sender is up.
+pub ends-up : {l : Line} {g : Ghost} {b : ℕ} → isUp l (channelAt (l .plan) b .sender) → (nodeAt l (channelAt (l .plan) b .receiver) .crashed ≡ false → laneAt l b .taken ≡ greatestOf (map timeOf (got (l .plan) g b))) → Ends l g b
+ends-up alive exact = record { exact = exact; stopped = λ d. absurd (d alive); waiting = λ e. absurd (up-not-replay (sym alive ∙ e)) }
+
+-- What has reached a child goes on.
+pub reached-goes : {l : Line} {n : ℕ} {m : Message} {t : ℕ} → Reached l n m t → goesOn (l .plan) n m ≡ true
+reached-goes {l} {n} {m} r = takes-passed (l .plan) n (applied (ruleAt (l .plan) n) (m .what)) (r .channel) (r .on-plan) (r .leaves) (r .takes-it)
 
 module _ {l : Line} {crashes : List ℕ} (marks : Marks l crashes) (n : ℕ) where
   pub marked-unless-up : nodeAt l n .status ≢ up → nodeAt l n .crashed ≡ true

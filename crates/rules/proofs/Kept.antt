@@ -1,6 +1,6 @@
 -- The events of a history that a recovered node keeps: for each channel the messages up to a time.
 use Prim.Native.Nat.{ℕ, _<_, _≤_}
-use mathlib.Core.Path.{_≡_, refl, sym, ap, _∙_}
+use mathlib.Core.Path.{_≡_, refl, sym, ap, subst, _∙_}
 use mathlib.Core.Logic.{_⊎_, inl, inr}
 use mathlib.Core.Bool.{Bool, true, false}
 use mathlib.Core.List.{List, [], _∷_, _++_, map}
@@ -12,45 +12,29 @@ use Rattle.plan.specs.Plan.{Plan, channelAt, channelCount}
 use Rattle.rules.specs.Lists.{keep, keepOne}
 use Rattle.rules.specs.Line.{Message}
 use Rattle.rules.specs.Replay.{passedOn}
-use Rattle.rules.proofs.Rising.{until, Rises}
-use Rattle.rules.proofs.Members.{In, here, there, in-keep, in-map, in-right, rises-in}
-use Rattle.rules.proofs.Selecting.{rises-rest, rises-after}
+use Rattle.rules.proofs.Rising.{until, Rises, rises-rest, rises-after}
+use Rattle.rules.proofs.Members.{In, here, there, in-keep, in-map, rises-in}
 use Rattle.rules.proofs.Witness.{Taken, none, more}
-use Rattle.rules.proofs.Ghost.{Event, fedAt, tookAt, inputOf, sentOf, gotOne, gotOf}
+use Rattle.rules.proofs.Ghost.{Event, fedAt, tookAt, inputOf, sentOf, gotOf}
 use Rattle.rules.proofs.Passing.{passing, goesOn}
+use Rattle.rules.proofs.Carried.{in-got-of}
 use Rattle.rules.proofs.Inv.{timeOf}
 
 -- For each channel b the messages with a time at most base b.
-abbrev pub keptBy : (ℕ → ℕ) → Event → Bool
+abbrev keptBy : (ℕ → ℕ) → Event → Bool
 keptBy base (fedAt r t) = true
 keptBy base (tookAt b m t) = leb (m .time) (base b)
 
 abbrev pub kept : (ℕ → ℕ) → List Event → List Event
 kept base es = keep (keptBy base) es
 
--- Events that are all takes.
-pub data Took : List Event → Type 0 where
-  no-takes : Took []
-  took : {b : ℕ} {m : Message} {t : ℕ} {es : List Event} → Took es → Took (tookAt b m t ∷ es)
-
 module _ (p : Plan) (n : ℕ) where
-  pub taken-took : (es : List Event) → Taken p n (map inputOf es) → Took es
-  taken-took [] h = no-takes
-  taken-took (tookAt b m t ∷ es) (more l q s h) = took (taken-took es h)
+  -- Events that were each taken from a channel that enters node n.
+  pub taken-each : (es : List Event) → ((e : Event) → In e es → (b : ℕ) × (m : Message) × (t : ℕ) × (e ≡ tookAt b m t) × (b < channelCount p) × (channelAt p b .receiver ≡ n) × (channelAt p b .sender < n)) → Taken p n (map inputOf es)
+  taken-each [] f = none
+  taken-each (e ∷ es) f = let (b, m, t, q, h, r, s) = f e here in subst (λ (x : Event). Taken p n (inputOf x ∷ map inputOf es)) (sym q) (more h r s (taken-each es (λ d i. f d (there i))))
 
-  pub taken-in : {b : ℕ} {m : Message} {t : ℕ} (es : List Event) → Taken p n (map inputOf es) → In (tookAt b m t) es → (b < channelCount p) × (channelAt p b .receiver ≡ n) × (channelAt p b .sender < n)
-  taken-in (tookAt b m t ∷ es) (more l q s h) here = (l, q, s)
-  taken-in (tookAt b m t ∷ es) (more l q s h) (there i) = taken-in es h i
-
-  pub taken-by : {es : List Event} → Took es → ((b : ℕ) (m : Message) (t : ℕ) → In (tookAt b m t) es → (b < channelCount p) × (channelAt p b .receiver ≡ n) × (channelAt p b .sender < n)) → Taken p n (map inputOf es)
-  taken-by no-takes f = none
-  taken-by (took {b = b} {m = m} {t = t} h) f = let (l, q, s) = f b m t here in more l q s (taken-by h (λ c k u i. f c k u (there i)))
-
-  pub taken-append : (es fs : List Event) → Taken p n (map inputOf es) → Taken p n (map inputOf fs) → Taken p n (map inputOf (es ++ fs))
-  taken-append [] fs h k = k
-  taken-append (tookAt b m t ∷ es) fs (more l q s h) k = more l q s (taken-append es fs h k)
-
-  pub taken-keep : (f : Event → Bool) (es : List Event) → Taken p n (map inputOf es) → Taken p n (map inputOf (keep f es))
+  taken-keep : (f : Event → Bool) (es : List Event) → Taken p n (map inputOf es) → Taken p n (map inputOf (keep f es))
   taken-keep f [] h = none
   taken-keep f (tookAt b m t ∷ es) (more l q s h) = one (f (tookAt b m t)) (taken-keep f es h)
     where
@@ -93,10 +77,10 @@ Cuts low base b m t = (m .time ≤ base b → t ≤ low) × (t ≤ low → m .ti
 
 module _ (p : Plan) (n low : ℕ) (base : ℕ → ℕ) where
   -- What is passed on of the kept events is what was passed on up to low.
-  pub kept-passing : (es : List Event) → ((b : ℕ) (m : Message) (t : ℕ) → In (tookAt b m t) es → goesOn p n m ≡ true → Cuts low base b m t) → Took es
+  pub kept-passing : (es : List Event) → ((b : ℕ) (m : Message) (t : ℕ) → In (tookAt b m t) es → goesOn p n m ≡ true → Cuts low base b m t) → Taken p n (map inputOf es)
       → passing p n (kept base es) ≡ until timeOf low (passing p n es)
   kept-passing [] cuts h = refl
-  kept-passing (tookAt b m t ∷ es) cuts (took h) = one (goesOn p n m) (leb (m .time) (base b)) refl refl (kept-passing es (λ c k u i. cuts c k u (there i)) h)
+  kept-passing (tookAt b m t ∷ es) cuts (more l q s h) = one (goesOn p n m) (leb (m .time) (base b)) refl refl (kept-passing es (λ c k u i. cuts c k u (there i)) h)
     where
       same : goesOn p n m ≡ true → leb t low ≡ leb (m .time) (base b)
       same d = let (f, g) = cuts b m t here d in same-test t low (m .time) (base b) g f
@@ -112,10 +96,6 @@ one-joined : (x : Bool) (m : Message) (ms : List Message) → keepOne x m [] ++ 
 one-joined true m ms = refl
 one-joined false m ms = refl
 
-pub in-got : {b : ℕ} {m : Message} {t : ℕ} {es : List Event} → In (tookAt b m t) es → In m (gotOf b es)
-in-got {b} here = rw (eq-eqb b b refl) here
-in-got {b} (there {y = e} i) = in-right (gotOne b e) (in-got i)
-
 got-rest : {a : ℕ} (b : ℕ) (e : Event) (es : List Event) → Rises timeOf a (gotOf b (e ∷ es)) → Rises timeOf a (gotOf b es)
 got-rest b (fedAt r t) es h = h
 got-rest b (tookAt c m t) es h = rises-rest timeOf (eqb c b) m (gotOf b es) (rw one-joined at h)
@@ -124,7 +104,7 @@ got-after : {a : ℕ} (b : ℕ) (m : Message) (t : ℕ) (es : List Event) → Ri
 got-after b m t es h = rises-after timeOf (eqb b b) m (gotOf b es) (eq-eqb b b refl) (rw one-joined at h)
 
 module _ (p : Plan) (n : ℕ) where
-  pub in-passing : {e : Event} {es : List Event} → In e es → passedOn p n (sentOf p n e .what) ≡ true → In (sentOf p n e) (passing p n es)
+  in-passing : {e : Event} {es : List Event} → In e es → passedOn p n (sentOf p n e .what) ≡ true → In (sentOf p n e) (passing p n es)
   in-passing i g = in-keep (λ (m : Message). passedOn p n (m .what)) (in-map (sentOf p n) i) g
 
   -- Of two messages of one channel that are passed on, the one not later on the channel is not later at the node.
@@ -133,7 +113,7 @@ module _ (p : Plan) (n : ℕ) where
   order-kept (e ∷ es) r s here here d f l = omega arith
   order-kept {m = m} (e ∷ es) r s here (there j) d f l =
       let later = rises-in timeOf (rises-after timeOf (goesOn p n m) (sentOf p n e) (passing p n es) d r) (in-passing j f) in omega arith
-  order-kept {b = b} {k = k} {u = u} (e ∷ es) r s (there i) here d f l = let later = rises-in timeOf (got-after b k u es s) (in-got i) in omega arith
+  order-kept {b = b} {k = k} {u = u} (e ∷ es) r s (there i) here d f l = let later = rises-in timeOf (got-after b k u es s) (in-got-of b i) in omega arith
   order-kept {b = b} (e ∷ es) r s (there i) (there j) d f l =
       order-kept es (rises-rest timeOf (passedOn p n (sentOf p n e .what)) (sentOf p n e) (passing p n es) r) (got-rest b e es s) i j d f l
 
@@ -145,14 +125,8 @@ module _ (p : Plan) (n : ℕ) where
         → (m : Message) (t : ℕ) → In (tookAt b m t) es → goesOn p n m ≡ true → Cuts low base b m t
     cuts-at b r reach is m t i d = (
       λ l. elim is [
-        | inl e ↦ (let above = rises-in timeOf r (in-got i) in let no : ⊥ = omega arith in absurd no)
+        | inl e ↦ (let above = rises-in timeOf r (in-got-of b i) in let no : ⊥ = omega arith in absurd no)
         | inr (k, u, j, f, h, e) ↦ (let before = order-kept es rising r i j d f (omega arith) in omega arith)
       ],
       reach m t i d,
     )
-
-    pub base-cuts : ((b : ℕ) → Rises timeOf 0 (gotOf b es))
-        → ((b : ℕ) (m : Message) (t : ℕ) → In (tookAt b m t) es → goesOn p n m ≡ true → t ≤ low → m .time ≤ base b)
-        → ((b : ℕ) → (base b ≡ 0) ⊎ ((m : Message) × (t : ℕ) × In (tookAt b m t) es × (goesOn p n m ≡ true) × (t ≤ low) × (m .time ≡ base b)))
-        → (b : ℕ) (m : Message) (t : ℕ) → In (tookAt b m t) es → goesOn p n m ≡ true → Cuts low base b m t
-    base-cuts r reach is b = cuts-at b (r b) (reach b) (is b)

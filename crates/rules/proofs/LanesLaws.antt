@@ -1,14 +1,14 @@
--- Changes to several channels at once, and which channels enter or leave a node.
+-- Changes to several channels at once, and numbers of channels, which rise.
 use Prim.Native.Nat.{ℕ, zero, suc, _+_, _<_, _≤_}
 use mathlib.Core.Path.{_≡_, refl, sym, ap, subst, _∙_}
 use mathlib.Core.Logic.{_≢_}
 use mathlib.Core.Bool.{Bool, true, false}
-use mathlib.Core.List.{List, [], _∷_, _++_}
+use mathlib.Core.List.{List, [], _∷_}
 use native.Mathlib.Omega.{arith}
 use native.Mathlib.Nat.{add-zero}
 use lib.ListN.{length, getD}
 use Rattle.plan.specs.Plan.{numbersFrom, keepIf}
-use Rattle.rules.specs.Line.{Node, Lane, Line, nodeAt, laneAt, withLane, withLanes}
+use Rattle.rules.specs.Line.{Lane, Line, nodeAt, laneAt, withLane, withLanes}
 use Rattle.rules.proofs.Members.{In, here, there}
 use Rattle.rules.proofs.LineLaws.{lane-there, lane-else, node-kept, plan-same, lanes-long}
 

@@ -1,11 +1,10 @@
--- Reading a line after a small change.
-use Prim.Native.Nat.{ℕ, zero, suc, _<_}
-use mathlib.Core.Path.{_≡_, refl, sym, ap, _∙_}
+-- Reading a line after one node or one channel has changed.
+use Prim.Native.Nat.{ℕ, _<_}
+use mathlib.Core.Path.{_≡_, refl}
 use mathlib.Core.Logic.{_≢_}
-use mathlib.Core.List.{List, [], _∷_}
-use lib.ListN.{length, getD, set, length-set}
+use lib.ListN.{length, length-set}
 use lib.Seq.{getD-set-same, getD-set-other}
-use Rattle.rules.specs.Line.{Node, Lane, Line, freshNode, noLane, nodeAt, laneAt, withNode, withLane, counted}
+use Rattle.rules.specs.Line.{Node, Lane, Line, freshNode, noLane, nodeAt, laneAt, withNode, withLane}
 
 module _ (n : ℕ) (x : Node) (l : Line) where
   pub node-there : n < length (l .nodes) → nodeAt (withNode n x l) n ≡ x

@@ -1,27 +1,23 @@
--- A loaded line keeps the invariant: nothing was done, and every node and channel is fresh.
+-- The invariant holds of a loaded line: nothing was done, and every node and channel is fresh.
 use Prim.Native.Nat.{ℕ, zero, suc}
 use mathlib.Core.Path.{_≡_, refl, sym, ap, _∙_}
 use mathlib.Core.Bool.{false, true≢false}
 use mathlib.Core.List.{List, [], _∷_, map}
 use native.Mathlib.Omega.{arith}
-use lib.ListN.{getD, replicate, length-replicate, length-map}
+use lib.ListN.{getD, length-replicate, length-map}
 use Rattle.plan.specs.declared.Channel.{Channel}
 use Rattle.plan.specs.Plan.{Plan, planOf, channelAt, nodeCount}
 use Rattle.plan.specs.Check.{planRefusal}
 use Rattle.rules.specs.Lists.{keep}
 use Rattle.rules.specs.Line.{up, Node, Lane, Line, freshNode, noLane, freshLane, initialLine, nodeAt, laneAt}
 use Rattle.rules.specs.Clock.{messageOf}
+use Rattle.rules.proofs.ListLaws.{replicate-default}
 use Rattle.rules.proofs.Rising.{none, none-in, past}
 use Rattle.rules.proofs.Witness.{no-more, none}
 use Rattle.rules.proofs.Ghost.{Ghost, takesMessage, put, got, logPut}
 use Rattle.rules.proofs.Inv.{Inv, Ordered, Shape, Marks, Nodes, timeOf, Channels, Ends}
 use Rattle.rules.proofs.InvLaws.{up-not-replay}
 use Rattle.rules.proofs.PlanOrder.{ordered-plan}
-
-replicate-default : {A : Type 0} (n i : ℕ) (x : A) → getD (replicate n x) i x ≡ x
-replicate-default zero i x = refl
-replicate-default (suc n) zero x = refl
-replicate-default (suc n) (suc i) x = replicate-default n i x
 
 -- Nothing on a channel, marked and taken up to 0.
 abbrev emptyLane : List ℕ → Lane

@@ -1,14 +1,15 @@
--- Members of lists: through selections, maps and joins; two rising lists with the same members are equal.
-use Prim.Native.Nat.{ℕ, zero, suc, max, _<_, _≤_}
+-- Members of lists: through tests, selections, maps and joins; two rising lists with the same members are equal.
+use Prim.Native.Nat.{ℕ, zero, suc, max, _+_, _<_, _≤_}
 use mathlib.Core.Path.{_≡_, refl, sym, ap, subst, _∙_}
 use mathlib.Core.Logic.{_⊎_, inl, inr}
-use mathlib.Core.Bool.{Bool, true, false, true≢false}
+use mathlib.Core.Bool.{Bool, true, false, true≢false, _||_}
 use mathlib.Core.List.{List, [], _∷_, _++_, map}
 use native.Mathlib.Omega.{arith}
-use native.Mathlib.Decide.{decLe}
+use native.Mathlib.Decide.{decLe, ℕ-discrete}
 use lib.Dec.{leb}
 use borrow.Author.Tests.{le-leb}
-use Rattle.rules.specs.Lists.{keep, keepOne, joined, greatestOf}
+use Rattle.basics.specs.Bools.{both-true, neither-true}
+use Rattle.rules.specs.Lists.{keep, keepOne, isEmpty, allOf, anyOf, joined, greatestOf, leastOf, upTo}
 use Rattle.rules.proofs.Rising.{until, Rises, none, more, Within, none-in, more-in, within-until}
 
 pub data In {A : Type 0} (x : A) : List A → Type 0 where
@@ -21,6 +22,15 @@ in-none = elim [ ]
 pub in-first : {A : Type 0} {x y : A} {xs : List A} → In x (y ∷ xs) → (x ≡ y) ⊎ In x xs
 in-first here = inl refl
 in-first (there i) = inr i
+
+-- A list with a member is not empty.
+pub in-some : {A : Type 0} {x : A} {xs : List A} → In x xs → isEmpty xs ≡ false
+in-some here = refl
+in-some (there i) = refl
+
+pub some-in : {A : Type 0} (xs : List A) → isEmpty xs ≡ false → (x : A) × In x xs
+some-in [] e = absurd (true≢false e)
+some-in (x ∷ xs) e = (x, here)
 
 -- Through a selection.
 module _ {A : Type 0} (f : A → Bool) where
@@ -50,6 +60,10 @@ module _ {A B : Type 0} (f : A → B) where
   map-in [] i = absurd (in-none i)
   map-in (x ∷ xs) i = elim (in-first i) [ inl q ↦ (x, here, q) | inr k ↦ (let (z, j, e) = map-in xs k in (z, there j, e)) ]
 
+pub map-same : {A B : Type 0} (f g : A → B) (xs : List A) → ((x : A) → In x xs → f x ≡ g x) → map f xs ≡ map g xs
+map-same f g [] h = refl
+map-same f g (x ∷ xs) h = ap (λ (y : _). y ∷ map f xs) (h x here) ∙ ap (λ (ys : List _). g x ∷ ys) (map-same f g xs (λ y i. h y (there i)))
+
 -- Through a join.
 pub in-left : {A : Type 0} {x : A} {xs : List A} (ys : List A) → In x xs → In x (xs ++ ys)
 in-left ys here = here
@@ -70,6 +84,23 @@ in-joined i (there {y = ys} j) = in-right ys (in-joined i j)
 pub joined-in : {A : Type 0} {x : A} (xss : List (List A)) → In x (joined xss) → (xs : List A) × In xs xss × In x xs
 joined-in [] i = absurd (in-none i)
 joined-in (xs ∷ xss) i = elim (append-in xs i) [ inl j ↦ (xs, here, j) | inr j ↦ (let (ys, k, h) = joined-in xss j in (ys, there k, h)) ]
+
+-- A test that all pass, one that some pass, and one that none pass.
+pub all-in : {A : Type 0} (f : A → Bool) {x : A} {xs : List A} → allOf f xs ≡ true → In x xs → f x ≡ true
+all-in f {x = x} e (here {xs = xs}) = both-true (f x) (allOf f xs) e .0
+all-in f e (there {y = y} {xs = xs} i) = all-in f (both-true (f y) (allOf f xs) e .1) i
+
+pub any-in : {A : Type 0} (f : A → Bool) (xs : List A) → anyOf f xs ≡ true → (x : A) × In x xs × (f x ≡ true)
+any-in f [] e = absurd (true≢false (sym e))
+any-in {A} f (x ∷ xs) e = one (f x) refl e (λ z. any-in f xs z)
+  where
+    one : (t : Bool) → f x ≡ t → (t || anyOf f xs) ≡ true → (anyOf f xs ≡ true → (y : A) × In y xs × (f y ≡ true)) → (y : A) × In y (x ∷ xs) × (f y ≡ true)
+    one true q z ih = (x, here, q)
+    one false q z ih = let (y, i, k) = ih z in (y, there i, k)
+
+pub none-any : {A : Type 0} (f : A → Bool) {x : A} {xs : List A} → anyOf f xs ≡ false → In x xs → f x ≡ false
+none-any f {x = x} e (here {xs = xs}) = neither-true (f x) (anyOf f xs) e .0
+none-any f e (there {y = y} {xs = xs} i) = none-any f (neither-true (f y) (anyOf f xs) e .1) i
 
 -- The greatest of some numbers is none below any, and one of them or 0.
 pub in-greatest : {n : ℕ} {ns : List ℕ} → In n ns → n ≤ greatestOf ns
@@ -93,6 +124,31 @@ greatest-in (n ∷ ns) =
     rest : ¬ (greatestOf ns ≤ n) → greatestOf ns ≡ max n (greatestOf ns)
     rest h = omega arith
 
+pub greatest-snoc : {A : Type 0} (f : A → ℕ) (xs : List A) (x : A) → greatestOf (map f (xs ++ x ∷ [])) ≡ max (greatestOf (map f xs)) (f x)
+greatest-snoc f [] x = omega arith
+greatest-snoc f (y ∷ xs) x = omega (arith, greatest-snoc f xs x)
+
+-- The least of some numbers is none above any, and none above the greatest.
+pub in-least : {n : ℕ} {ns : List ℕ} → In n ns → leastOf ns ≤ n
+in-least {n} (here {xs = []}) = omega arith
+in-least {n} (here {xs = m ∷ ns}) = omega arith
+in-least (there {y = m} {xs = []} i) = absurd (in-none i)
+in-least (there {y = m} {xs = k ∷ ns} i) = let h = in-least i in omega arith
+
+pub least-greatest : (ns : List ℕ) → leastOf ns ≤ greatestOf ns
+least-greatest [] = omega arith
+least-greatest (n ∷ ns) =
+    let first : In n (n ∷ ns) = here in
+    let low = in-least first in
+    let high = in-greatest first in
+    omega arith
+
+-- The numbers from k on.
+pub in-up-to : (k n i : ℕ) → k ≤ i → i < k + n → In i (upTo k n)
+in-up-to k zero i l h = let no : ⊥ = omega arith in absurd no
+in-up-to k (suc n) i l h = elim (ℕ-discrete i k) [ yes q ↦ subst (λ (x : ℕ). In i (x ∷ upTo (suc k) n)) q here | no d ↦ there (in-up-to (suc k) n i (omega arith) (omega arith)) ]
+
+-- In lists whose times rise or lie within a bound.
 module _ {A : Type 0} (time : A → ℕ) where
   pub rises-in : {a : ℕ} {x : A} {xs : List A} → Rises time a xs → In x xs → a < time x
   rises-in (more h r) here = h

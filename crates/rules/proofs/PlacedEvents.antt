@@ -8,13 +8,12 @@ use native.Mathlib.Omega.{arith}
 use native.Mathlib.Decide.{ℕ-discrete, decLt}
 use lib.ListN.{length, getD}
 use lib.Dec.{eqb, ltb}
-use borrow.Author.Tests.{eq-eqb, ne-eqb, lt-ltb, le-ltb, ltb-false, eqb-true}
-use Rattle.plan.specs.declared.Channel.{Channel}
+use borrow.Author.Tests.{eq-eqb, ne-eqb, lt-ltb, le-ltb, ltb-false}
 use Rattle.plan.specs.Rule.{applied}
 use Rattle.plan.specs.Plan.{Plan, ruleAt, channelAt, entering}
 use Rattle.placing.specs.Item.{Item, itemAt}
 use Rattle.placing.specs.Rules.{KeepsRules}
-use Rattle.rules.specs.Lists.{keep, keepOne, joined}
+use Rattle.rules.specs.Lists.{keep, joined}
 use Rattle.rules.specs.Line.{Message, Entry, Held, Line, nodeAt}
 use Rattle.rules.specs.Recover.{highOf}
 use Rattle.rules.specs.Replay.{fixedAt, floorOf, itemOf, heldByRow, itemsByRow, entryAt, addEntry, placedLog}
@@ -22,7 +21,8 @@ use Rattle.rules.proofs.Rising.{Rises, none, more, Within}
 use Rattle.rules.proofs.Members.{In, here, there, in-none, in-first, within-by}
 use Rattle.rules.proofs.Ghost.{Event, fedAt, tookAt, eventTime, entryOf, gotOne, gotOf}
 use Rattle.rules.proofs.Passing.{heldOf}
-use Rattle.rules.proofs.LanesLaws.{Rising, numbers-rise}
+use Rattle.rules.proofs.Carried.{got-of-in}
+use Rattle.rules.proofs.Joins.{entering-rise}
 use Rattle.rules.proofs.TableRows.{Slot, slotHeld, slotItem, messagesOf, slots, rows-held, rows-items, slot-in, same-row, messages-row}
 
 -- An event in its place by time.
@@ -91,16 +91,6 @@ got-first b c m t (d ∷ es) e before = one (ltb t (eventTime d)) refl (got-firs
     one false x q =
         let none = behind d (ltb-false t (eventTime d) x) (λ z u y. before z u (subst (λ (a : Event). In a (d ∷ es)) y here)) in
         rw (none, q)
-
--- A message got of a channel was taken at some time.
-pub got-in : (b : ℕ) (es : List Event) {m : Message} → In m (gotOf b es) → (t : ℕ) × In (tookAt b m t) es
-got-in b [] i = absurd (in-none i)
-got-in b (fedAt r t ∷ es) i = let (u, j) = got-in b es i in (u, there j)
-got-in b (tookAt c q t ∷ es) {m} i = one (eqb c b) refl (λ j. got-in b es j) i
-  where
-    one : (x : Bool) → eqb c b ≡ x → (In m (gotOf b es) → (u : ℕ) × In (tookAt b m u) es) → In m (keepOne x q [] ++ gotOf b es) → (u : ℕ) × In (tookAt b m u) (tookAt c q t ∷ es)
-    one true e ih j = elim (in-first j) [ inl z ↦ (t, rw (z, ← eqb-true c b e) here) | inr k ↦ (let (u, h) = ih k in (u, there h)) ]
-    one false e ih j = let (u, h) = ih j in (u, there h)
 
 -- Where an event stands in the table and among the columns.
 record Seat (f : Slot → Item) (ss : List Slot) (columns : List ℕ) (e : Event) : Type 0 where
@@ -182,10 +172,6 @@ pub record PlacedEvents (l : Line) (n : ℕ) (rowOf : ℕ → List Message) (col
   pub fixed : (b : ℕ) (m : Message) (t : ℕ) → In (tookAt b m t) fs → fixedAt (nodeAt l n .targets) (heldOf (l .plan) n b m) ≢ 0 → t ≡ fixedAt (nodeAt l n .targets) (heldOf (l .plan) n b m)
   pub free : (b : ℕ) (m : Message) (t : ℕ) → In (tookAt b m t) fs → fixedAt (nodeAt l n .targets) (heldOf (l .plan) n b m) ≡ 0 → floorOf l n (applied (ruleAt (l .plan) n) (m .what)) < t
 
-entering-rise : (p : Plan) (n : ℕ) → Rising 0 (entering p n)
-unfolding entering
-entering-rise p n = numbers-rise (λ (c : Channel). eqb (c .receiver) n) 0 (p .channels)
-
 module _ (l : Line) (n : ℕ) (ss : List Slot) (columns : List ℕ) (keeps : KeepsRules (nodeAt l n .time) (highOf l n) (map (slotItem l n) ss) columns) where
   -- One event: its column, and the slot that it comes from.
   module _ (b : ℕ) (m : Message) (t : ℕ) (x : Seat (slotItem l n) ss columns (tookAt b m t)) where
@@ -236,7 +222,7 @@ module _ (l : Line) (n : ℕ) (rowOf : ℕ → List Message) (columns : List ℕ
           within = within-placed (slotItem l n) ss columns k;
           got-is = got;
           took = λ e i. (let x = seat (slotItem l n) ss columns i in let (c, m) = slot-in rowOf 0 bs (x .among) in (x .slot .channel, x .slot .message, getD columns (x .place) 0, x .event-is, c, m));
-          placed = λ b m i j. got-in b (placedEvents ss columns) (rw (got b i) j);
+          placed = λ b m i j. got-of-in b (placedEvents ss columns) (rw (got b i) j);
           fixed = fixed-placed l n ss columns k;
           free = free-placed l n ss columns k;
         },

@@ -1,12 +1,12 @@
--- A history is a run: what each node took, in order, is what a run of the plain line gives it.
-use Prim.Native.Nat.{ℕ, zero, suc, _+_, _<_, _≤_}
+-- The plain line after a feed or a take, by its history: what each node took in, and what each channel was given and holds.
+use Prim.Native.Nat.{ℕ, zero, suc, _<_}
 use mathlib.Core.Path.{_≡_, refl, sym, ap, subst, _∙_}
 use mathlib.Core.Logic.{_≢_}
 use mathlib.Core.Bool.{Bool, true, false, _&&_}
 use mathlib.Core.List.{List, [], _∷_, _++_, map, append-assoc}
 use native.Mathlib.Omega.{arith}
 use native.Mathlib.Decide.{ℕ-discrete}
-use lib.ListN.{length, getD, set, length-set, length-map}
+use lib.ListN.{length, getD, set, length-set}
 use lib.Seq.{getD-set-same, getD-set-other}
 use lib.Dec.{eqb}
 use borrow.Author.Tests.{eq-eqb, ne-eqb}
@@ -16,10 +16,10 @@ use Rattle.plan.specs.Rule.{applied}
 use Rattle.plan.specs.Channel.{takes}
 use Rattle.plan.specs.Plan.{Plan, ruleAt, channelAt, noChannel}
 use Rattle.rules.specs.Lists.{keep, keepOne}
-use Rattle.rules.specs.Plain.{Act, feeds, takesFrom, Receipt, PlainLine, joinIf, joinEach, passOn, takeFirst, act, runFrom}
+use Rattle.rules.specs.Plain.{feeds, takesFrom, Receipt, PlainLine, joinIf, joinEach, passOn, act}
 use Rattle.rules.specs.Claim.{receivedBy}
 use Rattle.basics.specs.Update.{changed, changed-there, changed-else}
-use Rattle.rules.proofs.ListLaws.{keep-append, map-append, append-cancel, nil-right}
+use Rattle.rules.proofs.ListLaws.{keep-append, map-append, nil-right}
 
 -- What a node took in: a record fed, or a record taken from a channel.
 pub data Input : Type 0 where
@@ -156,21 +156,24 @@ follows-feed p h l n r f =
       ];
     }
 
+-- A receipt of another node.
+pub receipt-else : (receipts : List Receipt) (x : Receipt) (k : ℕ) → k ≢ x .receiver → receivedBy k (receipts ++ x ∷ []) ≡ receivedBy k receipts
+receipt-else receipts x k d =
+    keep-append (λ (r : Receipt). eqb (r .receiver) k) receipts (x ∷ []) ∙ ap (λ (t : Bool). receivedBy k receipts ++ keepOne t x []) (ne-eqb (x .receiver) k (λ q. d (sym q))) ∙ nil-right (receivedBy k receipts)
+
 pub taken-receipt : (p : Plan) (h : History) (l : PlainLine) (b : ℕ) (r : Record) (k : ℕ) → receivedBy k (l .received) ≡ receiptsIn p k (h k)
     → receivedBy k (l .received ++ record { receiver = channelAt p b .receiver; what = r; sender = channelAt p b .sender } ∷ []) ≡ receiptsIn p k (grown h (channelAt p b .receiver) (tookIn b r) k)
 taken-receipt p h l b r k e =
     let n : ℕ = channelAt p b .receiver in
     let one : Receipt = record { receiver = n; what = r; sender = channelAt p b .sender } in
-    keep-append (λ (x : Receipt). eqb (x .receiver) k) (l .received) (one ∷ [])
-    ∙ ap (λ (x : List Receipt). x ++ keepOne (eqb n k) one []) e
-    ∙ elim (ℕ-discrete k n) [
+    elim (ℕ-discrete k n) [
       | yes q ↦
-          ap (λ (t : Bool). receiptsIn p k (h k) ++ keepOne t one []) (eq-eqb n k (sym q))
+          keep-append (λ (x : Receipt). eqb (x .receiver) k) (l .received) (one ∷ [])
+          ∙ ap (λ (x : List Receipt). x ++ keepOne (eqb n k) one []) e
+          ∙ ap (λ (t : Bool). receiptsIn p k (h k) ++ keepOne t one []) (eq-eqb n k (sym q))
           ∙ ap (λ (x : ℕ). receiptsIn p k (h k) ++ record { receiver = x; what = r; sender = channelAt p b .sender } ∷ []) (sym q)
           ∙ sym (receipts-there p h n k (tookIn b r) q)
-      | no d ↦
-          ap (λ (t : Bool). receiptsIn p k (h k) ++ keepOne t one []) (ne-eqb n k (λ q. d (sym q)))
-          ∙ nil-right (receiptsIn p k (h k)) ∙ sym (receipts-else p h n k (tookIn b r) d)
+      | no d ↦ receipt-else (l .received) one k d ∙ e ∙ sym (receipts-else p h n k (tookIn b r) d)
     ]
 
 -- A take follows the history with one more record taken.

@@ -1,69 +1,40 @@
 -- A quiet line: nothing put on a channel is still to come, so the run of its history is at rest.
-use Prim.Native.Nat.{ℕ, zero, suc, _+_, _<_, _≤_}
+use Prim.Native.Nat.{ℕ, suc, _<_}
 use mathlib.Core.Path.{_≡_, refl, sym, ap, subst, _∙_}
 use mathlib.Core.Logic.{_≢_}
-use mathlib.Core.Bool.{Bool, true, false, _&&_, true≢false}
-use mathlib.Core.List.{List, [], _∷_, _++_, map}
+use mathlib.Core.Bool.{Bool, true, _&&_, true≢false}
+use mathlib.Core.List.{List, [], _∷_, _++_, cons≢nil}
+use mathlib.Core.Option.{Option}
 use native.Mathlib.Omega.{arith}
-use native.Mathlib.Decide.{ℕ-discrete}
 use lib.ListN.{length, getD}
-use lib.Dec.{ltb}
 use Rattle.basics.specs.Bools.{both-true}
 use Rattle.plan.specs.declared.Record.{Record}
-use Rattle.plan.specs.declared.Channel.{Channel}
-use Rattle.plan.specs.Channel.{takes}
 use Rattle.plan.specs.Plan.{channelAt, nodeCount, channelCount}
-use Rattle.rules.specs.Lists.{keep, allOf, upTo, isEmpty}
+use Rattle.rules.specs.Lists.{allOf, upTo, isEmpty}
 use Rattle.rules.specs.Line.{Message, Entry, Status, up, down, replay, Line, nodeAt, laneAt, isUp}
-use Rattle.rules.specs.Clock.{messageOf, nextToSend}
 use Rattle.rules.specs.Step.{sendable, isNothing}
 use Rattle.rules.specs.Plain.{Act, Receipt, plainRun, atRest}
 use Rattle.rules.specs.Claim.{quiet}
+use Rattle.rules.proofs.ListLaws.{empty-none}
 use Rattle.rules.proofs.Rising.{until, past, cut-at, rises-past, past-past}
-use Rattle.rules.proofs.Members.{In, here, there}
+use Rattle.rules.proofs.Options.{nothing-none}
+use Rattle.rules.proofs.Members.{all-in, in-up-to}
 use Rattle.rules.proofs.Ghost.{Ghost, put, logPut}
 use Rattle.rules.proofs.Inv.{Inv, timeOf}
 use Rattle.rules.proofs.InvLaws.{up-not-down}
+use Rattle.rules.proofs.SendInv.{First, sendable-first}
 use Rattle.rules.proofs.Conclusion.{run, run-empties}
-
--- What holds of all holds of each.
-pub all-in : {A : Type 0} (f : A → Bool) {x : A} {xs : List A} → allOf f xs ≡ true → In x xs → f x ≡ true
-all-in f {x = x} e (here {xs = xs}) = both-true (f x) (allOf f xs) e .0
-all-in f e (there {y = y} {xs = xs} i) = all-in f (both-true (f y) (allOf f xs) e .1) i
-
-pub in-up-to : (k n i : ℕ) → k ≤ i → i < k + n → In i (upTo k n)
-in-up-to k zero i l h = let no : ⊥ = omega arith in absurd no
-in-up-to k (suc n) i l h = elim (ℕ-discrete i k) [ yes q ↦ subst (λ (x : ℕ). In i (x ∷ upTo (suc k) n)) q here | no d ↦ there (in-up-to (suc k) n i (omega arith) (omega arith)) ]
 
 status-up : (s : Status) → isUp s ≡ true → s ≡ up
 status-up up e = refl
 status-up down e = absurd (true≢false (sym e))
 status-up replay e = absurd (true≢false (sym e))
 
-no-messages : (q : List Message) → isEmpty q ≡ true → q ≡ []
-no-messages [] e = refl
-no-messages (m ∷ q) e = absurd (true≢false (sym e))
-
--- The messages of a log past the mark that a channel takes.
-abbrev chosenPast : Channel → ℕ → List Entry → List Message
-chosenPast c mark log = past timeOf mark (keep (λ (m : Message). takes c (m .what)) (map messageOf log))
-
--- Where nothing can be sent there are none.
-nothing-past : (c : Channel) (mark : ℕ) (log : List Entry) → isNothing (nextToSend c mark log) ≡ true → chosenPast c mark log ≡ []
-nothing-past c mark [] e = refl
-nothing-past c mark (d ∷ log) e = one (ltb mark (d .time)) (takes c (d .what)) refl refl (λ h. nothing-past c mark log h)
-  where
-    one : (late fits : Bool) → ltb mark (d .time) ≡ late → takes c (d .what) ≡ fits → (isNothing (nextToSend c mark log) ≡ true → chosenPast c mark log ≡ []) → chosenPast c mark (d ∷ log) ≡ []
-    one true true a b rest = absurd (true≢false (sym (rw (a, b, nextToSend) at e)))
-    one true false a b rest = rw b (rest (rw (a, b, nextToSend) at e))
-    one false true a b rest = rw (b, a) (rest (rw (a, nextToSend) at e))
-    one false false a b rest = rw b (rest (rw (a, nextToSend) at e))
-
 -- Every channel empty is rest.
 empty-rests : (qs : List (List Record)) → ((b : ℕ) → b < length qs → getD qs b [] ≡ []) → atRest qs ≡ true
 empty-rests [] f = refl
 empty-rests ([] ∷ qs) f = empty-rests qs (λ b h. f (suc b) (omega arith))
-empty-rests ((r ∷ rest) ∷ qs) f = let e = f 0 (omega arith) in let z : _≡_ {A = ℕ} 0 1 = cc in let no : ⊥ = omega arith in absurd no
+empty-rests ((r ∷ rest) ∷ qs) f = absurd (cons≢nil (f 0 (omega arith)))
 
 module _ (l : Line) (g : Ghost) (cut base : ℕ → ℕ) (fed : List Act) (receipts : List Receipt) (crashes : List ℕ) (inv : Inv l g cut base fed receipts crashes) (still : quiet l ≡ true) where
   abbrev idleChannel : ℕ → Bool
@@ -90,11 +61,10 @@ module _ (l : Line) (g : Ghost) (cut base : ℕ → ℕ) (fed : List Act) (recei
     sender-up = all-up (channelAt (l .plan) b .sender) (omega (arith, inv .ordered .forward b h, inv .ordered .inside b h))
 
     none-late : past timeOf (laneAt l b .mark) (logPut l b) ≡ []
-    unfolding logPut sendable
-    none-late = nothing-past (channelAt (l .plan) b) (laneAt l b .mark) (nodeAt l (channelAt (l .plan) b .sender) .log) (idle .0)
+    none-late = subst (λ (o : Option Entry). First o (past timeOf (laneAt l b .mark) (logPut l b))) (nothing-none (sendable l b) (idle .0)) (sendable-first l b)
 
     -- All that was put on the channel was got.
-    pub nothing-to-come : past timeOf (cut b) (put (l .plan) g b) ≡ []
+    nothing-to-come : past timeOf (cut b) (put (l .plan) g b) ≡ []
     nothing-to-come =
         let c = inv .channels b h in
         let s = c .sender-up sender-up in
@@ -103,7 +73,7 @@ module _ (l : Line) (g : Ghost) (cut base : ℕ → ℕ) (fed : List Act) (recei
         let puts = put (l .plan) g b in
         let receiving : nodeAt l (channelAt (l .plan) b .receiver) .status ≢ down = λ e. up-not-down (sym receiver-up ∙ e) in
         let (ordered, late, queue) = s .queue receiving in
-        let before : until timeOf mark (past timeOf taken puts) ≡ [] = ap (until timeOf mark) (sym (s .to-come receiving)) ∙ sym queue ∙ no-messages (laneAt l b .queue) (idle .1) in
+        let before : until timeOf mark (past timeOf taken puts) ≡ [] = ap (until timeOf mark) (sym (s .to-come receiving)) ∙ sym queue ∙ empty-none (laneAt l b .queue) (idle .1) in
         let after : past timeOf mark (past timeOf taken puts) ≡ [] = ap (past timeOf mark) (sym (s .to-come receiving)) ∙ past-past timeOf taken mark ordered (logPut l b) ∙ none-late in
         ap (λ (t : ℕ). past timeOf t puts) (c .cut-up receiver-up) ∙ cut-at timeOf mark (rises-past timeOf taken (c .rises)) ∙ ap (λ (x : List Message). x ++ past timeOf mark (past timeOf taken puts)) before ∙ after
 

@@ -1,35 +1,33 @@
--- The history that a recovered node is given: what it took up to the restored entries, then what was placed. Its channels, seen from both ends.
-use Prim.Native.Nat.{ℕ, zero, suc, max, _+_, _<_, _≤_}
+-- The history that a recovered node is given, seen from its entering and from its leaving channels.
+use Prim.Native.Nat.{ℕ, _<_, _≤_}
 use mathlib.Core.Path.{_≡_, refl, sym, ap, subst, _∙_}
-use mathlib.Core.Logic.{_≢_, _⊎_, inl, inr}
-use mathlib.Core.Bool.{Bool, true, false, true≢false, _&&_}
-use mathlib.Core.List.{List, [], _∷_, _++_, map}
+use mathlib.Core.Logic.{_⊎_, inl, inr}
+use mathlib.Core.Bool.{Bool, true}
+use mathlib.Core.List.{List, [], _++_, map}
 use native.Mathlib.Omega.{arith}
-use native.Mathlib.Decide.{decLe, decLt, ℕ-discrete}
-use lib.Dec.{eqb, leb}
-use borrow.Author.Tests.{eqb-true, le-leb, leb-true}
+use native.Mathlib.Decide.{decLe}
+use lib.Dec.{leb}
+use borrow.Author.Tests.{le-leb, leb-true}
 use Rattle.plan.specs.Rule.{applied}
 use Rattle.plan.specs.Channel.{takes}
-use Rattle.plan.specs.Plan.{Plan, ruleAt, channelAt, channelCount}
-use Rattle.basics.specs.Update.{changed, changed-there, changed-else}
-use Rattle.rules.specs.Lists.{keep, greatestOf}
-use Rattle.rules.specs.Line.{Message, Target, Status, up, replay, Node, Lane, Line, nodeAt, laneAt}
+use Rattle.plan.specs.Plan.{ruleAt, channelAt}
+use Rattle.basics.specs.Update.{changed, changed-there}
+use Rattle.rules.specs.Lists.{keep}
+use Rattle.rules.specs.Line.{Message, replay, Line, nodeAt, laneAt}
 use Rattle.rules.specs.Recover.{rowGoal}
 use Rattle.rules.specs.Plain.{Act, Receipt}
-use Rattle.rules.proofs.ListLaws.{keep-append, nil-right}
-use Rattle.rules.proofs.Rising.{until, past, Rises, none, more, Within, none-in, more-in, rises-lower, past-none, within-until, within-higher, until-all, until-none, rises-past}
-use Rattle.rules.proofs.Members.{In, in-keep, keep-in, in-map, map-in, in-left, in-right, append-in, greatest-in, rises-same, within-by}
+use Rattle.rules.proofs.ListLaws.{keep-append}
+use Rattle.rules.proofs.Rising.{until, past, Rises, Within, past-none, within-until, within-higher, rises-keep, within-keep, until-until, rises-append, within-append, rises-map, within-map}
+use Rattle.rules.proofs.Members.{In, in-keep, keep-in, in-map, map-in, in-left, in-right, append-in, rises-same}
 use Rattle.rules.proofs.Witness.{Taken}
 use Rattle.rules.proofs.Ghost.{Event, tookAt, Ghost, eventTime, inputOf, sentOf, takesMessage, put, got, gotOf}
 use Rattle.rules.proofs.Passing.{passing, goesOn}
-use Rattle.rules.proofs.Selecting.{keep-wider, rises-keep, within-keep}
 use Rattle.rules.proofs.Carried.{put-in, in-put, taken-event}
-use Rattle.rules.proofs.Joins.{takes-passed}
 use Rattle.rules.proofs.Leaving.{put-passing, taken-until}
 use Rattle.rules.proofs.Rebuilt.{rebuilt, ends-held, rebuilt-got, rebuilt-taken, rebuilt-passing}
-use Rattle.rules.proofs.Inv.{timeOf, isUp, Enters, Leaves, Reached, targetFrom, Replays, Row, Channels, Inv}
+use Rattle.rules.proofs.Inv.{timeOf, Enters, Leaves, Reached, Row, Inv}
 use Rattle.rules.proofs.InvLaws.{replay-marked}
-use Rattle.rules.proofs.MarkedLaws.{own, one-channel, taken-put}
+use Rattle.rules.proofs.MarkedLaws.{own, goal-message}
 
 -- What must hold of the events placed, so that node n may go on with them at time T.
 pub record Rebuilding (l : Line) (g : Ghost) (base : ℕ → ℕ) (n T : ℕ) (fs : List Event) : Type 0 where
@@ -42,28 +40,6 @@ pub record Rebuilding (l : Line) (g : Ghost) (base : ℕ → ℕ) (n T : ℕ) (f
   pub high : (c : ℕ) → Leaves (l .plan) n c → laneAt l c .taken ≤ T
   pub reached-placed : (b : ℕ) (m : Message) (t : ℕ) → In (tookAt b m t) (g n) → nodeAt l n .time < t → Reached l n m t → In (tookAt b m t) fs
   pub placed-reached : (b : ℕ) (m : Message) (t : ℕ) → In (tookAt b m t) fs → (c : ℕ) → Leaves (l .plan) n c → takes (channelAt (l .plan) c) (applied (ruleAt (l .plan) n) (m .what)) ≡ true → t ≤ laneAt l c .taken → In (tookAt b m t) (g n)
-
-module _ {A : Type 0} (time : A → ℕ) where
-  -- An earlier cut forgets a later one.
-  pub until-until : (j k : ℕ) → j ≤ k → (xs : List A) → until time j (until time k xs) ≡ until time j xs
-  until-until j k h xs = keep-wider (λ (x : A). leb (time x) j) (λ (x : A). leb (time x) k) (λ x e. le-leb (time x) k (omega (arith, leb-true (time x) j e))) xs
-
-  pub rises-append : {a j : ℕ} {xs ys : List A} → a ≤ j → Rises time a xs → Within time j xs → Rises time j ys → Rises time a (xs ++ ys)
-  rises-append h none none-in s = rises-lower time h s
-  rises-append h (more {x = x} k r) (more-in i w) s = more {x = x} k (rises-append i r w s)
-
-  pub within-append : {k : ℕ} {xs ys : List A} → Within time k xs → Within time k ys → Within time k (xs ++ ys)
-  within-append none-in v = v
-  within-append (more-in h w) v = more-in h (within-append w v)
-
--- Times of what events make.
-pub rises-sent : (p : Plan) (n : ℕ) {a : ℕ} {es : List Event} → Rises eventTime a es → Rises timeOf a (map (sentOf p n) es)
-rises-sent p n none = none
-rises-sent p n (more {x = e} h r) = more {x = sentOf p n e} h (rises-sent p n r)
-
-pub within-sent : (p : Plan) (n : ℕ) {k : ℕ} {es : List Event} → Within eventTime k es → Within timeOf k (map (sentOf p n) es)
-within-sent p n none-in = none-in
-within-sent p n (more-in {x = e} h w) = more-in {x = sentOf p n e} h (within-sent p n w)
 
 module _ (l : Line) (g : Ghost) (cut base : ℕ → ℕ) (fed : List Act) (receipts : List Receipt) (crashes : List ℕ) (inv : Inv l g cut base fed receipts crashes) (n : ℕ) (replaying : nodeAt l n .status ≡ replay)
     (T : ℕ) (fs : List Event) (r : Rebuilding l g base n T fs) where
@@ -82,29 +58,8 @@ module _ (l : Line) (g : Ghost) (cut base : ℕ → ℕ) (fed : List Act) (recei
   took-own : Taken (l .plan) n (map inputOf (g n))
   took-own = own inv n marked
 
-  pub row-rises : (b : ℕ) → Enters (l .plan) n b → Rises timeOf 0 (row b)
+  row-rises : (b : ℕ) → Enters (l .plan) n b → Rises timeOf 0 (row b)
   row-rises b h = rises-keep timeOf (λ (m : Message). leb (m .time) (laneAt l b .taken)) (inv .channels b (h .0) .rises)
-
-  -- A row's goal is a message that goes on.
-  goal-message : (b : ℕ) → Enters (l .plan) n b → rowGoal (nodeAt l n .targets) (channelAt (l .plan) b .sender) ≢ 0
-      → (m : Message) × In m (put (l .plan) g b) × (goesOn (l .plan) n m ≡ true) × (m .time ≡ rowGoal (nodeAt l n .targets) (channelAt (l .plan) b .sender))
-  goal-message b h d =
-      let A = channelAt (l .plan) b .sender in
-      let ts = nodeAt l n .targets in
-      let f : Target → Bool = λ u. eqb (u .parent) A in
-      elim (greatest-in (map (λ (u : Target). u .parentTime) (keep f ts))) [
-        | inl z ↦ absurd (d z)
-        | inr i ↦
-            (let (u, j, e) = map-in (λ (u : Target). u .parentTime) (keep f ts) i in
-            let (k, q) = keep-in f ts j in
-            let (c, m, t, on, is, _, got-to) = inv .replays n replaying .target-from u k in
-            let same : c ≡ b = one-channel inv n marked b c m t h on (ap (λ (x : Target). x .parent) (sym is) ∙ eqb-true (u .parent) A q) in (
-              m,
-              taken-put inv n marked b m t h (subst (λ (x : ℕ). In (tookAt x m t) (g n)) same on),
-              takes-passed (l .plan) n (applied (ruleAt (l .plan) n) (m .what)) (got-to .channel) (got-to .on-plan) (got-to .leaves) (got-to .takes-it),
-              ap (λ (x : Target). x .parentTime) (sym is) ∙ sym e,
-            ))
-      ]
 
   whole : (b : ℕ) → Enters (l .plan) n b → (k : ℕ) → base b ≤ k → keep (goesOn (l .plan) n) (past timeOf k (row b)) ≡ [] → past timeOf k (row b) ≡ []
   whole b h = ends-held (l .plan) n (base b) (row b) (last-held (decLe G (base b)))
@@ -118,7 +73,7 @@ module _ (l : Line) (g : Ghost) (cut base : ℕ → ℕ) (fed : List Act) (recei
       last-held : Dec (rowGoal (nodeAt l n .targets) (channelAt (l .plan) b .sender) ≤ base b) → (past timeOf (base b) (row b) ≡ []) ⊎ ((m : Message) × In m (row b) × (goesOn (l .plan) n m ≡ true) × Within timeOf (m .time) (row b))
       last-held (yes z) = inl (past-none timeOf (within-higher timeOf (omega (arith, R .to-goal)) (within-until timeOf (laneAt l b .taken) (put (l .plan) g b))))
       last-held (no z) =
-          let (m, i, e, q) = goal-message b h (λ y. z (omega arith)) in
+          let (m, i, e, q) = goal-message inv n replaying b h (λ y. z (omega arith)) in
           let at : m .time ≡ laneAt l b .taken = omega (arith, q, R .to-goal, r .complete b h) in
           inr (
             m,
@@ -141,18 +96,18 @@ module _ (l : Line) (g : Ghost) (cut base : ℕ → ℕ) (fed : List Act) (recei
   took-rebuilt = rebuilt-taken (l .plan) n base row (g n) fs took-own (r .took)
 
   -- What it passes on.
-  pub passing-rebuilt : passing (l .plan) n events ≡ until timeOf (nodeAt l n .time) (passing (l .plan) n (g n)) ++ map (sentOf (l .plan) n) fs
+  passing-rebuilt : passing (l .plan) n events ≡ until timeOf (nodeAt l n .time) (passing (l .plan) n (g n)) ++ map (sentOf (l .plan) n) fs
   passing-rebuilt = rebuilt-passing (l .plan) n base row (g n) fs (nodeAt l n .time) took-own (r .took) (inv .replays n replaying .base-cuts) row-rises (r .got-is)
 
   pub rise-rebuilt : Rises timeOf 0 (passing (l .plan) n events)
   rise-rebuilt =
       subst (λ (x : List Message). Rises timeOf 0 x) (sym passing-rebuilt)
-      (rises-append timeOf (omega arith) (rises-keep timeOf (λ (m : Message). leb (m .time) (nodeAt l n .time)) (inv .events n .rise)) (within-until timeOf (nodeAt l n .time) (passing (l .plan) n (g n))) (rises-sent (l .plan) n (r .rises)))
+      (rises-append timeOf (omega arith) (rises-keep timeOf (λ (m : Message). leb (m .time) (nodeAt l n .time)) (inv .events n .rise)) (within-until timeOf (nodeAt l n .time) (passing (l .plan) n (g n))) (rises-map (sentOf (l .plan) n) timeOf (r .rises)))
 
   pub within-rebuilt : Within timeOf T (passing (l .plan) n events)
   within-rebuilt =
       subst (λ (x : List Message). Within timeOf T x) (sym passing-rebuilt)
-      (within-append timeOf (within-higher timeOf (r .low) (within-until timeOf (nodeAt l n .time) (passing (l .plan) n (g n)))) (within-sent (l .plan) n (r .within)))
+      (within-append timeOf (within-higher timeOf (r .low) (within-until timeOf (nodeAt l n .time) (passing (l .plan) n (g n)))) (within-map (sentOf (l .plan) n) timeOf (r .within)))
 
   -- A leaving channel.
   module _ (c : ℕ) (h : Leaves (l .plan) n c) where

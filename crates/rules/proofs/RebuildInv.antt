@@ -1,34 +1,32 @@
 -- A replaying node goes up with the events placed: the invariant holds with the rebuilt history.
-use Prim.Native.Nat.{ℕ, zero, suc, max, _+_, _<_, _≤_}
+use Prim.Native.Nat.{ℕ, _<_}
 use mathlib.Core.Path.{_≡_, refl, sym, ap, subst, _∙_}
-use mathlib.Core.Logic.{_≢_, _⊎_, inl, inr}
+use mathlib.Core.Logic.{_≢_}
 use mathlib.Core.Bool.{Bool, true, false, true≢false, cond}
-use mathlib.Core.List.{List, [], _∷_, _++_, map}
+use mathlib.Core.List.{List, [], _++_, map, map-map}
 use native.Mathlib.Omega.{arith}
 use native.Mathlib.Decide.{ℕ-discrete}
 use lib.ListN.{length}
 use lib.Dec.{eqb, ltb}
 use borrow.Author.Tests.{eq-eqb, ne-eqb}
-use Rattle.plan.specs.Plan.{Plan, channelAt, nodeCount, channelCount, isSource}
-use Rattle.basics.specs.Update.{changed, changed-there, changed-else}
+use Rattle.plan.specs.Plan.{channelAt, nodeCount, isSource}
+use Rattle.basics.specs.Update.{changed-there, changed-else}
 use Rattle.rules.specs.Lists.{keep, greatestOf}
-use Rattle.rules.specs.Line.{Message, Entry, Status, up, down, replay, Node, Lane, Line, nodeAt, laneAt}
+use Rattle.rules.specs.Line.{Message, up, down, replay, Node, Line, nodeAt, laneAt}
 use Rattle.rules.specs.Clock.{messageOf}
 use Rattle.rules.specs.Plain.{Act, Receipt}
 use Rattle.rules.proofs.ListLaws.{keep-append}
-use Rattle.rules.proofs.Rising.{until, past, Rises, Within, rises-past, until-none, past-none, within-higher, within-until}
+use Rattle.rules.proofs.Rising.{until, past, Rises, Within, rises-past, until-none, past-none, within-higher, within-until, rises-keep, rises-map}
 use Rattle.rules.proofs.PlainRun.{receiptsIn}
 use Rattle.rules.proofs.Witness.{Taken}
-use Rattle.rules.proofs.Ghost.{Event, Ghost, inputOf, entryOf, sentOf, takesMessage, put, got, gotOf, logPut, map-map}
+use Rattle.rules.proofs.Ghost.{Event, Ghost, inputOf, entryOf, sentOf, takesMessage, put, got, gotOf, put-same, got-same, logPut}
 use Rattle.rules.proofs.Passing.{passing}
-use Rattle.rules.proofs.Selecting.{rises-keep}
-use Rattle.rules.proofs.Carried.{took-enters}
-use Rattle.rules.proofs.Inv.{timeOf, isUp, Enters, Leaves, Marks, Nodes, Shape, SenderUp, Channels, Events, Ends, Replays, Inv}
-use Rattle.rules.proofs.InvLaws.{up-not-replay, replay-not-down, replay-marked, marked-took}
-use Rattle.rules.proofs.MarkedLaws.{at-ends, sender-other, receiver-other, parent-unmarked, child-unmarked}
-use Rattle.rules.proofs.Stays.{moved, channel-stays, ends-stay, events-stay, replays-stay, row-stays}
-use Rattle.rules.proofs.Grow.{sender-same, sender-receiving}
-use Rattle.rules.proofs.RebuildEvents.{Rebuilding, row, events, ghost, got-rebuilt, took-rebuilt, rise-rebuilt, within-rebuilt, put-rebuilt, put-rises, put-within, until-rebuilt, rises-sent}
+use Rattle.rules.proofs.Inv.{timeOf, isUp, Enters, Leaves, Nodes, Channels, Events, Ends, Replays, Inv}
+use Rattle.rules.proofs.InvLaws.{up-not-replay, replay-not-down, replay-marked, ends-up}
+use Rattle.rules.proofs.MarkedLaws.{sender-other, receiver-other, parent-up, child-unmarked, child-up}
+use Rattle.rules.proofs.Stays.{moved, unmarked-other, marks-beside, channels-beside, ends-beside, events-stay, replays-stay}
+use Rattle.rules.proofs.Grow.{sender-same, sender-cut, sender-receiving}
+use Rattle.rules.proofs.RebuildEvents.{Rebuilding, events, ghost, got-rebuilt, took-rebuilt, rise-rebuilt, within-rebuilt, put-rebuilt, put-rises, put-within, until-rebuilt}
 
 module _ (l : Line) (g : Ghost) (cut base : ℕ → ℕ) (fed : List Act) (receipts : List Receipt) (crashes : List ℕ) (inv : Inv l g cut base fed receipts crashes) (n : ℕ) (inside : n < nodeCount (l .plan)) (replaying : nodeAt l n .status ≡ replay)
     (T : ℕ) (fs : List Event) (r : Rebuilding l g base n T fs)
@@ -61,12 +59,10 @@ module _ (l : Line) (g : Ghost) (cut base : ℕ → ℕ) (fed : List Act) (recei
   ghost-now m q = changed-there g n (events l g cut base fed receipts crashes inv n replaying T fs r) m q
 
   put-other : (c : ℕ) → channelAt (l .plan) c .sender ≢ n → put (l .plan) ghostAfter c ≡ put (l .plan) g c
-  unfolding put
-  put-other c d = ap (λ (x : List Event). keep (takesMessage (l .plan) c) (map (sentOf (l .plan) (channelAt (l .plan) c .sender)) x)) (ghost-other (channelAt (l .plan) c .sender) d)
+  put-other c d = put-same (l .plan) g ghostAfter c (ghost-other (channelAt (l .plan) c .sender) d)
 
   got-other : (c : ℕ) → channelAt (l .plan) c .receiver ≢ n → got (l .plan) ghostAfter c ≡ got (l .plan) g c
-  unfolding got
-  got-other c d = ap (gotOf c) (ghost-other (channelAt (l .plan) c .receiver) d)
+  got-other c d = got-same (l .plan) g ghostAfter c (ghost-other (channelAt (l .plan) c .receiver) d)
 
   got-now : (b : ℕ) → Enters (l .plan) n b → got (l .plan) ghostAfter b ≡ until timeOf (laneAt l b .taken) (put (l .plan) g b)
   unfolding got
@@ -84,8 +80,7 @@ module _ (l : Line) (g : Ghost) (cut base : ℕ → ℕ) (fed : List Act) (recei
       let old = inv .channels b (h .0) in
       let sender = other (channelAt (l .plan) b .sender) (sender-other inv n b h) in
       let puts = put-other b (sender-other inv n b h) in
-      let was-up : isUp l (channelAt (l .plan) b .sender) = inv .marks .stopped (channelAt (l .plan) b .sender) (parent-unmarked inv n marked b h) in
-      let s = old .sender-up was-up in
+      let s = old .sender-up (parent-up inv n marked b h) in
       let cuts = cut-now b (h .1) in
       record {
         rises = subst (λ (x : List Message). Rises timeOf 0 x) (sym puts) (old .rises);
@@ -94,7 +89,7 @@ module _ (l : Line) (g : Ghost) (cut base : ℕ → ℕ) (fed : List Act) (recei
         sender-up = λ e.
             sender-receiving {old = nodeAt l (channelAt (l .plan) b .receiver) .status ≢ down} (λ x z. replay-not-down (sym (ap (λ (y : ℕ). nodeAt l y .status) (h .1) ∙ replaying) ∙ z))
             (sender-same (ap (λ (x : Node). x .time) (sym sender)) refl (ap (λ (x : Node). keep (takesMessage (l .plan) b) (map messageOf (x .log))) (sym sender)) (sym puts) (sym cuts)
-            (record { within = s .within; cut-within = s .taken-within; taken-within = s .taken-within; to-come = s .to-come; queue = s .queue }));
+            (sender-cut (s .taken-within) s));
       }
 
   -- The log is what was placed.
@@ -102,16 +97,16 @@ module _ (l : Line) (g : Ghost) (cut base : ℕ → ℕ) (fed : List Act) (recei
   unfolding logPut
   log-now c h =
       ap (λ (x : ℕ). keep (takesMessage (l .plan) c) (map messageOf (nodeAt k x .log))) (h .1) ∙ ap (λ (x : Node). keep (takesMessage (l .plan) c) (map messageOf (x .log))) now
-      ∙ ap (keep (takesMessage (l .plan) c)) (map-map (entryOf (l .plan) n) messageOf fs)
+      ∙ ap (keep (takesMessage (l .plan) c)) (map-map messageOf (entryOf (l .plan) n) fs)
 
   channel-leaves : (c : ℕ) → Leaves (l .plan) n c → Channels k ghostAfter cutAfter c
   channel-leaves c h =
       let old = inv .channels c (h .0) in
       let end = inv .ends c (h .0) in
       let down-here : nodeAt l (channelAt (l .plan) c .sender) .status ≡ replay = ap (λ (x : ℕ). nodeAt l x .status) (h .1) ∙ replaying in
-      let child-up : isUp l (channelAt (l .plan) c .receiver) = inv .marks .stopped (channelAt (l .plan) c .receiver) (child-unmarked inv n marked c h) in
+      let up-there = child-up inv n marked c h in
       let d = receiver-other inv n c h in
-      let cuts : cutAfter c ≡ laneAt l c .taken = cut-other c d ∙ old .cut-up child-up in
+      let cuts : cutAfter c ≡ laneAt l c .taken = cut-other c d ∙ old .cut-up up-there in
       let t = laneAt l c .taken in
       let placed = keep (takesMessage (l .plan) c) (map (sentOf (l .plan) n) fs) in
       let time : nodeAt k (channelAt (l .plan) c .sender) .time ≡ T = ap (λ (x : ℕ). nodeAt k x .time) (h .1) ∙ ap (λ (x : Node). x .time) now in
@@ -125,7 +120,7 @@ module _ (l : Line) (g : Ghost) (cut base : ℕ → ℕ) (fed : List Act) (recei
       record {
         rises = put-rises l g cut base fed receipts crashes inv n replaying T fs r c h;
         cut-is =
-            got-other c d ∙ old .cut-is ∙ ap (λ (x : ℕ). until timeOf x (put (l .plan) g c)) (old .cut-up child-up)
+            got-other c d ∙ old .cut-is ∙ ap (λ (x : ℕ). until timeOf x (put (l .plan) g c)) (old .cut-up up-there)
             ∙ sym (until-rebuilt l g cut base fed receipts crashes inv n replaying T fs r c h) ∙ ap (λ (x : ℕ). until timeOf x (put (l .plan) ghostAfter c)) (sym cuts);
         cut-up = λ e. cuts;
         sender-up = λ e.
@@ -138,50 +133,24 @@ module _ (l : Line) (g : Ghost) (cut base : ℕ → ℕ) (fed : List Act) (recei
                 omega (arith, mark),
                 omega (arith, mark, time, r .high c h),
                 end .stopped (λ z. up-not-replay (sym z ∙ down-here))
-                    ∙ sym (until-none timeOf t (omega (arith, mark)) (subst (λ (x : List Message). Rises timeOf t x) (sym (ap (past timeOf t) (log-now c h))) (rises-past timeOf t (rises-keep timeOf (takesMessage (l .plan) c) (rises-sent (l .plan) n (r .rises)))))),
+                    ∙ sym (until-none timeOf t (omega (arith, mark)) (subst (λ (x : List Message). Rises timeOf t x) (sym (ap (past timeOf t) (log-now c h))) (rises-past timeOf t (rises-keep timeOf (takesMessage (l .plan) c) (rises-map (sentOf (l .plan) n) timeOf (r .rises)))))),
               );
             };
       }
 
+  other-unmarked : (m : ℕ) → nodeAt k m .crashed ≡ false → m ≢ n
+  other-unmarked = unmarked-other l steps nodes (l .lanes) n still-marked other
+
+  unmarked-was : (m : ℕ) → nodeAt k m .crashed ≡ false → nodeAt l m .crashed ≡ false
+  unmarked-was m e = ap (λ (x : Node). x .crashed) (sym (other m (other-unmarked m e))) ∙ e
+
   ends-enters : (b : ℕ) → Enters (l .plan) n b → Ends k ghostAfter b
-  ends-enters b h =
-      let up-now : isUp k (channelAt (l .plan) b .sender) = ap (λ (x : Node). x .status) (other (channelAt (l .plan) b .sender) (sender-other inv n b h)) ∙ inv .marks .stopped (channelAt (l .plan) b .sender) (parent-unmarked inv n marked b h) in
-      record {
-        exact = λ e. absurd (true≢false (sym (ap (λ (x : ℕ). nodeAt k x .crashed) (h .1) ∙ still-marked) ∙ e));
-        stopped = λ e. absurd (e up-now);
-        waiting = λ e. absurd (up-not-replay (sym up-now ∙ e));
-      }
+  ends-enters b h = ends-up (ap (λ (x : Node). x .status) (other (channelAt (l .plan) b .sender) (sender-other inv n b h)) ∙ parent-up inv n marked b h) (λ e. absurd (other-unmarked (channelAt (l .plan) b .receiver) e (h .1)))
 
   ends-leaves : (c : ℕ) → Leaves (l .plan) n c → Ends k ghostAfter c
   ends-leaves c h =
-      let d = receiver-other inv n c h in
-      let up-now : isUp k (channelAt (l .plan) c .sender) = ap (λ (x : ℕ). nodeAt k x .status) (h .1) ∙ alive in
-      record {
-        exact = λ e. inv .ends c (h .0) .exact (child-unmarked inv n marked c h) ∙ ap (λ (x : List Message). greatestOf (map timeOf x)) (sym (got-other c d));
-        stopped = λ e. absurd (e up-now);
-        waiting = λ e. absurd (up-not-replay (sym up-now ∙ e));
-      }
-
-  unmarked-other : (m : ℕ) → nodeAt k m .crashed ≡ false → m ≢ n
-  unmarked-other m e q = true≢false (sym (ap (λ (x : ℕ). nodeAt k x .crashed) q ∙ still-marked) ∙ e)
-
-  unmarked-was : (m : ℕ) → nodeAt k m .crashed ≡ false → nodeAt l m .crashed ≡ false
-  unmarked-was m e = ap (λ (x : Node). x .crashed) (sym (other m (unmarked-other m e))) ∙ e
-
-  mark-same : (m : ℕ) → nodeAt k m .crashed ≡ nodeAt l m .crashed
-  mark-same m = elim (ℕ-discrete m n) [
-    | yes q ↦ ap (λ (x : ℕ). nodeAt k x .crashed) q ∙ still-marked ∙ sym (ap (λ (x : ℕ). nodeAt l x .crashed) q ∙ marked)
-    | no d ↦ ap (λ (x : Node). x .crashed) (other m d)
-  ]
-
-  rebuild-marks : Marks k crashes
-  rebuild-marks =
-      record {
-        were-named = λ m e. mark-same m ∙ inv .marks .were-named m e;
-        not-joined = λ b h e. mark-same (channelAt (l .plan) b .receiver) ∙ inv .marks .not-joined b h (sym (mark-same (channelAt (l .plan) b .sender)) ∙ e);
-        between = λ m e. inv .marks .between m (sym (mark-same m) ∙ e);
-        stopped = λ m e. ap (λ (x : Node). x .status) (other m (unmarked-other m e)) ∙ inv .marks .stopped m (unmarked-was m e);
-      }
+      ends-up (ap (λ (x : ℕ). nodeAt k x .status) (h .1) ∙ alive) λ e.
+      inv .ends c (h .0) .exact (child-unmarked inv n marked c h) ∙ ap (λ (x : List Message). greatestOf (map timeOf x)) (sym (got-other c (receiver-other inv n c h)))
 
   rebuild-nodes : Nodes k ghostAfter fed receipts
   rebuild-nodes =
@@ -198,9 +167,9 @@ module _ (l : Line) (g : Ghost) (cut base : ℕ → ℕ) (fed : List Act) (recei
           ],
         );
         beyond = λ m h. ghost-other m (λ q. omega arith) ∙ old .beyond m h;
-        received = λ m e. old .received m (unmarked-was m e) ∙ ap (λ (x : List Event). receiptsIn (l .plan) m (map inputOf x)) (sym (ghost-other m (unmarked-other m e)));
+        received = λ m e. old .received m (unmarked-was m e) ∙ ap (λ (x : List Event). receiptsIn (l .plan) m (map inputOf x)) (sym (ghost-other m (other-unmarked m e)));
         logged = λ m e.
-            (let d = unmarked-other m e in
+            (let d = other-unmarked m e in
             ap (λ (x : Node). x .log) (other m d) ∙ old .logged m (unmarked-was m e) ∙ ap (map (entryOf (l .plan) m)) (sym (ghost-other m d)));
       }
 
@@ -212,7 +181,7 @@ module _ (l : Line) (g : Ghost) (cut base : ℕ → ℕ) (fed : List Act) (recei
           within = λ e. subst (λ (x : Node). Within timeOf (x .time) (passing (l .plan) n (ghostAfter n))) (sym now)
               (subst (λ (x : List Event). Within timeOf T (passing (l .plan) n x)) (sym (ghost-now n refl)) (within-rebuilt l g cut base fed receipts crashes inv n replaying T fs r));
         })
-    | no d ↦ events-stay l steps nodes (l .lanes) g ghostAfter m (other m d) (ghost-other m d) (inv .events m)
+    | no d ↦ events-stay l steps nodes (l .lanes) g ghostAfter m (λ _. other m d) (ghost-other m d) (inv .events m)
   ]
 
   -- Another node that replays is not joined to this one.
@@ -223,21 +192,18 @@ module _ (l : Line) (g : Ghost) (cut base : ℕ → ℕ) (fed : List Act) (recei
       let old : nodeAt l m .status ≡ replay = ap (λ (x : Node). x .status) (sym same) ∙ e in
       let mark = replay-marked (inv .marks) m old in
       let apart : (b : ℕ) → Enters (l .plan) m b → channelAt (l .plan) b .sender ≢ n = λ b h q. true≢false (sym mark ∙ ap (λ (x : ℕ). nodeAt l x .crashed) (sym (h .1)) ∙ child-unmarked inv n marked b (h .0, q)) in
-      replays-stay l steps nodes (l .lanes) g ghostAfter m same (ghost-other m d) (λ c h. refl) cut cutAfter base base
-      (λ b h w. row-stays l steps nodes (l .lanes) g ghostAfter (cut b) (cutAfter b) (base b) (base b) m b same refl (omega (arith, cut-other b (λ q. d (sym (h .1) ∙ q)))) refl (ap (until timeOf (laneAt l b .taken)) (put-other b (apart b h))) w) (λ b h. refl)
-      (λ b y t i. took-enters (l .plan) m (g m) (marked-took (inv .marks) (inv .nodes) m mark) i .1) (inv .replays m old)
+      replays-stay l steps nodes (l .lanes) g ghostAfter m same (ghost-other m d) cut cutAfter base base (λ c h. refl) (λ b y t i. refl)
+      (λ b h. (refl, omega (arith, cut-other b (λ q. d (sym (h .1) ∙ q))), refl, ap (until timeOf (laneAt l b .taken)) (put-other b (apart b h)))) (inv .replays m old)
 
   pub rebuild-inv : Inv k ghostAfter cutAfter base fed receipts crashes
   rebuild-inv =
       record {
         shape = record { nodes-long = long ∙ inv .shape .nodes-long; lanes-long = inv .shape .lanes-long };
         ordered = inv .ordered;
-        marks = rebuild-marks;
+        marks = marks-beside l steps nodes (l .lanes) n still-marked other crashes marked (inv .marks);
         nodes = rebuild-nodes;
         events = rebuild-events;
-        channels = λ c h. at-ends (l .plan) n c h (channel-enters c) (channel-leaves c)
-            (λ d e. channel-stays l steps nodes (l .lanes) g ghostAfter c (other (channelAt (l .plan) c .sender) e) (ap (λ (x : Node). x .status) (other (channelAt (l .plan) c .receiver) d)) refl (got-other c d) cut cutAfter (put-other c e) (cut-other c d) (inv .channels c h));
-        ends = λ c h. at-ends (l .plan) n c h (ends-enters c) (ends-leaves c)
-            (λ d e. ends-stay l steps nodes (l .lanes) g ghostAfter c (other (channelAt (l .plan) c .sender) e) (ap (λ (x : Node). x .status) (other (channelAt (l .plan) c .receiver) d)) refl (got-other c d) (ap (λ (x : Node). x .crashed) (other (channelAt (l .plan) c .receiver) d)) (inv .ends c h));
+        channels = λ c h. channels-beside l steps nodes (l .lanes) g ghostAfter n other (λ x d e. refl) got-other c h cut cutAfter (cut-other c) (put-other c) (channel-enters c) (channel-leaves c) (inv .channels c h);
+        ends = λ c h. ends-beside l steps nodes (l .lanes) g ghostAfter n other (λ x d e. refl) got-other c h (ends-enters c) (ends-leaves c) (inv .ends c h);
         replays = rebuild-replays;
       }

@@ -3,7 +3,7 @@ use Prim.Native.Nat.{ℕ, _<_, _≤_}
 use mathlib.Core.Path.{_≡_, refl, sym, ap, subst, _∙_}
 use mathlib.Core.Logic.{_⊎_, inl, inr, _≢_}
 use mathlib.Core.Bool.{Bool, true, false}
-use mathlib.Core.List.{List, [], _∷_, _++_, map, append-assoc}
+use mathlib.Core.List.{List, [], _∷_, _++_, map}
 use native.Mathlib.Omega.{arith}
 use native.Mathlib.Decide.{ℕ-discrete, decLe}
 use lib.Dec.{ltb}
@@ -12,36 +12,24 @@ use Rattle.basics.specs.Update.{changed, changed-there, changed-else}
 use Rattle.plan.specs.Plan.{Plan, channelAt, channelCount}
 use Rattle.rules.specs.Lists.{keep, keepOne}
 use Rattle.rules.specs.Line.{Message}
-use Rattle.rules.specs.Replay.{passedOn}
-use Rattle.rules.proofs.ListLaws.{keep-append, map-append}
-use Rattle.rules.proofs.Rising.{until, past, Rises, Within, cut-at, rises-past, past-past, past-none, within-higher}
+use Rattle.rules.proofs.ListLaws.{map-append}
+use Rattle.rules.proofs.Rising.{until, past, Rises, Within, cut-at, rises-past, past-past, past-none, within-higher, first-above, first-until, first-past}
 use Rattle.rules.proofs.Members.{In, in-none, in-keep}
-use Rattle.rules.proofs.Selecting.{first-above, first-until, first-past}
-use Rattle.rules.proofs.Witness.{Taken, none, more}
-use Rattle.rules.proofs.Ghost.{Event, fedAt, tookAt, inputOf, sentOf, gotOne, gotOf}
-use Rattle.rules.proofs.Passing.{passing, goesOn}
+use Rattle.rules.proofs.Witness.{Taken, none, more, taken-append}
+use Rattle.rules.proofs.Ghost.{Event, fedAt, tookAt, inputOf, sentOf, gotOf, got-append}
+use Rattle.rules.proofs.Passing.{passing, passing-append, goesOn}
 use Rattle.rules.proofs.Inv.{timeOf, Enters}
-use Rattle.rules.proofs.Kept.{kept, kept-got, kept-taken, Cuts, kept-passing, taken-took, taken-append}
+use Rattle.rules.proofs.Kept.{kept, kept-got, kept-taken, Cuts, kept-passing}
 
 -- Messages of channel b taken at one time.
-abbrev pub tookAll : ℕ → ℕ → List Message → List Event
+abbrev tookAll : ℕ → ℕ → List Message → List Event
 tookAll b t ms = map (λ (m : Message). tookAt b m t) ms
 
 -- For each placed event what its channel's row has past the last one and up to it; those that are not passed on are given the event's time.
-abbrev pub emit : (ℕ → List Message) → (ℕ → ℕ) → List Event → List Event
+abbrev emit : (ℕ → List Message) → (ℕ → ℕ) → List Event → List Event
 emit row last [] = []
 emit row last (fedAt r t ∷ fs) = emit row last fs
 emit row last (tookAt b m t ∷ fs) = tookAll b t (until timeOf (m .time) (past timeOf (last b) (row b))) ++ emit row (changed last b (m .time)) fs
-
--- Joined histories.
-pub got-of-append : (b : ℕ) (es fs : List Event) → gotOf b (es ++ fs) ≡ gotOf b es ++ gotOf b fs
-got-of-append b [] fs = refl
-got-of-append b (e ∷ es) fs = ap (λ (ms : List Message). gotOne b e ++ ms) (got-of-append b es fs) ∙ sym (append-assoc (gotOne b e) (gotOf b es) (gotOf b fs))
-
-pub passing-append : (p : Plan) (n : ℕ) (es fs : List Event) → passing p n (es ++ fs) ≡ passing p n es ++ passing p n fs
-passing-append p n es fs =
-    let goes : Message → Bool = λ m. passedOn p n (m .what) in
-    ap (keep goes) (map-append (sentOf p n) es fs) ∙ keep-append goes (map (sentOf p n) es) (map (sentOf p n) fs)
 
 -- Messages of one channel, taken at one time.
 took-there : (c b t : ℕ) → c ≡ b → (ms : List Message) → gotOf b (tookAll c t ms) ≡ ms
@@ -108,7 +96,7 @@ module _ (p : Plan) (n : ℕ) (row : ℕ → List Message) (b : ℕ) (rises : Ri
         ]
 
   -- The placed events bring the whole row: its held messages are those placed, and none lies behind the last held one.
-  pub emit-got : (last : ℕ → ℕ) (fs : List Event) → gotOf b fs ≡ keep (goesOn p n) (past timeOf (last b) (row b))
+  emit-got : (last : ℕ → ℕ) (fs : List Event) → gotOf b fs ≡ keep (goesOn p n) (past timeOf (last b) (row b))
       → ((k : ℕ) → last b ≤ k → keep (goesOn p n) (past timeOf k (row b)) ≡ [] → past timeOf k (row b) ≡ [])
       → gotOf b (emit row last fs) ≡ past timeOf (last b) (row b)
   emit-got last [] held whole = sym (whole (last b) (omega arith) (sym held))
@@ -117,7 +105,7 @@ module _ (p : Plan) (n : ℕ) (row : ℕ → List Message) (b : ℕ) (rises : Ri
       let new : List Message = until timeOf (m .time) (past timeOf (last c) (row c)) in
       let next : ℕ → ℕ = changed last c (m .time) in
       let wider = last-rises last c m t fs held in
-      got-of-append b (tookAll c t new) (emit row next fs)
+      got-append b (tookAll c t new) (emit row next fs)
       ∙ ap (λ (ms : List Message). gotOf b (tookAll c t new) ++ ms) (emit-got next fs (held-next last c m t fs held) (λ k l. whole k (omega arith)))
       ∙ brings last c m t fs held
 
@@ -132,14 +120,14 @@ ends-held p n base ms (inr (m, i, d, w)) k l none-held =
     ]
 
 module _ (p : Plan) (n : ℕ) (row : ℕ → List Message) where
-  pub emit-taken : (last : ℕ → ℕ) (fs : List Event) → Taken p n (map inputOf fs) → Taken p n (map inputOf (emit row last fs))
+  emit-taken : (last : ℕ → ℕ) (fs : List Event) → Taken p n (map inputOf fs) → Taken p n (map inputOf (emit row last fs))
   emit-taken last [] h = none
   emit-taken last (tookAt c m t ∷ fs) (more l q s h) =
       let new : List Message = until timeOf (m .time) (past timeOf (last c) (row c)) in
-      taken-append p n (tookAll c t new) (emit row (changed last c (m .time)) fs) (took-taken p n c t l q s new) (emit-taken (changed last c (m .time)) fs h)
+      rw (map-append inputOf (tookAll c t new) (emit row (changed last c (m .time)) fs)) (taken-append (took-taken p n c t l q s new) (emit-taken (changed last c (m .time)) fs h))
 
   -- What is passed on of them are the placed ones.
-  pub emit-passing : ((b : ℕ) → Enters p n b → Rises timeOf 0 (row b)) → (last : ℕ → ℕ) (fs : List Event) → Taken p n (map inputOf fs)
+  emit-passing : ((b : ℕ) → Enters p n b → Rises timeOf 0 (row b)) → (last : ℕ → ℕ) (fs : List Event) → Taken p n (map inputOf fs)
       → ((b : ℕ) → Enters p n b → gotOf b fs ≡ keep (goesOn p n) (past timeOf (last b) (row b)))
       → passing p n (emit row last fs) ≡ map (sentOf p n) fs
   emit-passing rises last [] h held = refl
@@ -162,13 +150,13 @@ module _ (p : Plan) (n : ℕ) (base : ℕ → ℕ) (row : ℕ → List Message) 
       → ((k : ℕ) → base b ≤ k → keep (goesOn p n) (past timeOf k (row b)) ≡ [] → past timeOf k (row b) ≡ [])
       → gotOf b (rebuilt base row es fs) ≡ row b
   rebuilt-got b rises same held whole =
-      got-of-append b (kept base es) (emit row base fs)
+      got-append b (kept base es) (emit row base fs)
       ∙ ap (λ (ms : List Message). ms ++ gotOf b (emit row base fs)) (kept-got base b es ∙ same)
       ∙ ap (λ (ms : List Message). until timeOf (base b) (row b) ++ ms) (emit-got p n row b rises base fs held whole)
       ∙ sym (cut-at timeOf (base b) rises)
 
   pub rebuilt-taken : Taken p n (map inputOf es) → Taken p n (map inputOf fs) → Taken p n (map inputOf (rebuilt base row es fs))
-  rebuilt-taken h k = taken-append p n (kept base es) (emit row base fs) (kept-taken p n base es h) (emit-taken p n row base fs k)
+  rebuilt-taken h k = rw (map-append inputOf (kept base es) (emit row base fs)) (taken-append (kept-taken p n base es h) (emit-taken p n row base fs k))
 
   pub rebuilt-passing : (low : ℕ) → Taken p n (map inputOf es) → Taken p n (map inputOf fs)
       → ((b : ℕ) (m : Message) (t : ℕ) → In (tookAt b m t) es → goesOn p n m ≡ true → Cuts low base b m t)
@@ -177,5 +165,5 @@ module _ (p : Plan) (n : ℕ) (base : ℕ → ℕ) (row : ℕ → List Message) 
       → passing p n (rebuilt base row es fs) ≡ until timeOf low (passing p n es) ++ map (sentOf p n) fs
   rebuilt-passing low h k cuts rises held =
       passing-append p n (kept base es) (emit row base fs)
-      ∙ ap (λ (ms : List Message). ms ++ passing p n (emit row base fs)) (kept-passing p n low base es cuts (taken-took p n es h))
+      ∙ ap (λ (ms : List Message). ms ++ passing p n (emit row base fs)) (kept-passing p n low base es cuts h)
       ∙ ap (λ (ms : List Message). until timeOf low (passing p n es) ++ ms) (emit-passing p n row rises base fs k held)

@@ -1,12 +1,11 @@
 -- Take, of a node that replays, keeps the invariant: the record is held or dropped, and the replay may end.
-use Prim.Native.Nat.{ℕ, suc, max, _<_}
-use mathlib.Core.Path.{_≡_, refl, sym, ap, subst, _∙_}
+use Prim.Native.Nat.{ℕ, max, _<_}
+use mathlib.Core.Path.{_≡_, refl, sym, ap, _∙_}
 use mathlib.Core.Bool.{Bool, true, false}
 use mathlib.Core.List.{List, [], _∷_, _++_}
-use mathlib.Core.Option.{Option, some}
-use lib.ListN.{length}
-use Rattle.plan.specs.Plan.{Plan, channelAt, nodeCount, channelCount}
-use Rattle.rules.specs.Line.{Message, Status, replay, Node, Lane, Line, nodeAt, laneAt, withNode, withLane, parents, senderOf}
+use mathlib.Core.Option.{some}
+use Rattle.plan.specs.Plan.{channelAt, nodeCount, channelCount}
+use Rattle.rules.specs.Line.{Message, replay, Node, Line, nodeAt, laneAt, withNode, withLane, parents, senderOf}
 use Rattle.rules.specs.Clock.{raiseHeard, takenFrom}
 use Rattle.rules.specs.Recover.{rowGoal}
 use Rattle.rules.specs.Replay.{holding, endedIfComplete}
@@ -16,7 +15,7 @@ use Rattle.rules.proofs.LineLaws.{node-there}
 use Rattle.rules.proofs.Ghost.{Ghost}
 use Rattle.rules.proofs.Passing.{goesOn, heldOf}
 use Rattle.rules.proofs.Inv.{Inv, isUp}
-use Rattle.rules.proofs.HoldInv.{taken, beside, drop-inv, hold-inv}
+use Rattle.rules.proofs.HoldInv.{taken, drop-inv, hold-inv}
 use Rattle.rules.proofs.EndInv.{Goes, ended-inv}
 
 module _ (l : Line) (g : Ghost) (cut base : ℕ → ℕ) (fed : List Act) (receipts : List Receipt) (crashes : List ℕ) (inv : Inv l g cut base fed receipts crashes)

@@ -1,14 +1,14 @@
--- Lists whose times rise strictly, cut at a time.
-use Prim.Native.Nat.{ℕ, zero, suc, _+_, _<_, _≤_}
+-- Lists whose times rise strictly: cut at a time, joined, under a selection and under a map.
+use Prim.Native.Nat.{ℕ, max, _<_, _≤_}
 use mathlib.Core.Path.{_≡_, refl, sym, ap, _∙_}
-use mathlib.Core.Bool.{Bool, true, false}
-use mathlib.Core.List.{List, [], _∷_, _++_}
+use mathlib.Core.Bool.{Bool, true, false, true≢false}
+use mathlib.Core.List.{List, [], _∷_, _++_, map}
 use native.Mathlib.Omega.{arith}
-use native.Mathlib.Decide.{decLe, decLt}
+use native.Mathlib.Decide.{decLe}
 use lib.Dec.{leb, ltb}
-use borrow.Author.Tests.{lt-ltb, le-ltb, le-leb, lt-leb}
+use borrow.Author.Tests.{lt-ltb, le-ltb, le-leb, lt-leb, leb-true, ltb-true}
 use Rattle.rules.specs.Lists.{keep, keepOne}
-use Rattle.rules.proofs.ListLaws.{keep-append, nil-right}
+use Rattle.rules.proofs.ListLaws.{keep-append, keep-swap, keep-wider, nil-right}
 
 module _ {A : Type 0} (time : A → ℕ) where
   -- Those with a time at most k, and those with one above k.
@@ -103,14 +103,20 @@ module _ {A : Type 0} (time : A → ℕ) where
         ∙ ap (λ (ys : List A). ys ++ past (time x) (x ∷ rest)) (past-none (within-higher (omega arith) (within-until k xs)))
         ∙ ap (λ (t : Bool). keepOne t x (past (time x) rest)) (le-ltb (time x) (time x) (omega arith)) ∙ past-all (time x) (omega arith) q
 
-  -- One more at the end, later than all.
+  -- One list behind another, later than it, or one more.
+  pub rises-append : {a j : ℕ} {xs ys : List A} → a ≤ j → Rises a xs → Within j xs → Rises j ys → Rises a (xs ++ ys)
+  rises-append h none none-in s = rises-lower h s
+  rises-append h (more {x = x} k r) (more-in i w) s = more {x = x} k (rises-append i r w s)
+
+  pub within-append : {k : ℕ} {xs ys : List A} → Within k xs → Within k ys → Within k (xs ++ ys)
+  within-append none-in v = v
+  within-append (more-in h w) v = more-in h (within-append w v)
+
   pub rises-snoc : {a k : ℕ} {xs : List A} (x : A) → a < time x → Within k xs → k < time x → Rises a xs → Rises a (xs ++ x ∷ [])
-  rises-snoc x l none-in m none = more {x = x} l none
-  rises-snoc x l (more-in {x = y} h w) m (more g r) = more {x = y} g (rises-snoc x (omega arith) w m r)
+  rises-snoc {a} {k} x l w m r = rises-append {j = max a k} (omega arith) r (within-higher (omega arith) w) (more {x = x} (omega arith) none)
 
   pub within-snoc : {k : ℕ} {xs : List A} (x : A) → time x ≤ k → Within k xs → Within k (xs ++ x ∷ [])
-  within-snoc x l none-in = more-in {x = x} l none-in
-  within-snoc x l (more-in {x = y} h w) = more-in {x = y} h (within-snoc x l w)
+  within-snoc x l w = within-append w (more-in {x = x} l none-in)
 
   pub until-snoc : {j : ℕ} (xs : List A) (x : A) → j < time x → until j (xs ++ x ∷ []) ≡ until j xs
   until-snoc {j} xs x l = keep-append (λ (y : A). leb (time y) j) xs (x ∷ []) ∙ ap (λ (t : Bool). until j xs ++ keepOne t x []) (lt-leb (time x) j l) ∙ nil-right (until j xs)
@@ -118,22 +124,71 @@ module _ {A : Type 0} (time : A → ℕ) where
   pub past-snoc : {j : ℕ} (xs : List A) (x : A) → j < time x → past j (xs ++ x ∷ []) ≡ past j xs ++ x ∷ []
   past-snoc {j} xs x l = keep-append (λ (y : A). ltb j (time y)) xs (x ∷ []) ∙ ap (λ (t : Bool). past j xs ++ keepOne t x []) (lt-ltb j (time x) l)
 
-  -- A later cut forgets an earlier one.
+  -- What lies past two times lies past the later one, and what lies up to two up to the earlier one.
   pub past-past : (j k : ℕ) → j ≤ k → (xs : List A) → past k (past j xs) ≡ past k xs
-  past-past j k l [] = refl
-  past-past j k l (x ∷ xs) =
-      elim (decLe (time x) j) [
-        | yes h ↦ rw (le-ltb j (time x) h, le-ltb k (time x) (omega arith)) (past-past j k l xs)
-        | no h ↦ rw (lt-ltb j (time x) (omega arith)) (ap (λ (ys : List A). keepOne (ltb k (time x)) x ys) (past-past j k l xs))
-      ]
+  past-past j k h xs = keep-wider (λ (x : A). ltb k (time x)) (λ (x : A). ltb j (time x)) (λ x e. lt-ltb j (time x) (omega (arith, ltb-true k (time x) e))) xs
+
+  pub until-until : (j k : ℕ) → j ≤ k → (xs : List A) → until j (until k xs) ≡ until j xs
+  until-until j k h xs = keep-wider (λ (x : A). leb (time x) j) (λ (x : A). leb (time x) k) (λ x e. le-leb (time x) k (omega (arith, leb-true (time x) j e))) xs
 
   pub within-first : {k : ℕ} {x : A} {xs : List A} → Within k (x ∷ xs) → (time x ≤ k) × Within k xs
   within-first (more-in h w) = (h, w)
 
+  -- Under a selection.
+  pub rises-one : {a : ℕ} (t : Bool) {x : A} {xs : List A} → a < time x → Rises (time x) xs → Rises a (keepOne t x xs)
+  rises-one true {x} h r = more {x = x} h r
+  rises-one false {x} h r = rises-lower (omega arith) r
+
+  pub rises-rest : {a : ℕ} (t : Bool) (x : A) (xs : List A) → Rises a (keepOne t x xs) → Rises a xs
+  rises-rest true x xs (more h r) = rises-lower (omega arith) r
+  rises-rest false x xs r = r
+
+  pub rises-after : {a : ℕ} (t : Bool) (x : A) (xs : List A) → t ≡ true → Rises a (keepOne t x xs) → Rises (time x) xs
+  rises-after true x xs e (more h r) = r
+  rises-after false x xs e r = absurd (true≢false (sym e))
+
+  module _ (f : A → Bool) where
+    pub rises-keep : {a : ℕ} {xs : List A} → Rises a xs → Rises a (keep f xs)
+    rises-keep none = none
+    rises-keep (more {x = x} h r) = rises-one (f x) h (rises-keep r)
+
+    pub within-keep : {k : ℕ} {xs : List A} → Within k xs → Within k (keep f xs)
+    within-keep none-in = none-in
+    within-keep {k} (more-in {x = x} {xs = xs} h w) = one (f x) (within-keep w)
+      where
+        one : (t : Bool) → Within k (keep f xs) → Within k (keepOne t x (keep f xs))
+        one true v = more-in {x = x} h v
+        one false v = v
+
+    -- The first that a test passes in a rising list: it lies past the list's bound, alone up to its own time, and the others lie past that.
+    module _ {a : ℕ} {xs : List A} (x : A) (rest : List A) (r : Rises a xs) (e : keep f xs ≡ x ∷ rest) where
+      kept-rises : (a < time x) × Rises (time x) rest
+      kept-rises = first-of (rw e at (rises-keep r))
+
+      pub first-above : a < time x
+      first-above = kept-rises .0
+
+      pub first-until : keep f (until (time x) xs) ≡ x ∷ []
+      first-until =
+          keep-swap f (λ (y : A). leb (time y) (time x)) xs ∙ ap (until (time x)) e
+          ∙ ap (λ (t : Bool). keepOne t x (until (time x) rest)) (le-leb (time x) (time x) (omega arith))
+          ∙ ap (λ (ys : List A). x ∷ ys) (until-none (time x) (omega arith) (kept-rises .1))
+
+      pub first-past : keep f (past (time x) xs) ≡ rest
+      first-past =
+          keep-swap f (λ (y : A). ltb (time x) (time y)) xs ∙ ap (past (time x)) e
+          ∙ ap (λ (t : Bool). keepOne t x (past (time x) rest)) (le-ltb (time x) (time x) (omega arith))
+          ∙ past-all (time x) (omega arith) (kept-rises .1)
+
   pub within-past : (k : ℕ) {j : ℕ} {xs : List A} → Within j xs → Within j (past k xs)
-  within-past k none-in = none-in
-  within-past k {j} (more-in {x = x} {xs = xs} h w) = one (ltb k (time x)) (within-past k w)
-    where
-      one : (b : Bool) → Within j (past k xs) → Within j (keepOne b x (past k xs))
-      one true v = more-in h v
-      one false v = v
+  within-past k w = within-keep (λ (x : A). ltb k (time x)) w
+
+-- Under a map.
+module _ {A B : Type 0} (f : A → B) (time : B → ℕ) where
+  pub rises-map : {a : ℕ} {xs : List A} → Rises (λ (x : A). time (f x)) a xs → Rises time a (map f xs)
+  rises-map none = none
+  rises-map (more {x = x} h r) = more {x = f x} h (rises-map r)
+
+  pub within-map : {k : ℕ} {xs : List A} → Within (λ (x : A). time (f x)) k xs → Within time k (map f xs)
+  within-map none-in = none-in
+  within-map (more-in {x = x} h w) = more-in {x = f x} h (within-map w)

@@ -1,14 +1,13 @@
--- Every accepted frame keeps the invariant: its kinds put together.
+-- Every accepted frame keeps the invariant: the kinds of steps put together.
 use Prim.Native.Nat.{ℕ, suc, _<_}
 use mathlib.Core.Path.{_≡_, refl, sym, ap, subst, _∙_}
 use mathlib.Core.Logic.{_≢_, _⊎_, inl, inr}
 use mathlib.Core.Bool.{true, false}
-use mathlib.Core.List.{List, [], _∷_, _++_}
-use mathlib.Core.Option.{Option, none, some}
-use native.Mathlib.Omega.{arith}
+use mathlib.Core.List.{List, [], _∷_, _++_, nil≢cons}
+use mathlib.Core.Option.{Option, some}
 use Rattle.basics.specs.Update.{changed}
 use Rattle.plan.specs.Record.{recordLayout}
-use Rattle.plan.specs.Plan.{channelAt, nodeCount, channelCount, isSource, isSink}
+use Rattle.plan.specs.Plan.{channelAt, channelCount}
 use Rattle.rules.specs.Line.{Message, Entry, Status, up, down, replay, Line, nodeAt, laneAt, parents, isReplay, senderOf, receiverOf}
 use Rattle.rules.specs.Frame.{Frame, feed, send, take, crash, recover, frameOf}
 use Rattle.rules.specs.Clock.{nextToSend, raiseHeard}
@@ -17,6 +16,7 @@ use Rattle.rules.specs.Step.{sendable, replaying, fedLine, sentLine, tak
 use Rattle.rules.specs.Plain.{Act, feeds, Receipt}
 use Rattle.rules.specs.Claim.{firstReceipt, receiptOf, feedOf, crashOf}
 use Rattle.rules.proofs.ListLaws.{nil-right}
+use Rattle.rules.proofs.Options.{some-same, none-some}
 use Rattle.rules.proofs.Ghost.{Ghost, fedAt, tookAt, later}
 use Rattle.rules.proofs.Inv.{Inv, isUp}
 use Rattle.rules.proofs.InvLaws.{up-not-down, up-not-replay}
@@ -36,15 +36,6 @@ Kept l fed receipts crashes = (g : Ghost) × (cut : ℕ → ℕ) × (base : ℕ 
 pub kept-same : {l k : Line} {fed fed′ : List Act} {receipts receipts′ : List Receipt} {crashes crashes′ : List ℕ} → k ≡ l → fed′ ≡ fed → receipts′ ≡ receipts → crashes′ ≡ crashes → Kept l fed receipts crashes → Kept k fed′ receipts′ crashes′
 kept-same line feds received crashed h = rw (line, feds, received, crashed) h
 
-some-line : {k m : Line} → some k ≡ some m → k ≡ m
-some-line e = cc
-
-none-some : {e : Entry} → none ≡ some e → ⊥
-none-some q = let z : _≡_ {A = ℕ} 0 1 = cc in omega arith
-
-empty-not : {m : Message} {rest : List Message} → [] ≡ m ∷ rest → ⊥
-empty-not q = let z : _≡_ {A = ℕ} 0 1 = cc in omega arith
-
 up-unless : (s : Status) → (s ≢ up → ⊥) → s ≡ up
 up-unless up f = refl
 up-unless down f = absurd (f (λ e. up-not-down (sym e)))
@@ -62,36 +53,36 @@ first-up : (b : ℕ) (m : Message) (rest : List Message) (l : Line) → replayin
 first-up b m rest l e = rw (e, takenFirst)
 
 module _ (l : Line) (g : Ghost) (cut base : ℕ → ℕ) (fed : List Act) (receipts : List Receipt) (crashes : List ℕ) (inv : Inv l g cut base fed receipts crashes) where
-  pub feed-step : (n : ℕ) (r : List ℕ) → CanFeed l n → (k : Line) → effect l (feed n r) ≡ some k
+  feed-step : (n : ℕ) (r : List ℕ) → CanFeed l n → (k : Line) → effect l (feed n r) ≡ some k
       → Inv k (later g n (fedAt (recordLayout .read r) (suc (nodeAt l n .time)))) cut base (fed ++ feeds n (recordLayout .read r) ∷ []) receipts crashes
   unfolding effect fedLine
   feed-step n r can k e =
-      subst (λ (x : Line). Inv x (later g n (fedAt (recordLayout .read r) (suc (nodeAt l n .time)))) cut base (fed ++ feeds n (recordLayout .read r) ∷ []) receipts crashes) (some-line e)
+      subst (λ (x : Line). Inv x (later g n (fedAt (recordLayout .read r) (suc (nodeAt l n .time)))) cut base (fed ++ feeds n (recordLayout .read r) ∷ []) receipts crashes) (some-same e)
       (feed-inv l g cut base fed receipts crashes inv n (recordLayout .read r) (can .here) (can .source))
 
   -- A replaying sender has nothing to send, its log is empty.
-  pub sender-sends : (b : ℕ) (e : Entry) → sendable l b ≡ some e → nodeAt l (channelAt (l .plan) b .sender) .status ≢ down → isUp l (channelAt (l .plan) b .sender)
+  sender-sends : (b : ℕ) (e : Entry) → sendable l b ≡ some e → nodeAt l (channelAt (l .plan) b .sender) .status ≢ down → isUp l (channelAt (l .plan) b .sender)
   unfolding sendable
   sender-sends b e first d = elim (up-or-replay (nodeAt l (channelAt (l .plan) b .sender) .status) d) [
     | inl q ↦ q
-    | inr q ↦ absurd (none-some (sym (ap (nextToSend (channelAt (l .plan) b) (laneAt l b .mark)) (inv .replays (channelAt (l .plan) b .sender) q .log-none)) ∙ first))
+    | inr q ↦ none-some (sym (ap (nextToSend (channelAt (l .plan) b) (laneAt l b .mark)) (inv .replays (channelAt (l .plan) b .sender) q .log-none)) ∙ first)
   ]
 
-  pub send-step : (b : ℕ) → CanSend l b → (k : Line) → effect l (send b) ≡ some k → Inv k g cut base fed receipts crashes
+  send-step : (b : ℕ) → CanSend l b → (k : Line) → effect l (send b) ≡ some k → Inv k g cut base fed receipts crashes
   unfolding effect
   send-step b can k e =
-      subst (λ (x : Line). Inv x g cut base fed receipts crashes) (ap (λ (o : Option Entry). sentLine b o l) (sym (can .first)) ∙ some-line e)
+      subst (λ (x : Line). Inv x g cut base fed receipts crashes) (ap (λ (o : Option Entry). sentLine b o l) (sym (can .first)) ∙ some-same e)
       (send-inv l g cut base fed receipts crashes inv b (can .entry) (can .here) (can .first) (sender-sends b (can .entry) (can .first) (can .sender)) (can .receiver))
 
-  pub crash-step : (n : ℕ) → CanCrash l n → (k : Line) → effect l (crash n) ≡ some k → Inv k g cut base fed receipts (crashes ++ n ∷ [])
+  crash-step : (n : ℕ) → CanCrash l n → (k : Line) → effect l (crash n) ≡ some k → Inv k g cut base fed receipts (crashes ++ n ∷ [])
   unfolding effect
   crash-step n can k e =
-      subst (λ (x : Line). Inv x g cut base fed receipts (crashes ++ n ∷ [])) (some-line e)
+      subst (λ (x : Line). Inv x g cut base fed receipts (crashes ++ n ∷ [])) (some-same e)
       (crash-inv l g cut base fed receipts crashes inv n (can .here) (can .no-source) (can .no-sink) (can .parents) (can .children))
 
   -- The sender of a channel with a message on it is up.
-  pub sender-gives : (b : ℕ) (m : Message) (rest : List Message) → b < channelCount (l .plan) → laneAt l b .queue ≡ m ∷ rest → isUp l (channelAt (l .plan) b .sender)
-  sender-gives b m rest here first = up-unless (nodeAt l (channelAt (l .plan) b .sender) .status) (λ d. empty-not (sym (inv .ends b here .stopped d) ∙ first))
+  sender-gives : (b : ℕ) (m : Message) (rest : List Message) → b < channelCount (l .plan) → laneAt l b .queue ≡ m ∷ rest → isUp l (channelAt (l .plan) b .sender)
+  sender-gives b m rest here first = up-unless (nodeAt l (channelAt (l .plan) b .sender) .status) (λ d. nil≢cons (sym (inv .ends b here .stopped d) ∙ first))
 
   module _ (b : ℕ) (can : CanTake l b) (alive : isUp l (channelAt (l .plan) b .receiver)) where
     abbrev n : ℕ
@@ -104,14 +95,14 @@ module _ (l : Line) (g : Ghost) (cut base : ℕ → ℕ) (fed : List Act) (recei
     unfolding effect takenLine
     taken-is = ap (λ (q : List Message). takenFirst b q l) (can .first) ∙ first-up b m (can .rest) l (ap isReplay alive)
 
-    pub take-up-step : (k : Line) → effect l (take b) ≡ some k
+    take-up-step : (k : Line) → effect l (take b) ≡ some k
         → Inv k (later g n (tookAt b m (suc (nodeAt l n .time)))) (changed cut b (m .time)) base fed (receipts ++ receiptOf l (take b)) crashes
     unfolding takenUp takenLane
     take-up-step k e =
         let one : receiptOf l (take b) ≡ record { receiver = n; what = m .what; sender = channelAt (l .plan) b .sender } ∷ [] = ap (firstReceipt l b) (can .first) in
         let heard = raiseHeard (parents (l .plan) (senderOf l b)) (laneAt l b .heard) (m .origin) in
         rw one
-        (subst (λ (x : Line). Inv x (later g n (tookAt b m (suc (nodeAt l n .time)))) (changed cut b (m .time)) base fed (receipts ++ record { receiver = n; what = m .what; sender = channelAt (l .plan) b .sender } ∷ []) crashes) (some-line (sym taken-is ∙ e))
+        (subst (λ (x : Line). Inv x (later g n (tookAt b m (suc (nodeAt l n .time)))) (changed cut b (m .time)) base fed (receipts ++ record { receiver = n; what = m .what; sender = channelAt (l .plan) b .sender } ∷ []) crashes) (some-same (sym taken-is ∙ e))
         (take-inv l g cut base fed receipts crashes inv b (can .here) m (can .rest) heard (can .first) (sender-gives b m (can .rest) (can .here) (can .first)) alive))
 
   module _ (b : ℕ) (can : CanTake l b) (again : nodeAt l (channelAt (l .plan) b .receiver) .status ≡ replay) where
@@ -119,7 +110,7 @@ module _ (l : Line) (g : Ghost) (cut base : ℕ → ℕ) (fed : List Act) (recei
     unfolding effect takenLine
     again-is = ap (λ (q : List Message). takenFirst b q l) (can .first) ∙ first-again b (can .message) (can .rest) l (ap isReplay again)
 
-    pub take-again-step : (k : Line) → effect l (take b) ≡ some k → Kept k fed (receipts ++ receiptOf l (take b)) crashes
+    take-again-step : (k : Line) → effect l (take b) ≡ some k → Kept k fed (receipts ++ receiptOf l (take b)) crashes
     take-again-step k e =
         let one : receiptOf l (take b) ≡ record { receiver = channelAt (l .plan) b .receiver; what = can .message .what; sender = channelAt (l .plan) b .sender } ∷ [] = ap (firstReceipt l b) (can .first) in
         let (g′, cut′, i) = replay-take-inv l g cut base fed receipts crashes inv b (can .here) (can .message) (can .rest) (can .first) (sender-gives b (can .message) (can .rest) (can .here) (can .first)) again (can .below-goal again) k (sym again-is ∙ e) in

@@ -1,18 +1,14 @@
--- A change to all channels that enter a node and another to all that leave it, as Crash and Recover make them.
-use Prim.Native.Nat.{ℕ, zero, suc, _+_, _<_, _≤_}
-use mathlib.Core.Path.{_≡_, refl, sym, ap, subst, _∙_}
+-- One change to all channels that enter a node and another to all that leave it, as Crash and Recover make them.
+use Prim.Native.Nat.{ℕ}
+use mathlib.Core.Path.{_≡_, refl, ap, _∙_}
 use mathlib.Core.Logic.{_≢_}
-use mathlib.Core.Bool.{Bool, true, false}
 use mathlib.Core.List.{List, [], _∷_}
 use native.Mathlib.Omega.{arith}
-use lib.ListN.{length, getD}
-use lib.Dec.{eqb}
-use borrow.Author.Tests.{eq-eqb, ne-eqb}
-use Rattle.plan.specs.declared.Channel.{Channel}
-use Rattle.plan.specs.Plan.{Plan, noChannel, channelAt, channelCount, entering, leaving}
+use lib.ListN.{length}
+use Rattle.plan.specs.Plan.{channelAt, channelCount, entering, leaving}
 use Rattle.rules.specs.Line.{Lane, Line, laneAt, withLane, withLanes}
-use Rattle.rules.proofs.Members.{In}
-use Rattle.rules.proofs.LanesLaws.{Rising, Away, numbers-rise, numbers-in, numbers-away, lanes-in, lanes-away, lanes-count}
+use Rattle.rules.proofs.LanesLaws.{lanes-in, lanes-away, lanes-count}
+use Rattle.rules.proofs.Joins.{in-entering, in-leaving, entering-rise, leaving-rise, away-entering, away-leaving}
 use Rattle.rules.proofs.Inv.{Ordered, Enters, Leaves}
 use Rattle.rules.proofs.Stays.{moved}
 
@@ -21,34 +17,6 @@ module _ (f : ℕ → Lane → Lane) where
   unfolding withLane
   lanes-line [] l = refl
   lanes-line (b ∷ bs) l = lanes-line bs (withLane b (f b (laneAt l b)) l)
-
-from-zero : (b : ℕ) → 0 + b ≡ b
-from-zero b = omega arith
-
-module _ (p : Plan) (n : ℕ) where
-  entering-rise : Rising 0 (entering p n)
-  unfolding entering
-  entering-rise = numbers-rise (λ (c : Channel). eqb (c .receiver) n) 0 (p .channels)
-
-  leaving-rise : Rising 0 (leaving p n)
-  unfolding leaving
-  leaving-rise = numbers-rise (λ (c : Channel). eqb (c .sender) n) 0 (p .channels)
-
-  pub in-entering : (b : ℕ) → Enters p n b → In b (entering p n)
-  unfolding entering
-  in-entering b (h, q) = subst (λ (x : ℕ). In x (entering p n)) (from-zero b) (numbers-in (λ (c : Channel). eqb (c .receiver) n) 0 (p .channels) noChannel b h (eq-eqb (channelAt p b .receiver) n q))
-
-  pub in-leaving : (b : ℕ) → Leaves p n b → In b (leaving p n)
-  unfolding leaving
-  in-leaving b (h, q) = subst (λ (x : ℕ). In x (leaving p n)) (from-zero b) (numbers-in (λ (c : Channel). eqb (c .sender) n) 0 (p .channels) noChannel b h (eq-eqb (channelAt p b .sender) n q))
-
-  away-entering : (b : ℕ) → channelAt p b .receiver ≢ n → Away b (entering p n)
-  unfolding entering
-  away-entering b d = subst (λ (x : ℕ). Away x (entering p n)) (from-zero b) (numbers-away (λ (c : Channel). eqb (c .receiver) n) 0 (p .channels) noChannel b (ne-eqb (channelAt p b .receiver) n d))
-
-  away-leaving : (b : ℕ) → channelAt p b .sender ≢ n → Away b (leaving p n)
-  unfolding leaving
-  away-leaving b d = subst (λ (x : ℕ). Away x (leaving p n)) (from-zero b) (numbers-away (λ (c : Channel). eqb (c .sender) n) 0 (p .channels) noChannel b (ne-eqb (channelAt p b .sender) n d))
 
 module _ (entered left : ℕ → Lane → Lane) (l : Line) (n : ℕ) (ordered : Ordered (l .plan)) (long : length (l .lanes) ≡ channelCount (l .plan)) where
   abbrev pub inner : Line
@@ -67,13 +35,13 @@ module _ (entered left : ℕ → Lane → Lane) (l : Line) (n : ℕ) (ordered : 
 
   pub swept-enters : (c : ℕ) → Enters (l .plan) n c → laneAt swept c ≡ entered c (laneAt l c)
   swept-enters c (h, q) =
-      lanes-in entered inner c (rw (lanes-count left (leaving (l .plan) n) l, long) h) (entering-rise (l .plan) n) (in-entering (l .plan) n c (h, q))
+      lanes-in entered inner c (rw (lanes-count left (leaving (l .plan) n) l, long) h) (entering-rise (l .plan) n) (in-entering (l .plan) n c h q)
       ∙ ap (entered c) (lanes-away left l c (away-leaving (l .plan) n c (λ s. omega (arith, ordered .forward c h))))
 
   pub swept-leaves : (c : ℕ) → Leaves (l .plan) n c → laneAt swept c ≡ left c (laneAt l c)
   swept-leaves c (h, q) =
       lanes-away entered inner c (away-entering (l .plan) n c (λ s. omega (arith, ordered .forward c h)))
-      ∙ lanes-in left l c (rw long h) (leaving-rise (l .plan) n) (in-leaving (l .plan) n c (h, q))
+      ∙ lanes-in left l c (rw long h) (leaving-rise (l .plan) n) (in-leaving (l .plan) n c h q)
 
   pub swept-else : (c : ℕ) → channelAt (l .plan) c .receiver ≢ n → channelAt (l .plan) c .sender ≢ n → laneAt swept c ≡ laneAt l c
   swept-else c r s = lanes-away entered inner c (away-entering (l .plan) n c r) ∙ lanes-away left l c (away-leaving (l .plan) n c s)

@@ -4,7 +4,6 @@ use mathlib.Core.Path.{_≡_, refl, sym, ap, subst, _∙_}
 use mathlib.Core.Logic.{_⊎_, inl, inr}
 use mathlib.Core.Bool.{Bool, true, false, cond, _&&_}
 use mathlib.Core.List.{List, [], _∷_, _++_, map}
-use native.Mathlib.Omega.{arith}
 use lib.Dec.{ltb, leb, eqb}
 use borrow.Author.Tests.{eq-eqb, eqb-true, lt-ltb, ltb-true}
 use Rattle.basics.specs.Bools.{both-true}
@@ -12,24 +11,9 @@ use Rattle.plan.specs.Plan.{Plan, channelAt, channelCount, leaving}
 use Rattle.rules.specs.Lists.{keep, joined, greatestOf, leastOf}
 use Rattle.rules.specs.Line.{Origin, fed, made, Entry, Target, Line, nodeAt, laneAt}
 use Rattle.rules.specs.Recover.{childTimes, lowOf, highOf, triple, triples, childTriples, sameTarget, targetBefore, addTarget, sortTargets, targetsOf, restored}
-use Rattle.rules.proofs.Members.{In, here, there, in-none, in-first, in-keep, keep-in, in-map, map-in, in-left, in-right, append-in, in-joined, joined-in, in-greatest}
+use Rattle.rules.proofs.Members.{In, here, there, in-none, in-first, in-keep, keep-in, in-map, map-in, in-left, in-right, append-in, in-joined, joined-in, map-same, in-greatest, in-least, least-greatest}
 use Rattle.rules.proofs.ListLaws.{nil-right}
 use Rattle.rules.proofs.Joins.{in-leaving, leaving-in}
-
--- The least of some numbers is none above any, and none above the greatest.
-pub in-least : {n : ℕ} {ns : List ℕ} → In n ns → leastOf ns ≤ n
-in-least {n} (here {xs = []}) = omega arith
-in-least {n} (here {xs = m ∷ ns}) = omega arith
-in-least (there {y = m} {xs = []} i) = absurd (in-none i)
-in-least (there {y = m} {xs = k ∷ ns} i) = let h = in-least i in omega arith
-
-pub least-greatest : (ns : List ℕ) → leastOf ns ≤ greatestOf ns
-least-greatest [] = omega arith
-least-greatest (n ∷ ns) =
-    let first : In n (n ∷ ns) = here in
-    let low = in-least first in
-    let high = in-greatest first in
-    omega arith
 
 -- The triples of a log.
 abbrev targetAt : ℕ → ℕ → ℕ → Target
@@ -176,10 +160,6 @@ module _ (l : Line) (n : ℕ) (u : Target) where
 pub triples-snoc : (n : ℕ) (log : List Entry) (e : Entry) → triple n (e .origin) (e .before) ≡ [] → triples n (log ++ e ∷ []) ≡ triples n log
 triples-snoc n [] e q = nil-right (triple n (e .origin) (e .before)) ∙ q
 triples-snoc n (d ∷ log) e q = ap (λ (ts : List Target). triple n (d .origin) (d .before) ++ ts) (triples-snoc n log e q)
-
-map-same : {A B : Type 0} (f g : A → B) (xs : List A) → ((x : A) → In x xs → f x ≡ g x) → map f xs ≡ map g xs
-map-same f g [] h = refl
-map-same f g (x ∷ xs) h = ap (λ (y : _). y ∷ map f xs) (h x here) ∙ ap (λ (ys : List _). g x ∷ ys) (map-same f g xs (λ y i. h y (there i)))
 
 -- Another line with the same children's entries, and one with the same triples in the children's logs.
 module _ (l k : Line) (n : ℕ) (plans : k .plan ≡ l .plan) where

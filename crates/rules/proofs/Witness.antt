@@ -1,14 +1,14 @@
 -- The run of the plain line that a history stands for: all feeds in order, then each node's takes, nodes rising.
-use Prim.Native.Nat.{ℕ, zero, suc, _+_, _<_, _≤_}
+use Prim.Native.Nat.{ℕ, zero, suc, _<_, _≤_}
 use mathlib.Core.Path.{_≡_, refl, sym, ap, subst, fun-ext, _∙_}
 use mathlib.Core.Logic.{_≢_}
-use mathlib.Core.Bool.{Bool, true, false, cond}
+use mathlib.Core.Bool.{Bool, cond}
 use mathlib.Core.List.{List, [], _∷_, _++_, map, append-assoc}
 use native.Mathlib.Omega.{arith}
 use native.Mathlib.Decide.{decLt, ℕ-discrete}
 use lib.ListN.{length, getD, length-map}
-use lib.Dec.{eqb, ltb}
-use borrow.Author.Tests.{eq-eqb, ne-eqb, lt-ltb, le-ltb}
+use lib.Dec.{ltb}
+use borrow.Author.Tests.{eq-eqb, lt-ltb, le-ltb}
 use Rattle.plan.specs.declared.Record.{Record}
 use Rattle.plan.specs.declared.Channel.{Channel}
 use Rattle.plan.specs.Plan.{Plan, channelAt}
@@ -31,6 +31,10 @@ takesOf (i ∷ is) = takeOf i ++ takesOf is
 pub data Taken (p : Plan) (n : ℕ) : List Input → Type 0 where
   none : Taken p n []
   more : {b : ℕ} {r : Record} {is : List Input} → b < length (p .channels) → channelAt p b .receiver ≡ n → channelAt p b .sender < n → Taken p n is → Taken p n (tookIn b r ∷ is)
+
+pub taken-append : {p : Plan} {n : ℕ} {is js : List Input} → Taken p n is → Taken p n js → Taken p n (is ++ js)
+taken-append none t = t
+taken-append (more h q s r) t = more h q s (taken-append r t)
 
 -- Every channel has given a part of what was put on it.
 abbrev pub Prefixed : Plan → History → Type 0
