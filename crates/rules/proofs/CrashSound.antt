@@ -22,7 +22,7 @@ use Rattle.rules.proofs.Inv.{Shape, Ordered, Enters, Leaves}
 use Rattle.rules.proofs.InvLaws.{up-not-down, up-not-replay, replay-not-down, if-marked}
 use Rattle.rules.proofs.MarkedLaws.{at-ends}
 use Rattle.rules.proofs.Accepted.{Passed, CanCrash, can-crash}
-use Rattle.rules.proofs.EndInv.{some-same}
+use Rattle.rules.proofs.Options.{some-same}
 use Rattle.rules.proofs.Standing.{NodeFits, NodeSound, Covers, LaneFits, ChannelSound, Standing, Replays, Sound}
 use Rattle.rules.proofs.SoundStays.{node-stays, channel-stays, replays-stay, counted-sound}
 use Rattle.rules.proofs.StartSound.{fresh-fits, fresh-flows, fresh-cleared}

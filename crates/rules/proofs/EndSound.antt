@@ -21,7 +21,7 @@ use Rattle.rules.proofs.LineLaws.{node-there, node-else}
 use Rattle.rules.proofs.Joins.{leaving-in}
 use Rattle.rules.proofs.Inv.{Leaves}
 use Rattle.rules.proofs.InvLaws.{up-not-down, up-not-replay}
-use Rattle.rules.proofs.EndInv.{some-same, none-some}
+use Rattle.rules.proofs.Options.{some-same, none-some}
 use Rattle.rules.proofs.Standing.{heldTime, heldFrom, EntryFits, NodeFits, Covers, NodeSound, Standing, Replays, Sound}
 use Rattle.rules.proofs.SoundStays.{node-stays, channel-like, replays-stay}
 use Rattle.rules.proofs.Undamaged.{rows-in}

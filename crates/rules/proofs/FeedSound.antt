@@ -15,7 +15,7 @@ use Rattle.rules.specs.Frame.{feed}
 use Rattle.rules.specs.Step.{madeBy, fedLine, effect}
 use Rattle.rules.proofs.Accepted.{Passed, can-feed}
 use Rattle.rules.proofs.InvLaws.{if-marked}
-use Rattle.rules.proofs.EndInv.{some-same}
+use Rattle.rules.proofs.Options.{some-same}
 use Rattle.rules.proofs.Standing.{EntryFits, Sound}
 use Rattle.rules.proofs.SoundStays.{channel-stays}
 use Rattle.rules.proofs.RecordsWithin.{read-within, made-within}

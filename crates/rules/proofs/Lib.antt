@@ -51,6 +51,7 @@ pub mod StepInv
 pub mod PlanKept
 pub mod QuietRest
 pub mod Order
+-- A step keeps an undamaged line undamaged.
 pub mod Standing
 pub mod Restored
 pub mod TestLaws

@@ -21,7 +21,7 @@ use Rattle.rules.specs.Line.{Entry, Held, Line}
 use Rattle.rules.specs.Replay.{itemOf, itemsByRow, entryAt, addEntry, placedLog, placing}
 use Rattle.rules.proofs.Rising.{Rises, none, more, Within}
 use Rattle.rules.proofs.Members.{In, here, there, in-none, in-first, within-by}
-use Rattle.rules.proofs.EndInv.{some-same, none-some}
+use Rattle.rules.proofs.Options.{some-same, none-some}
 use Rattle.rules.proofs.Standing.{entryTime}
 
 add-in : (e : Entry) (es : List Entry) {d : Entry} → In d (addEntry e es) → (d ≡ e) ⊎ In d es

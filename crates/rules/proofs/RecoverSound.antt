@@ -25,7 +25,7 @@ use Rattle.rules.proofs.Inv.{Ordered, Enters, Leaves}
 use Rattle.rules.proofs.InvLaws.{up-not-down, up-not-replay, replay-not-down, if-marked}
 use Rattle.rules.proofs.MarkedLaws.{at-ends}
 use Rattle.rules.proofs.Accepted.{Passed, CanRecover, can-recover}
-use Rattle.rules.proofs.EndInv.{some-same, none-some}
+use Rattle.rules.proofs.Options.{some-same, none-some}
 use Rattle.rules.proofs.Standing.{heldTime, heldFrom, OriginFits, BeforeFits, TargetFits, Empties, NodeFits, Covers, NodeSound, LaneFits, Flows, ChannelSound, Standing, Replays, Sound}
 use Rattle.rules.proofs.SoundStays.{node-stays, channel-stays, low-kept, targets-kept, rows-kept, replays-stay, counted-sound}
 use Rattle.rules.proofs.StartSound.{fresh-fits, fresh-flows}

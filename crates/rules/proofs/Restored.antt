@@ -18,7 +18,7 @@ use Rattle.rules.proofs.Joins.{entering-in}
 use Rattle.rules.proofs.Stays.{moved}
 use Rattle.rules.proofs.Swept.{swept-line, swept-long, swept-enters, swept-leaves, swept-else}
 use Rattle.rules.proofs.Inv.{Shape, Ordered, Enters, Leaves}
-use Rattle.rules.proofs.EndInv.{some-same, none-some}
+use Rattle.rules.proofs.Options.{some-same, none-some}
 use Rattle.rules.proofs.Standing.{restoredComplete}
 
 pub all-same : {A : Type 0} (f g : A → Bool) (xs : List A) → ((x : A) → In x xs → f x ≡ g x) → allOf f xs ≡ allOf g xs

@@ -23,7 +23,7 @@ use Rattle.rules.proofs.Members.{In, here, there, in-none, in-first, in
 use Rattle.rules.proofs.LineLaws.{lane-there, lane-else, lanes-long}
 use Rattle.rules.proofs.Inv.{timeOf, Ordered}
 use Rattle.rules.proofs.Accepted.{Passed, CanSend, can-send}
-use Rattle.rules.proofs.EndInv.{some-same, none-some}
+use Rattle.rules.proofs.Options.{some-same, none-some}
 use Rattle.rules.proofs.Standing.{entryTime, Empties, Covers, LaneFits, MessageFits, Flows, ChannelSound, Standing, Sound}
 use Rattle.rules.proofs.SoundStays.{node-stays, channel-stays, replays-stay, counted-sound}
 use Rattle.rules.proofs.Undamaged.{ordered-fit}

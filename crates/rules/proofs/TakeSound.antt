@@ -21,11 +21,10 @@ use Rattle.rules.proofs.Rising.{Rises, more, Within, within-first}
 use Rattle.rules.proofs.Members.{In, here, there, in-map}
 use Rattle.rules.proofs.LineLaws.{lane-there, lane-else}
 use Rattle.rules.proofs.Stays.{moved}
-use Rattle.rules.proofs.Joins.{in-entering}
+use Rattle.rules.proofs.Joins.{in-entering, no-source}
 use Rattle.rules.proofs.Inv.{timeOf, Ordered, Enters, Leaves}
-use Rattle.rules.proofs.TakeKeeps.{no-source}
 use Rattle.rules.proofs.Accepted.{Passed, CanTake}
-use Rattle.rules.proofs.EndInv.{some-same}
+use Rattle.rules.proofs.Options.{some-same}
 use Rattle.rules.proofs.TestLaws.{any-by}
 use Rattle.rules.proofs.Standing.{EntryFits, MessageFits, Covers, LaneFits, Flows, ChannelSound, Standing, Sound}
 use Rattle.rules.proofs.SoundStays.{origin-later, lane-later, ends-same, channel-stays}

@@ -20,11 +20,10 @@ use Rattle.rules.specs.Replay.{heldByRow, replayEnd, endedIfComplete}
 use Rattle.rules.specs.Step.{replaying, recoveredLine, recoverGives}
 use Rattle.rules.specs.Damaged.{someNode, someChannel, planBroken, misshapen, workedOn, stepsPast, nodePastLimits, nodeWrongParent, nodeTimePast, nodeTimeZero, nodeMakerWrong, rises, logWrong, pastHeard, pastLane, pastClock, heldWrong, heldNotPassed, markMissing, markOnEnd, sameTargets, replaysAs, replayWrong, nodeHolds, nodeDamaged, channelDamaged, damaged}
 use Rattle.rules.proofs.Rising.{Rises}
-use Rattle.rules.proofs.Members.{In, here, there, in-none, in-first}
+use Rattle.rules.proofs.Members.{In, here, there, in-none, in-first, in-up-to}
 use Rattle.rules.proofs.Joins.{in-entering, entering-in}
 use Rattle.rules.proofs.Inv.{Shape, Ordered, Enters}
 use Rattle.rules.proofs.PlanOrder.{ordered-channels}
-use Rattle.rules.proofs.QuietRest.{in-up-to}
 use Rattle.rules.proofs.TestLaws.{is-replay, none-of, none-by, up-to-in, all-false, unless, by-unless, rises-of, of-rises}
 use Rattle.rules.proofs.Standing.{heldTime, Covers, heldFrom, NodeSound, Replays, Sound}
 use Rattle.rules.proofs.Restored.{restoredNode, recovered-is, restored-node, restored-shape, restored-complete, ended-up}
