@@ -35,13 +35,19 @@ timeRight steps t = ltb 0 t && leb t steps
 abbrev pub recordRight : Record → Bool
 recordRight r = materialFits (r .material) && ltb (r .piece) (2 ^ 32) && ltb (r .mass) (2 ^ 16)
 
--- What an input that came on channel b from node s was itself made from.
+-- What node s made something from, by its parents alone.
+unfoldable pub namedRight : Line → ℕ → Origin → Bool
+unfolding entering isSource
+namedRight l s fed = isSource (l .plan) s
+namedRight l s (made q u) = timeRight (l .steps) u && ifFound (fromSender (l .plan) q (entering (l .plan) s)) (λ (b : ℕ). true)
+
+-- The same of an input that came on channel b from node s: it does not pass what was heard there.
 unfoldable pub beforeRight : Line → ℕ → ℕ → Origin → Bool
 unfolding entering isSource
 beforeRight l s b fed = isSource (l .plan) s
 beforeRight l s b (made q u) = timeRight (l .steps) u && ifFound (placeFrom (l .plan) q 0 (entering (l .plan) s)) (λ (i : ℕ). leb u (getD (laneAt l b .heard) i 0))
 
--- What node n made something from.
+-- What node n made something from, and what that was made from.
 unfoldable pub originRight : Line → ℕ → Origin → Origin → Bool
 unfolding entering isSource beforeRight
 originRight l n fed before = isSource (l .plan) n && isFed before
@@ -108,12 +114,8 @@ nodeRight l n =
 
 -- A channel's messages, and the channel.
 unfoldable pub messageRight : Line → ℕ → Message → Bool
-unfolding entering isSource
-messageRight l b m =
-    recordRight (m .what) && elim (m .origin) [
-      | fed ↦ isSource (l .plan) (senderOf l b)
-      | made q u ↦ timeRight (l .steps) u && ifFound (fromSender (l .plan) q (entering (l .plan) (senderOf l b))) (λ (c : ℕ). true)
-    ]
+unfolding namedRight
+messageRight l b m = recordRight (m .what) && namedRight l (senderOf l b) (m .origin)
 
 unfoldable pub clockRight : ℕ → Lane → Bool
 clockRight steps s = leb (s .mark) steps && leb (s .taken) steps && allOf (λ (t : ℕ). leb t steps) (s .heard)
