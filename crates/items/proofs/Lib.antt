@@ -3,3 +3,4 @@ pub mod Lookup
 pub mod Origins
 pub mod HeldRows
 pub mod ReplayItems
+pub mod NodeItems

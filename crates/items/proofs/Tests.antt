@@ -1,12 +1,12 @@
 -- Tests that are each other's opposite, over several parts and over lists.
 use Prim.Native.Nat.{ℕ, _≤_, _<_}
 use mathlib.Core.Path.{_≡_, refl, sym, ap, _∙_}
-use mathlib.Core.Bool.{Bool, true, false, not, _&&_, _||_}
-use mathlib.Core.List.{List, [], _∷_}
+use mathlib.Core.Bool.{Bool, true, false, not, _&&_, _||_, or-assoc}
+use mathlib.Core.List.{List, [], _∷_, _++_, map}
 use lib.Dec.{leb, ltb}
 use borrow.Author.Tests.{ltb-true, leb-false, lt-ltb, lt-leb}
 use Rattle.basics.specs.Bools.{both-true, neither-true}
-use Rattle.rules.specs.Lists.{allOf, anyOf}
+use Rattle.rules.specs.Lists.{allOf, anyOf, joined}
 use Rattle.rules.proofs.Members.{In, here, there}
 
 pub opposite : (a b : Bool) → (a ≡ false → b ≡ true) → (b ≡ true → a ≡ false) → a ≡ not b
@@ -79,3 +79,16 @@ module _ {A : Type 0} where
       one : (a b : Bool) → (not a || not b) ≡ not (a && b)
       one true b = refl
       one false b = refl
+
+  pub any-append : (f : A → Bool) (xs ys : List A) → anyOf f (xs ++ ys) ≡ (anyOf f xs || anyOf f ys)
+  any-append f [] ys = refl
+  any-append f (x ∷ xs) ys = ap (λ (t : Bool). f x || t) (any-append f xs ys) ∙ sym (or-assoc (f x) (anyOf f xs) (anyOf f ys))
+
+module _ {A B : Type 0} (f : B → Bool) where
+  pub any-map : (g : A → B) (xs : List A) → anyOf f (map g xs) ≡ anyOf (λ (x : A). f (g x)) xs
+  any-map g [] = refl
+  any-map g (x ∷ xs) = ap (λ (t : Bool). f (g x) || t) (any-map g xs)
+
+  pub any-joined : (g : A → List B) (xs : List A) → anyOf f (joined (map g xs)) ≡ anyOf (λ (x : A). anyOf f (g x)) xs
+  any-joined g [] = refl
+  any-joined g (x ∷ xs) = any-append f (g x) (joined (map g xs)) ∙ ap (λ (t : Bool). anyOf f (g x) || t) (any-joined g xs)
