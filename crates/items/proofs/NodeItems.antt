@@ -14,38 +14,16 @@ use Rattle.rules.specs.Lists.{allOf, anyOf, joined}
 use Rattle.rules.specs.Line.{logLimit, heldLimit, targetLimit, Origin, made, Entry, Held, Target, Node, Line, nodeAt}
 use Rattle.rules.specs.Replay.{entryAt, passedOn}
 use Rattle.rules.specs.Step.{replaying, recoverGives}
-use Rattle.rules.specs.Damaged.{workedOn, recordPastLimits, nodePastLimits, isParent, notParent, beforeNotParent, nodeWrongParent, originTimes, nodeNamedTimes, nodeOtherTimes, nodeTimePast, nodeTimeZero, originWrong, beforeWrong, nodeMakerWrong, rises, risesTo, logWrong, pastLane, pastClock, heldWrong, heldNotPassed, markMissing, markOnEnd, replaysAs, replayWrong, nodeHolds, nodeDamaged}
+use Rattle.rules.specs.Damaged.{workedOn, recordPastLimits, nodePastLimits, isParent, notParent, beforeNotParent, nodeWrongParent, originTimes, nodeNamedTimes, nodeOtherTimes, nodeTimePast, nodeTimeZero, originWrong, beforeWrong, nodeMakerWrong, logWrong, pastLane, pastClock, heldWrong, heldNotPassed, markMissing, markOnEnd, replaysAs, replayWrong, nodeHolds, nodeDamaged}
 use Rattle.rules.proofs.Members.{In, here, there, in-left, in-right, in-map, map-in, append-in}
 use Rattle.rules.proofs.Accepted.{none-any}
 use Rattle.rules.proofs.QuietRest.{all-in}
 use Rattle.items.specs.Items.{ifFound, fromSender, recordRight, originRight, timesRise, entryRight, heldRight, heldRise, noneHeld, targetRight, countsRight, logRight, heldAllRight, statusRight, replayRight, nodeRight}
 use Rattle.items.proofs.Tests.{opposite, not-above, all-true, true-all, all-false, false-all, each-all, each-none, any-append, any-map, any-joined}
+use Rattle.items.proofs.Rises.{rise-same, rise-within}
 use Rattle.items.proofs.Origins.{Formed, Clean, parent-found, clean-right, right-clean}
 use Rattle.items.proofs.HeldRows.{held-opposite}
 use Rattle.items.proofs.ReplayItems.{replay-items}
-
--- ---- times that rise
-
-shuffle : (a b c d : Bool) → (a && b && (c && d)) ≡ (a && c && (b && d))
-shuffle true true c d = refl
-shuffle true false true d = refl
-shuffle true false false d = refl
-shuffle false b c d = refl
-
-pub rise-same : {A : Type 0} (time : A → ℕ) (last top : ℕ) (xs : List A) → timesRise time last top xs ≡ risesTo last top (map time xs)
-rise-same time last top [] = refl
-rise-same time last top (x ∷ xs) =
-    ap (λ (t : Bool). ltb last (time x) && leb (time x) top && t) (rise-same time (time x) top xs)
-    ∙ shuffle (ltb last (time x)) (leb (time x) top) (rises (time x) (map time xs)) (allOf (λ (t : ℕ). leb t top) (map time xs))
-
-pub rise-within : {A : Type 0} (time : A → ℕ) (last top : ℕ) {x : A} {xs : List A} → timesRise time last top xs ≡ true → In x xs → (last < time x) × (time x ≤ top)
-rise-within time last top {x = x} e (here {xs = xs}) =
-    let (late, (inside, rest)) = all-true (ltb last (time x)) (leb (time x) top ∷ timesRise time (time x) top xs ∷ []) e in
-    (ltb-true last (time x) late, leb-true (time x) top inside)
-rise-within time last top {x = x} e (there {y = y} {xs = xs} i) =
-    let (late, (inside, rest)) = all-true (ltb last (time y)) (leb (time y) top ∷ timesRise time (time y) top xs ∷ []) e in
-    let (above, below) = rise-within time (time y) top rest i in
-    (omega (arith, ltb-true last (time y) late), below)
 
 -- ---- a node's times
 

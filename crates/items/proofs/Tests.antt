@@ -1,7 +1,7 @@
 -- Tests that are each other's opposite, over several parts and over lists.
 use Prim.Native.Nat.{ℕ, _≤_, _<_}
 use mathlib.Core.Path.{_≡_, refl, sym, ap, _∙_}
-use mathlib.Core.Bool.{Bool, true, false, not, _&&_, _||_, or-assoc}
+use mathlib.Core.Bool.{Bool, true, false, not, _&&_, _||_, or-assoc, Bool·not-not}
 use mathlib.Core.List.{List, [], _∷_, _++_, map}
 use lib.Dec.{leb, ltb}
 use borrow.Author.Tests.{ltb-true, leb-false, lt-ltb, lt-leb}
@@ -16,6 +16,9 @@ opposite true false f g = refl
 
 pub not-above : (a b : ℕ) → leb a b ≡ not (ltb b a)
 not-above a b = opposite (leb a b) (ltb b a) (λ e. lt-ltb b a (leb-false a b e)) (λ e. lt-leb a b (ltb-true b a e))
+
+pub above : (a b : ℕ) → ltb b a ≡ not (leb a b)
+above a b = sym (Bool·not-not (ltb b a)) ∙ ap not (sym (not-above a b))
 
 -- Tests joined by && are true together, tests joined by || false together.
 abbrev pub andFrom : Bool → List Bool → Bool
