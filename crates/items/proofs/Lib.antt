@@ -6,3 +6,4 @@ pub mod HeldRows
 pub mod ReplayItems
 pub mod NodeItems
 pub mod ChannelItems
+pub mod LineItems
