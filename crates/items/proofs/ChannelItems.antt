@@ -1,16 +1,15 @@
 -- A channel is damaged exactly if it is not right item by item.
-use Prim.Native.Nat.{ℕ, zero, suc, _<_, _≤_}
-use mathlib.Core.Path.{_≡_, refl, sym, ap, subst, _∙_}
+use Prim.Native.Nat.{ℕ, _<_, _≤_}
+use mathlib.Core.Path.{_≡_, refl, sym, ap, _∙_}
 use mathlib.Core.Bool.{Bool, true, false, not, _&&_, _||_, true≢false}
-use mathlib.Core.List.{List, [], _∷_, _++_, map}
+use mathlib.Core.List.{List, [], _∷_, map}
 use native.Mathlib.Omega.{arith}
 use lib.ListN.{length}
 use lib.Dec.{leb, ltb, eqb}
 use borrow.Author.Tests.{leb-true, le-ltb, ne-eqb, not-true, not-false}
 use Rattle.basics.specs.Bools.{both-true, neither-true}
-use Rattle.plan.specs.Plan.{Plan}
-use Rattle.rules.specs.Lists.{isEmpty, allOf, anyOf, joined}
-use Rattle.rules.specs.Line.{queueLimit, Origin, Message, Lane, Line, laneAt, senderOf, receiverOf}
+use Rattle.rules.specs.Lists.{isEmpty, allOf, anyOf}
+use Rattle.rules.specs.Line.{queueLimit, Message, Lane, Line, laneAt, senderOf, receiverOf}
 use Rattle.rules.specs.Step.{nodeDown, endDown, replaying}
 use Rattle.rules.specs.Damaged.{recordPastLimits, channelPastLimits, notParent, channelWrongParent, originTimes, channelNamedTimes, channelOtherTimes, channelTimePast, channelTimeZero, originWrong, channelMakerWrong, risesTo, queueWrong, marksJoined, channelHolds, channelDamaged}
 use Rattle.rules.proofs.Members.{In, in-none}
@@ -176,14 +175,25 @@ module _ (l : Line) (b : ℕ) where
   unfolding channelDamaged channelPastLimits channelWrongParent channelMakerWrong
   sound-clean c =
       let when : (m : Message) → In m (s .queue) → (0 < m .time) × (m .time ≤ l .steps) = sent-when c in
-      false-all (channelPastLimits s) (channelWrongParent (l .plan) b s ∷ channelTimePast (l .steps) s ∷ channelTimeZero s ∷ channelMakerWrong (l .plan) b s ∷ queueWrong l b ∷ marksJoined l b ∷ channelHolds l b ∷ [])
-      (rw (le-ltb queueLimit (length (s .queue)) (leb-true (length (s .queue)) queueLimit (c .count)), each-none pastLimits (s .queue) (λ m i. c .sent m i .fits)),
-      (each-none wrongParent (s .queue) (λ m i. c .sent m i .named .parent),
-      (past-is (l .steps) s ∙ rw (each-none late (s .queue) (λ m i. rw (le-ltb (l .steps) (m .time) (when m i .1), c .sent m i .named .past)), c .clock),
-      (zero-is s ∙ each-none nought (s .queue) (λ m i. rw (ne-eqb 0 (m .time) (λ q. omega (arith, when m i)), c .sent m i .named .nought)),
-      (each-none wrongMaker (s .queue) (λ m i. c .sent m i .named .maker),
-      (queue-is ∙ ap not (c .queue-rises),
-      (c .apart, c .holds)))))))
+      false-all (channelPastLimits s) (channelWrongParent (l .plan) b s ∷ channelTimePast (l .steps) s ∷ channelTimeZero s ∷ channelMakerWrong (l .plan) b s ∷ queueWrong l b ∷ marksJoined l b ∷ channelHolds l b ∷ []) (
+        rw (le-ltb queueLimit (length (s .queue)) (leb-true (length (s .queue)) queueLimit (c .count)), each-none pastLimits (s .queue) (λ m i. c .sent m i .fits)),
+        (
+          each-none wrongParent (s .queue) (λ m i. c .sent m i .named .parent),
+          (
+            past-is (l .steps) s ∙ rw (each-none late (s .queue) (λ m i. rw (le-ltb (l .steps) (m .time) (when m i .1), c .sent m i .named .past)), c .clock),
+            (
+              zero-is s ∙ each-none nought (s .queue) (λ m i. rw (ne-eqb 0 (m .time) (λ q. omega (arith, when m i)), c .sent m i .named .nought)),
+              (
+                each-none wrongMaker (s .queue) (λ m i. c .sent m i .named .maker),
+                (
+                  queue-is ∙ ap not (c .queue-rises),
+                  (c .apart, c .holds),
+                ),
+              ),
+            ),
+          ),
+        ),
+      )
 
   pub channel-items : channelDamaged l b ≡ not (channelRight l b)
   channel-items = opposite (channelDamaged l b) (channelRight l b) (λ e. sound-right (clean-sound e)) (λ e. sound-clean (right-sound e))

@@ -1,19 +1,19 @@
 -- Looking a node up among the senders of some channels, no two of which have one sender.
-use Prim.Native.Nat.{ℕ, zero, suc, _+_, _<_, _≤_}
+use Prim.Native.Nat.{ℕ, suc, _+_}
 use mathlib.Core.Path.{_≡_, refl, sym, ap, subst, _∙_}
 use mathlib.Core.Logic.{_≢_}
-use mathlib.Core.Bool.{Bool, true, false, not, _&&_, _||_, or-false}
+use mathlib.Core.Bool.{Bool, true, false, _&&_, _||_, or-false}
 use mathlib.Core.List.{List, [], _∷_, map}
-use mathlib.Core.Option.{Option, none, some}
+use mathlib.Core.Option.{none, some}
 use native.Mathlib.Omega.{arith}
 use lib.ListN.{length, getD}
 use lib.Dec.{ltb, eqb}
 use borrow.Author.Tests.{eqb-true, ne-eqb}
 use Rattle.plan.specs.declared.Channel.{Channel}
-use Rattle.plan.specs.Plan.{Plan, channelAt, channelCount, entering}
+use Rattle.plan.specs.Plan.{Plan, channelAt, entering}
 use Rattle.rules.specs.Lists.{anyOf}
-use Rattle.rules.specs.Line.{made, parents}
-use Rattle.rules.specs.Damaged.{isParent, pastHeard}
+use Rattle.rules.specs.Line.{made}
+use Rattle.rules.specs.Damaged.{pastHeard}
 use Rattle.rules.proofs.Members.{In, here, there}
 use Rattle.rules.proofs.LanesLaws.{Rising, none, more, in-above, numbers-rise}
 use Rattle.rules.proofs.Inv.{Ordered, Enters}
@@ -98,10 +98,10 @@ module _ (p : Plan) (ordered : Ordered p) where
   apart-rising n (more {b = b} h r) enters =
       beside
       (λ c i q.
-          (let (hc, rc) = enters c (there i) in
-          let (hb, rb) = enters b here in
-          let same : c ≡ b = ordered .alone c b hc hb q (rc ∙ sym rb) in
-          omega (arith, in-above r i)))
+      (let (hc, rc) = enters c (there i) in
+      let (hb, rb) = enters b here in
+      let same : c ≡ b = ordered .alone c b hc hb q (rc ∙ sym rb) in
+      omega (arith, in-above r i)))
       (apart-rising n r (λ c i. enters c (there i)))
 
   pub entering-apart : (n : ℕ) → Apart p (entering p n)

@@ -1,25 +1,25 @@
 -- A node is damaged exactly if it is not right item by item.
-use Prim.Native.Nat.{ℕ, zero, suc, _<_, _≤_}
+use Prim.Native.Nat.{ℕ, _<_, _≤_}
 use mathlib.Core.Path.{_≡_, refl, sym, ap, subst, _∙_}
-use mathlib.Core.Logic.{_⊎_, inl, inr}
-use mathlib.Core.Bool.{Bool, true, false, not, _&&_, _||_, Bool·not-not}
+use mathlib.Core.Logic.{inl, inr}
+use mathlib.Core.Bool.{Bool, true, false, not, _&&_, _||_}
 use mathlib.Core.List.{List, [], _∷_, _++_, map}
 use native.Mathlib.Omega.{arith}
 use lib.ListN.{length}
 use lib.Dec.{leb, ltb, eqb}
-use borrow.Author.Tests.{ltb-true, ltb-false, leb-true, le-leb, le-ltb, ne-eqb, not-true, not-false}
+use borrow.Author.Tests.{leb-true, le-ltb, ne-eqb, not-false}
 use Rattle.basics.specs.Bools.{both-true, neither-true}
-use Rattle.plan.specs.Plan.{Plan, nodeCount, entering}
+use Rattle.plan.specs.Plan.{nodeCount, entering}
 use Rattle.rules.specs.Lists.{allOf, anyOf, joined}
-use Rattle.rules.specs.Line.{logLimit, heldLimit, targetLimit, Origin, made, Entry, Held, Target, Node, Line, nodeAt}
+use Rattle.rules.specs.Line.{logLimit, heldLimit, targetLimit, made, Entry, Held, Target, Node, Line, nodeAt}
 use Rattle.rules.specs.Replay.{entryAt, passedOn}
-use Rattle.rules.specs.Step.{replaying, recoverGives}
-use Rattle.rules.specs.Damaged.{workedOn, recordPastLimits, nodePastLimits, isParent, notParent, beforeNotParent, nodeWrongParent, originTimes, nodeNamedTimes, nodeOtherTimes, nodeTimePast, nodeTimeZero, originWrong, beforeWrong, nodeMakerWrong, logWrong, pastLane, pastClock, heldWrong, heldNotPassed, markMissing, markOnEnd, replaysAs, replayWrong, nodeHolds, nodeDamaged}
-use Rattle.rules.proofs.Members.{In, here, there, in-left, in-right, in-map, map-in, append-in}
+use Rattle.rules.specs.Step.{replaying}
+use Rattle.rules.specs.Damaged.{workedOn, recordPastLimits, nodePastLimits, isParent, notParent, beforeNotParent, nodeWrongParent, originTimes, nodeNamedTimes, nodeOtherTimes, nodeTimePast, nodeTimeZero, originWrong, beforeWrong, nodeMakerWrong, logWrong, pastLane, pastClock, heldWrong, heldNotPassed, markMissing, markOnEnd, replayWrong, nodeHolds, nodeDamaged}
+use Rattle.rules.proofs.Members.{In, in-left, in-right, in-map, map-in, append-in}
 use Rattle.rules.proofs.Accepted.{none-any}
 use Rattle.rules.proofs.QuietRest.{all-in}
 use Rattle.items.specs.Items.{ifFound, fromSender, recordRight, originRight, timesRise, entryRight, heldRight, heldRise, noneHeld, targetRight, countsRight, logRight, heldAllRight, statusRight, replayRight, nodeRight}
-use Rattle.items.proofs.Tests.{opposite, not-above, all-true, true-all, all-false, false-all, each-all, each-none, any-append, any-map, any-joined}
+use Rattle.items.proofs.Tests.{opposite, not-above, all-true, all-false, false-all, each-all, each-none, any-append, any-map, any-joined}
 use Rattle.items.proofs.Rises.{rise-same, rise-within}
 use Rattle.items.proofs.Origins.{Formed, Clean, parent-found, clean-right, right-clean}
 use Rattle.items.proofs.HeldRows.{held-opposite}
@@ -233,16 +233,16 @@ module _ (l : Line) (line : Formed l) (n : ℕ) (inside : n < nodeCount (l .plan
       let (time-past, targets-past) = neither-true (ltb (l .steps) (x .time)) (anyOf lateTarget (x .targets)) others-past in
       let (_, inputs-nought) = neither-true (anyOf noughtPlain (x .log)) (anyOf noughts (workedOn x)) (sym (zero-is x) ∙ nought) in
       let worked : (e : Entry) → In e (workedOn x) → Worked l n e = λ e i.
-          record {
-            fits = none-any (λ (e : Entry). recordPastLimits (e .what)) records i;
-            clean = record {
-              parents = none-any wrongInput inputs i;
-              past = none-any late inputs-past i;
-              nought = none-any noughts inputs-nought i;
-              makers = none-any wrongMaker makers i;
-              clock = none-any pastEntry clock i;
-            };
-          } in
+      record {
+        fits = none-any (λ (e : Entry). recordPastLimits (e .what)) records i;
+        clean = record {
+          parents = none-any wrongInput inputs i;
+          past = none-any late inputs-past i;
+          nought = none-any noughts inputs-nought i;
+          makers = none-any wrongMaker makers i;
+          clock = none-any pastEntry clock i;
+        };
+      } in
       record {
         counts = counts;
         time = not-above (x .time) (l .steps) ∙ ap not time-past;
@@ -269,17 +269,34 @@ module _ (l : Line) (line : Formed l) (n : ℕ) (inside : n < nodeCount (l .plan
       let nought-inputs : anyOf noughts (workedOn x) ≡ false = each-none noughts (workedOn x) (λ e i. s .worked e i .clean .nought) in
       let (missing, (on-end, holds)) = all-false (markMissing x) (markOnEnd (l .plan) n x ∷ nodeHolds x ∷ []) (status-is ∙ ap not (s .status)) in
       false-all (nodePastLimits x)
-      (nodeWrongParent (l .plan) n x ∷ nodeTimePast (l .steps) x ∷ nodeTimeZero x ∷ nodeMakerWrong (l .plan) n x ∷ logWrong x ∷ pastClock l n ∷ heldWrong l n ∷ heldNotPassed (l .plan) n x ∷ markMissing x ∷ markOnEnd (l .plan) n x ∷ replayWrong l n ∷ nodeHolds x ∷ [])
-      (clear-limits x (s .counts) (each-none (λ (e : Entry). recordPastLimits (e .what)) (workedOn x) (λ e i. s .worked e i .fits)),
-      (rw (inputs, targets),
-      (past-is x (l .steps) ∙ rw (late-log, late-inputs, le-ltb (l .steps) (x .time) own, late-targets),
-      (zero-is x ∙ rw (nought-log, nought-inputs),
-      (each-none wrongMaker (workedOn x) (λ e i. s .worked e i .clean .makers),
-      (log-is x ∙ ap not (s .log-rises),
-      (each-none pastEntry (workedOn x) (λ e i. s .worked e i .clean .clock),
-      (held-opposite l line n inside (held-parents (s .worked)) ∙ ap not (s .held-rises),
-      (each-none (λ (h : Held). not (passedOn (l .plan) n (h .what))) (x .held) (λ h i. ap not (s .passed h i)),
-      (missing, (on-end, (replays-is ∙ ap not (s .replays), holds))))))))))))
+      (nodeWrongParent (l .plan) n x ∷ nodeTimePast (l .steps) x ∷ nodeTimeZero x ∷ nodeMakerWrong (l .plan) n x ∷ logWrong x ∷ pastClock l n ∷ heldWrong l n ∷ heldNotPassed (l .plan) n x ∷ markMissing x ∷ markOnEnd (l .plan) n x ∷ replayWrong l n ∷ nodeHolds x ∷ []) (
+        clear-limits x (s .counts) (each-none (λ (e : Entry). recordPastLimits (e .what)) (workedOn x) (λ e i. s .worked e i .fits)),
+        (
+          rw (inputs, targets),
+          (
+            past-is x (l .steps) ∙ rw (late-log, late-inputs, le-ltb (l .steps) (x .time) own, late-targets),
+            (
+              zero-is x ∙ rw (nought-log, nought-inputs),
+              (
+                each-none wrongMaker (workedOn x) (λ e i. s .worked e i .clean .makers),
+                (
+                  log-is x ∙ ap not (s .log-rises),
+                  (
+                    each-none pastEntry (workedOn x) (λ e i. s .worked e i .clean .clock),
+                    (
+                      held-opposite l line n inside (held-parents (s .worked)) ∙ ap not (s .held-rises),
+                      (
+                        each-none (λ (h : Held). not (passedOn (l .plan) n (h .what))) (x .held) (λ h i. ap not (s .passed h i)),
+                        (missing, (on-end, (replays-is ∙ ap not (s .replays), holds))),
+                      ),
+                    ),
+                  ),
+                ),
+              ),
+            ),
+          ),
+        ),
+      )
 
   pub node-items : nodeDamaged l n ≡ not (nodeRight l n)
   node-items = opposite (nodeDamaged l n) (nodeRight l n) (λ e. sound-right (clean-sound e)) (λ e. sound-clean (right-sound e))

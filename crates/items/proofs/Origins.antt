@@ -1,13 +1,13 @@
 -- What something was made from: the conditions of Damaged on it, taken together, are the item's test.
-use Prim.Native.Nat.{ℕ, zero, suc, _+_, _<_, _≤_}
-use mathlib.Core.Path.{_≡_, refl, sym, ap, subst, _∙_}
-use mathlib.Core.Bool.{Bool, true, false, not, _&&_, _||_, true≢false, and-true, and-false, or-false}
+use Prim.Native.Nat.{ℕ, _<_, _≤_}
+use mathlib.Core.Path.{_≡_, refl, sym, ap, _∙_}
+use mathlib.Core.Bool.{Bool, true, false, not, _&&_, _||_, true≢false, and-true}
 use mathlib.Core.List.{List, [], _∷_, _++_, map}
 use mathlib.Core.Option.{Option, none, some}
 use native.Mathlib.Omega.{arith}
 use lib.ListN.{length, getD, length-map}
 use lib.Dec.{leb, ltb, eqb}
-use borrow.Author.Tests.{ltb-true, ltb-false, leb-true, leb-false, eqb-true, eqb-false, lt-ltb, le-ltb, le-leb, lt-leb, ne-eqb, not-true, not-false}
+use borrow.Author.Tests.{ltb-true, ltb-false, leb-true, eqb-true, eqb-false, lt-ltb, le-ltb, le-leb, ne-eqb, not-true, not-false}
 use Rattle.basics.specs.Bools.{both-true, neither-true}
 use Rattle.plan.specs.Plan.{Plan, isNone, channelAt, nodeCount, channelCount, entering, isSource}
 use Rattle.plan.specs.Check.{planFits}
@@ -15,13 +15,11 @@ use Rattle.plan.proofs.FitsLaws.{fitting}
 use Rattle.rules.specs.Lists.{anyOf}
 use Rattle.rules.specs.Line.{Origin, fed, made, Line, laneAt, channelNumbersOf, senderOf, parents}
 use Rattle.rules.specs.Damaged.{isParent, notParent, beforeNotParent, originTimes, originWrong, isFed, beforeWrong, pastHeard, pastLane, misshapen}
-use Rattle.rules.proofs.Members.{In}
 use Rattle.rules.proofs.Inv.{Ordered}
 use Rattle.rules.proofs.PlanOrder.{ordered-channels}
 use Rattle.rules.proofs.Accepted.{none-any}
 use Rattle.rules.proofs.Joins.{entering-in}
 use Rattle.rules.proofs.QuietRest.{in-up-to}
-use Rattle.rules.proofs.EndInv.{none-some}
 use Rattle.items.specs.Items.{fromSender, placeFrom, ifFound, timeRight, namedRight, beforeRight, originRight}
 use Rattle.items.proofs.Tests.{not-above, all-false, each-none}
 use Rattle.items.proofs.Lookup.{sender-found, sender-placed, found-in, only-found, heard-placed, entering-apart}
@@ -70,13 +68,13 @@ module _ (p : Plan) (n s : ℕ) where
       one (b ∷ bs) k = refl
 
 -- A time within the steps and not 0.
-pub time-right : (steps t : ℕ) → ltb steps t ≡ false → eqb 0 t ≡ false → timeRight steps t ≡ true
+time-right : (steps t : ℕ) → ltb steps t ≡ false → eqb 0 t ≡ false → timeRight steps t ≡ true
 time-right steps t past nought =
     let late = ltb-false steps t past in
     let some-time = eqb-false 0 t nought in
     rw (lt-ltb 0 t (omega arith), le-leb t steps late)
 
-pub right-time : (steps t : ℕ) → timeRight steps t ≡ true → (ltb steps t ≡ false) × (eqb 0 t ≡ false)
+right-time : (steps t : ℕ) → timeRight steps t ≡ true → (ltb steps t ≡ false) × (eqb 0 t ≡ false)
 right-time steps t e =
     let (a, b) = both-true (ltb 0 t) (leb t steps) e in
     (le-ltb steps t (leb-true t steps b), ne-eqb 0 t (λ q. omega (arith, ltb-true 0 t a)))

@@ -1,15 +1,14 @@
 -- A replaying node is what Recover would give exactly if it passes the test by its targets and its rows.
-use Prim.Native.Nat.{ℕ, zero, suc, _<_, _≤_}
-use mathlib.Core.Path.{_≡_, refl, sym, ap, subst, _∙_}
-use mathlib.Core.Bool.{Bool, true, false, not, _&&_, _||_}
+use Prim.Native.Nat.{ℕ, _<_}
+use mathlib.Core.Path.{_≡_, refl, ap, _∙_}
+use mathlib.Core.Bool.{Bool, true, false, not, _&&_}
 use mathlib.Core.List.{List, [], _∷_}
-use mathlib.Core.Option.{Option, none, some}
-use native.Mathlib.Omega.{arith}
+use mathlib.Core.Option.{none, some}
 use lib.ListN.{length}
 use lib.Dec.{leb, ltb, eqb}
-use Rattle.plan.specs.Plan.{Plan, channelAt, nodeCount, channelCount, entering, leaving}
+use Rattle.plan.specs.Plan.{Plan, channelAt, nodeCount, entering, leaving}
 use Rattle.rules.specs.Lists.{isEmpty, allOf}
-use Rattle.rules.specs.Line.{targetLimit, Target, Node, Lane, Line, nodeAt, laneAt, senderOf, withNode, withLane, withLanes, freshLane, isReplay}
+use Rattle.rules.specs.Line.{targetLimit, Target, Node, Lane, Line, nodeAt, laneAt, senderOf, withNode, withLanes, freshLane}
 use Rattle.rules.specs.Recover.{lowOf, restored, targetsOf, conflict, rowGoal, rowComplete, rowsComplete, statusOf, recovered}
 use Rattle.rules.specs.Replay.{isHeld, replayEnd, endedIfComplete}
 use Rattle.rules.specs.Step.{replaying, recoveredLine, recoverGives}

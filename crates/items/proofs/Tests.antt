@@ -1,5 +1,5 @@
 -- Tests that are each other's opposite, over several parts and over lists.
-use Prim.Native.Nat.{ℕ, _≤_, _<_}
+use Prim.Native.Nat.{ℕ}
 use mathlib.Core.Path.{_≡_, refl, sym, ap, _∙_}
 use mathlib.Core.Bool.{Bool, true, false, not, _&&_, _||_, or-assoc, Bool·not-not}
 use mathlib.Core.List.{List, [], _∷_, _++_, map}
@@ -37,17 +37,9 @@ all-split : (a b : Bool) (bs : List Bool) → Each true (a && b) bs → Each tru
 all-split a b [] e = both-true a b e
 all-split a b (c ∷ bs) (e, rest) = let (x, y) = both-true a b e in (x, (y, rest))
 
-all-join : (a b : Bool) (bs : List Bool) → Each true a (b ∷ bs) → Each true (a && b) bs
-all-join a b [] (x, y) = rw (x, y)
-all-join a b (c ∷ bs) (x, (y, rest)) = (rw (x, y), rest)
-
 pub all-true : (a : Bool) (bs : List Bool) → andFrom a bs ≡ true → Each true a bs
 all-true a [] e = e
 all-true a (b ∷ bs) e = all-split a b bs (all-true (a && b) bs e)
-
-pub true-all : (a : Bool) (bs : List Bool) → Each true a bs → andFrom a bs ≡ true
-true-all a [] e = e
-true-all a (b ∷ bs) e = true-all (a && b) bs (all-join a b bs e)
 
 none-split : (a b : Bool) (bs : List Bool) → Each false (a || b) bs → Each false a (b ∷ bs)
 none-split a b [] e = neither-true a b e
