@@ -86,7 +86,7 @@ module _ (l : Line) (b : ℕ) where
       let (fits, named) = both-true (recordRight (m .what)) (namedRight l (senderOf l b) (m .origin)) r in
       record { fits = ap not fits; named = right-named l (senderOf l b) (m .origin) named }
 
-  -- ---- the channel: its conditions one by one, and its items
+  -- ---- the channel: between its conditions and its items
 
   record Sound : Type 0 where
     clock : clockRight (l .steps) s ≡ true
@@ -114,6 +114,7 @@ module _ (l : Line) (b : ℕ) where
         holds = not-true (channelHolds l b) holds;
       }
 
+  -- The conditions on a message, and those that stand beside its record's.
   abbrev wrongParent : Message → Bool
   wrongParent m = notParent (l .plan) (senderOf l b) (m .origin)
 
@@ -129,11 +130,13 @@ module _ (l : Line) (b : ℕ) where
   abbrev pastLimits : Message → Bool
   pastLimits m = recordPastLimits (m .what)
 
+  abbrev others : List Bool
+  others = channelWrongParent (l .plan) b s ∷ channelTimePast (l .steps) s ∷ channelTimeZero s ∷ channelMakerWrong (l .plan) b s ∷ queueWrong l b ∷ marksJoined l b ∷ channelHolds l b ∷ []
+
   clean-sound : channelDamaged l b ≡ false → Sound
   unfolding channelDamaged channelPastLimits channelWrongParent channelMakerWrong
   clean-sound e =
-      let (limits, (parents, (past, (noughts, (makers, (queue, (apart, holds))))))) =
-      all-false (channelPastLimits s) (channelWrongParent (l .plan) b s ∷ channelTimePast (l .steps) s ∷ channelTimeZero s ∷ channelMakerWrong (l .plan) b s ∷ queueWrong l b ∷ marksJoined l b ∷ channelHolds l b ∷ []) e in
+      let (limits, (parents, (past, (noughts, (makers, (queue, (apart, holds))))))) = all-false (channelPastLimits s) others e in
       let (count, records) = neither-true (ltb queueLimit (length (s .queue))) (anyOf pastLimits (s .queue)) limits in
       let (lates, clock) = neither-true (anyOf late (s .queue)) (not (clockRight (l .steps) s)) (sym (past-is (l .steps) s) ∙ past) in
       record {
@@ -175,25 +178,15 @@ module _ (l : Line) (b : ℕ) where
   unfolding channelDamaged channelPastLimits channelWrongParent channelMakerWrong
   sound-clean c =
       let when : (m : Message) → In m (s .queue) → (0 < m .time) × (m .time ≤ l .steps) = sent-when c in
-      false-all (channelPastLimits s) (channelWrongParent (l .plan) b s ∷ channelTimePast (l .steps) s ∷ channelTimeZero s ∷ channelMakerWrong (l .plan) b s ∷ queueWrong l b ∷ marksJoined l b ∷ channelHolds l b ∷ []) (
-        rw (le-ltb queueLimit (length (s .queue)) (leb-true (length (s .queue)) queueLimit (c .count)), each-none pastLimits (s .queue) (λ m i. c .sent m i .fits)),
-        (
-          each-none wrongParent (s .queue) (λ m i. c .sent m i .named .parent),
-          (
-            past-is (l .steps) s ∙ rw (each-none late (s .queue) (λ m i. rw (le-ltb (l .steps) (m .time) (when m i .1), c .sent m i .named .past)), c .clock),
-            (
-              zero-is s ∙ each-none nought (s .queue) (λ m i. rw (ne-eqb 0 (m .time) (λ q. omega (arith, when m i)), c .sent m i .named .nought)),
-              (
-                each-none wrongMaker (s .queue) (λ m i. c .sent m i .named .maker),
-                (
-                  queue-is ∙ ap not (c .queue-rises),
-                  (c .apart, c .holds),
-                ),
-              ),
-            ),
-          ),
-        ),
-      )
+      let lates = each-none late (s .queue) (λ m i. rw (le-ltb (l .steps) (m .time) (when m i .1), c .sent m i .named .past)) in
+      let records = each-none pastLimits (s .queue) (λ m i. c .sent m i .fits) in
+      let limits : channelPastLimits s ≡ false = rw (le-ltb queueLimit (length (s .queue)) (leb-true (length (s .queue)) queueLimit (c .count)), records) in
+      let parents = each-none wrongParent (s .queue) (λ m i. c .sent m i .named .parent) in
+      let past : channelTimePast (l .steps) s ≡ false = past-is (l .steps) s ∙ rw (lates, c .clock) in
+      let noughts = zero-is s ∙ each-none nought (s .queue) (λ m i. rw (ne-eqb 0 (m .time) (λ q. omega (arith, when m i)), c .sent m i .named .nought)) in
+      let makers = each-none wrongMaker (s .queue) (λ m i. c .sent m i .named .maker) in
+      let queue = queue-is ∙ ap not (c .queue-rises) in
+      false-all (channelPastLimits s) others (limits, (parents, (past, (noughts, (makers, (queue, (c .apart, c .holds)))))))
 
   pub channel-items : channelDamaged l b ≡ not (channelRight l b)
   channel-items = opposite (channelDamaged l b) (channelRight l b) (λ e. sound-right (clean-sound e)) (λ e. sound-clean (right-sound e))

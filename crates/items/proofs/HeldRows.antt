@@ -2,7 +2,7 @@
 use Prim.Native.Nat.{ℕ, zero, suc, _<_}
 use mathlib.Core.Path.{_≡_, refl, sym, ap, subst, _∙_}
 use mathlib.Core.Logic.{_≢_}
-use mathlib.Core.Bool.{Bool, true, not, _||_, true≢false}
+use mathlib.Core.Bool.{Bool, true, false, not, _||_, true≢false}
 use mathlib.Core.List.{List, [], _∷_, map}
 use mathlib.Core.Option.{Option, none, some}
 use native.Mathlib.Omega.{arith}
@@ -35,8 +35,8 @@ row-own h hs a e = ap (λ (t : Bool). map (λ (h : Held). h .time) (keepOne t h 
 row-other : (h : Held) (hs : List Held) (a : ℕ) → h .sender ≢ a → rowTimes a (h ∷ hs) ≡ rowTimes a hs
 row-other h hs a d = ap (λ (t : Bool). map (λ (h : Held). h .time) (keepOne t h (keep (λ (h : Held). eqb (h .sender) a) hs))) (ne-eqb (h .sender) a d)
 
-abbrev Rising : List ℕ → ℕ → List Held → Type 0
-Rising last a hs = rises (getD last a 0) (rowTimes a hs) ≡ true
+abbrev RowRises : List ℕ → ℕ → List Held → Type 0
+RowRises last a hs = rises (getD last a 0) (rowTimes a hs) ≡ true
 
 -- The rows of what is left, once the first is taken, by the last times kept.
 module _ (last : List ℕ) (h : Held) (hs : List Held) (inside : h .sender < length last) where
@@ -49,31 +49,31 @@ module _ (last : List ℕ) (h : Held) (hs : List Held) (inside : h .sender < len
   kept-other : (a : ℕ) → h .sender ≢ a → getD kept a 0 ≡ getD last a 0
   kept-other a d = getD-set-other last (h .sender) a (h .time) 0 (λ q. d (sym q))
 
-  row-more : (a : ℕ) → ltb (getD last (h .sender) 0) (h .time) ≡ true → Rising kept a hs → Rising last a (h ∷ hs)
+  row-more : (a : ℕ) → ltb (getD last (h .sender) 0) (h .time) ≡ true → RowRises kept a hs → RowRises last a (h ∷ hs)
   row-more a late r = elim (ℕ-discrete (h .sender) a) [
     | yes e ↦ rw (row-own h hs a e) (rw (ap (λ (x : ℕ). ltb (getD last x 0) (h .time)) (sym e) ∙ late) (ap (λ (x : ℕ). rises x (rowTimes a hs)) (sym (kept-own a e)) ∙ r))
     | no d ↦ rw (row-other h hs a d) (ap (λ (x : ℕ). rises x (rowTimes a hs)) (sym (kept-other a d)) ∙ r)
   ]
 
-  row-less : (a : ℕ) → Rising last a (h ∷ hs) → Rising kept a hs
+  row-less : (a : ℕ) → RowRises last a (h ∷ hs) → RowRises kept a hs
   row-less a r = elim (ℕ-discrete (h .sender) a) [
     | yes e ↦ ap (λ (x : ℕ). rises x (rowTimes a hs)) (kept-own a e) ∙ both-true (ltb (getD last a 0) (h .time)) (rises (h .time) (rowTimes a hs)) (ap (rises (getD last a 0)) (sym (row-own h hs a e)) ∙ r) .1
     | no d ↦ ap (λ (x : ℕ). rises x (rowTimes a hs)) (kept-other a d) ∙ ap (rises (getD last a 0)) (sym (row-other h hs a d)) ∙ r
   ]
 
-  row-late : Rising last (h .sender) (h ∷ hs) → ltb (getD last (h .sender) 0) (h .time) ≡ true
+  row-late : RowRises last (h .sender) (h ∷ hs) → ltb (getD last (h .sender) 0) (h .time) ≡ true
   row-late r = both-true (ltb (getD last (h .sender) 0) (h .time)) (rises (h .time) (rowTimes (h .sender) hs)) (ap (rises (getD last (h .sender) 0)) (sym (row-own h hs (h .sender) refl)) ∙ r) .0
 
   kept-long : (x : ℕ) → x < length last → x < length kept
   kept-long x k = rw (length-set last (h .sender) (h .time)) k
 
-pub held-rows : (last : List ℕ) (hs : List Held) → ((h : Held) → In h hs → h .sender < length last) → heldRise last hs ≡ true → (a : ℕ) → Rising last a hs
+pub held-rows : (last : List ℕ) (hs : List Held) → ((h : Held) → In h hs → h .sender < length last) → heldRise last hs ≡ true → (a : ℕ) → RowRises last a hs
 held-rows last [] inside e a = refl
 held-rows last (h ∷ hs) inside e a =
     let (late, rest) = both-true (ltb (getD last (h .sender) 0) (h .time)) (heldRise (set last (h .sender) (h .time)) hs) e in
     row-more last h hs (inside h here) a late (held-rows (set last (h .sender) (h .time)) hs (λ x i. kept-long last h hs (inside h here) (x .sender) (inside x (there i))) rest a)
 
-pub rows-held : (last : List ℕ) (hs : List Held) → ((h : Held) → In h hs → h .sender < length last) → (Row : ℕ → Type 0) → ((h : Held) → In h hs → Row (h .sender)) → ((a : ℕ) → Row a → Rising last a hs) → heldRise last hs ≡ true
+pub rows-held : (last : List ℕ) (hs : List Held) → ((h : Held) → In h hs → h .sender < length last) → (Row : ℕ → Type 0) → ((h : Held) → In h hs → Row (h .sender)) → ((a : ℕ) → Row a → RowRises last a hs) → heldRise last hs ≡ true
 rows-held last [] inside Row own rows = refl
 rows-held last (h ∷ hs) inside Row own rows =
     rw (
@@ -113,19 +113,30 @@ module _ (l : Line) (line : Formed l) (n : ℕ) (inside : n < nodeCount (l .plan
       let (on, into) = entering-in (l .plan) n b i in
       omega (arith, line .ordered .forward b on, line .few, length-replicate {A = ℕ} 12 0)
 
-  pub held-opposite : ((h : Held) → In h held → isParent (l .plan) n (h .sender) ≡ true) → heldWrong l n ≡ not (heldRise noneHeld held)
+  abbrev rowWrong : ℕ → Bool
+  rowWrong c = not (rises 0 (rowTimes (channelAt (l .plan) c .sender) held))
+
+  rows-wrong : heldWrong l n ≡ anyOf rowWrong (entering (l .plan) n)
   unfolding heldWrong
-  held-opposite own =
-      any-row wrong held l (entering (l .plan) n)
-      ∙ opposite (anyOf (λ (c : ℕ). wrong (keep (λ (h : Held). eqb (h .sender) (channelAt (l .plan) c .sender)) held)) (entering (l .plan) n)) (heldRise noneHeld held)
-      (λ e. rows-held noneHeld held (λ h i. parent-below (h .sender) (own h i)) (λ a. isParent (l .plan) n a ≡ true) own
-      (λ a k.
-      (let (b, i, from) = parent-channel a k in
-      ap (λ (x : ℕ). rises x (rowTimes a held)) (at-first a)
-      ∙ subst (λ (x : ℕ). rises 0 (rowTimes x held) ≡ true) from
-      (not-false (rises 0 (rowTimes (channelAt (l .plan) b .sender) held)) (none-any (λ (c : ℕ). wrong (keep (λ (h : Held). eqb (h .sender) (channelAt (l .plan) c .sender)) held)) e i)))))
-      (λ e. each-none (λ (c : ℕ). wrong (keep (λ (h : Held). eqb (h .sender) (channelAt (l .plan) c .sender)) held)) (entering (l .plan) n)
-      (λ c i. ap not (ap (λ (x : ℕ). rises x (rowTimes (channelAt (l .plan) c .sender) held)) (sym (at-first (channelAt (l .plan) c .sender))) ∙ held-rows noneHeld held (λ h j. parent-below (h .sender) (own h j)) e (channelAt (l .plan) c .sender))))
-    where
-      wrong : List Held → Bool
-      wrong hs = not (rises 0 (map (λ (h : Held). h .time) hs))
+  rows-wrong = any-row (λ (hs : List Held). not (rises 0 (map (λ (h : Held). h .time) hs))) held l (entering (l .plan) n)
+
+  module _ (own : (h : Held) → In h held → isParent (l .plan) n (h .sender) ≡ true) where
+    below : (h : Held) → In h held → h .sender < length noneHeld
+    below h i = parent-below (h .sender) (own h i)
+
+    row-rises : anyOf rowWrong (entering (l .plan) n) ≡ false → (a : ℕ) → isParent (l .plan) n a ≡ true → RowRises noneHeld a held
+    row-rises e a k =
+        let (b, i, from) = parent-channel a k in
+        ap (λ (x : ℕ). rises x (rowTimes a held)) (at-first a) ∙ subst (λ (x : ℕ). rises 0 (rowTimes x held) ≡ true) from (not-false (rises 0 (rowTimes (channelAt (l .plan) b .sender) held)) (none-any rowWrong e i))
+
+    row-right : heldRise noneHeld held ≡ true → (c : ℕ) → rowWrong c ≡ false
+    row-right e c =
+        let a = channelAt (l .plan) c .sender in
+        ap not (ap (λ (x : ℕ). rises x (rowTimes a held)) (sym (at-first a)) ∙ held-rows noneHeld held below e a)
+
+    pub held-opposite : heldWrong l n ≡ not (heldRise noneHeld held)
+    held-opposite =
+        rows-wrong
+        ∙ opposite (anyOf rowWrong (entering (l .plan) n)) (heldRise noneHeld held)
+        (λ e. rows-held noneHeld held below (λ a. isParent (l .plan) n a ≡ true) own (row-rises e))
+        (λ e. each-none rowWrong (entering (l .plan) n) (λ c i. row-right e c))

@@ -4,6 +4,7 @@ pub mod Lookup
 pub mod Origins
 pub mod HeldRows
 pub mod ReplayItems
+pub mod NodeConditions
 pub mod NodeItems
 pub mod ChannelItems
 pub mod LineItems
