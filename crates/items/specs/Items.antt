@@ -1,4 +1,4 @@
--- The state check item by item: one pass over each list, and lookups among the at most four channels that enter a node. Code goes by this. The outer contract does not rest on believing it: `line-items` of the proofs says that it is the negation of `damaged`.
+-- The state check item by item: one pass over each list, and lookups among the at most four channels that enter a node. Code goes by this; the outer contract does not rest on believing it, since `line-items` of the proofs says that it is the negation of `damaged`.
 use Prim.Native.Nat.{ℕ, suc, _^_}
 use mathlib.Core.Bool.{Bool, true, false, not, _&&_, _||_}
 use mathlib.Core.List.{List, [], _∷_}
@@ -58,11 +58,12 @@ abbrev pub timesRise : {A : Type 0} → (A → ℕ) → ℕ → ℕ → List A �
 timesRise time last top [] = true
 timesRise time last top (x ∷ xs) = ltb last (time x) && leb (time x) top && timesRise time (time x) top xs
 
--- A node's log, held records and targets. The last held time of each row so far is kept by the parent's number.
+-- A log entry; its own time is tested in the pass over the log, whose top is within the steps.
 unfoldable pub entryRight : Line → ℕ → Entry → Bool
 unfolding originRight
 entryRight l n e = recordRight (e .what) && originRight l n (e .origin) (e .before)
 
+-- A held record, and the pass over all of them, which keeps each row's last time so far by the parent's number. A plan has at most 12 nodes.
 unfoldable pub heldRight : Line → ℕ → Held → Bool
 unfolding originRight passedOn
 heldRight l n h = recordRight (h .what) && originRight l n (made (h .sender) (h .time)) (h .before) && passedOn (l .plan) n (h .what)
@@ -71,7 +72,6 @@ abbrev pub heldRise : List ℕ → List Held → Bool
 heldRise last [] = true
 heldRise last (h ∷ hs) = ltb (getD last (h .sender) 0) (h .time) && heldRise (set last (h .sender) (h .time)) hs
 
--- A plan has at most 12 nodes.
 unfoldable pub noneHeld : List ℕ
 noneHeld = replicate 12 0
 
@@ -79,6 +79,7 @@ unfoldable pub targetRight : Line → ℕ → Target → Bool
 unfolding entering
 targetRight l n t = leb (t .time) (l .steps) && leb (t .parentTime) (l .steps) && ifFound (fromSender (l .plan) (t .parent) (entering (l .plan) n)) (λ (b : ℕ). true)
 
+-- A node: its counts, its time, its lists, its status, and its replay if it replays.
 unfoldable pub countsRight : Node → Bool
 countsRight x = leb (length (x .log)) logLimit && leb (length (x .held)) heldLimit && leb (length (x .targets)) targetLimit
 
@@ -94,7 +95,7 @@ unfoldable pub statusRight : Plan → ℕ → Node → Bool
 unfolding markMissing markOnEnd nodeHolds
 statusRight p n x = not (markMissing x) && not (markOnEnd p n x) && not (nodeHolds x)
 
--- A replaying node is what Recover would give: there are targets, not too many, that do not conflict and leave a row incomplete, and the node has them and the time low.
+-- A replaying node is what Recover would give: there are targets, not too many, that do not conflict and leave some row incomplete, and the node has these and low as its time.
 unfoldable pub rowRestored : Line → ℕ → ℕ → Bool
 unfolding targetsOf restored
 rowRestored l n c = leb (rowGoal (targetsOf l n) (senderOf l c)) (restored l n (senderOf l c))
@@ -112,7 +113,7 @@ nodeRight l n =
     countsRight x && leb (x .time) (l .steps) && logRight l n (x .log) && heldAllRight l n (x .held) && allOf (targetRight l n) (x .targets) && statusRight (l .plan) n x
     && (not (replaying l n) || replayRight l n)
 
--- A channel's messages, and the channel.
+-- A message; its own time is tested in the pass over the queue, which is empty where an end is down. Then the channel.
 unfoldable pub messageRight : Line → ℕ → Message → Bool
 unfolding namedRight
 messageRight l b m = recordRight (m .what) && namedRight l (senderOf l b) (m .origin)
