@@ -1,0 +1,10 @@
+pub mod Tests
+pub mod Rises
+pub mod Lookup
+pub mod Origins
+pub mod HeldRows
+pub mod ReplayItems
+pub mod NodeConditions
+pub mod NodeItems
+pub mod ChannelItems
+pub mod LineItems

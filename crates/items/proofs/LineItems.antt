@@ -1,0 +1,64 @@
+-- A line is damaged exactly if it is not right item by item.
+use Prim.Native.Nat.{ℕ, zero, suc, _+_, _<_}
+use mathlib.Core.Path.{_≡_, refl, ap, _∙_}
+use mathlib.Core.Logic.{inl, inr}
+use mathlib.Core.Bool.{Bool, true, false, not, _&&_, _||_}
+use native.Mathlib.Omega.{arith}
+use lib.ListN.{length}
+use lib.Dec.{leb, eqb}
+use Rattle.plan.specs.Plan.{nodeCount, channelCount}
+use Rattle.plan.specs.Check.{planFits}
+use Rattle.rules.specs.Lists.{allOf, upTo}
+use Rattle.rules.specs.Line.{stepLimit, Line, laneAt, nodeNumbers, channelNumbersOf, senderOf, parents}
+use Rattle.rules.specs.Damaged.{someNode, someChannel, planBroken, misshapen, stepsPast, nodeDamaged, channelDamaged, damaged}
+use Rattle.rules.proofs.Members.{In, in-none, in-first}
+use Rattle.items.specs.Items.{shapeRight, nodeRight, channelRight, lineRight}
+use Rattle.items.proofs.Tests.{above, any-opposite}
+use Rattle.items.proofs.Origins.{Formed, formed}
+use Rattle.items.proofs.NodeItems.{node-items}
+use Rattle.items.proofs.ChannelItems.{channel-items}
+
+up-to-in : (k n : ℕ) {i : ℕ} → In i (upTo k n) → i < k + n
+up-to-in k zero i = absurd (in-none i)
+up-to-in k (suc n) i = elim (in-first i) [ inl q ↦ omega arith | inr j ↦ omega (arith, up-to-in (suc k) n j) ]
+
+pub shape-items : (l : Line) → misshapen l ≡ not (shapeRight l)
+unfolding misshapen shapeRight
+shape-items l =
+    ap (λ (t : Bool). not nodes || not lanes || t) (any-opposite (λ (b : ℕ). not (heard b)) heard (channelNumbersOf l) (λ b i. refl))
+    ∙ one nodes lanes (allOf heard (channelNumbersOf l))
+  where
+    nodes : Bool
+    nodes = eqb (length (l .nodes)) (nodeCount (l .plan))
+
+    lanes : Bool
+    lanes = eqb (length (l .lanes)) (channelCount (l .plan))
+
+    heard : ℕ → Bool
+    heard b = eqb (length (laneAt l b .heard)) (length (parents (l .plan) (senderOf l b)))
+
+    one : (a b c : Bool) → (not a || not b || not c) ≡ not (a && b && c)
+    one true true c = refl
+    one true false c = refl
+    one false b c = refl
+
+nodes-items : (l : Line) → Formed l → someNode l (nodeDamaged l) ≡ not (allOf (nodeRight l) (nodeNumbers l))
+nodes-items l line = any-opposite (nodeDamaged l) (nodeRight l) (nodeNumbers l) (λ n i. node-items l line n (omega (arith, up-to-in 0 (nodeCount (l .plan)) i)))
+
+channels-items : (l : Line) → someChannel l (channelDamaged l) ≡ not (allOf (channelRight l) (channelNumbersOf l))
+channels-items l = any-opposite (channelDamaged l) (channelRight l) (channelNumbersOf l) (λ b i. channel-items l b)
+
+-- The parts, of which the nodes' rests on the first two.
+parts : (fits shape steps nodes channels broken : Bool) → (fits ≡ true → shape ≡ true → broken ≡ not nodes) → (not fits || not shape || not steps || broken || not channels) ≡ not (fits && shape && steps && nodes && channels)
+parts false shape steps nodes channels broken h = refl
+parts true false steps nodes channels broken h = refl
+parts true true false nodes channels broken h = refl
+parts true true true true channels broken h = ap (λ (t : Bool). t || not channels) (h refl refl)
+parts true true true false channels broken h = ap (λ (t : Bool). t || not channels) (h refl refl)
+
+pub line-items : (l : Line) → damaged l ≡ not (lineRight l)
+unfolding damaged lineRight planBroken stepsPast
+line-items l =
+    rw (shape-items l, above (l .steps) stepLimit, channels-items l)
+    (parts (planFits (l .plan)) (shapeRight l) (leb (l .steps) stepLimit) (allOf (nodeRight l) (nodeNumbers l)) (allOf (channelRight l) (channelNumbersOf l)) (someNode l (nodeDamaged l))
+    (λ fits shape. nodes-items l (formed l fits (shape-items l ∙ ap not shape))))

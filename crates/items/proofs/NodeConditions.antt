@@ -1,0 +1,157 @@
+-- The conditions of Damaged on a node, one by one over its lists.
+use Prim.Native.Nat.{ℕ}
+use mathlib.Core.Path.{_≡_, sym, ap, _∙_}
+use mathlib.Core.Bool.{Bool, true, false, not, _||_, or-assoc}
+use mathlib.Core.List.{List, [], _∷_, _++_, map}
+use lib.ListN.{length}
+use lib.Dec.{leb, ltb, eqb}
+use borrow.Author.Tests.{leb-true, le-ltb, not-false}
+use Rattle.basics.specs.Bools.{neither-true}
+use Rattle.plan.specs.Plan.{entering}
+use Rattle.rules.specs.Lists.{anyOf, joined}
+use Rattle.rules.specs.Line.{logLimit, heldLimit, targetLimit, Entry, Held, Target, Node, Line, nodeAt}
+use Rattle.rules.specs.Replay.{passedOn}
+use Rattle.rules.specs.Damaged.{workedOn, recordPastLimits, nodePastLimits, isParent, notParent, beforeNotParent, nodeWrongParent, originTimes, nodeNamedTimes, nodeOtherTimes, nodeTimePast, nodeTimeZero, originWrong, beforeWrong, nodeMakerWrong, logWrong, pastLane, pastClock, heldWrong, heldNotPassed, markMissing, markOnEnd, replayWrong, nodeHolds, nodeDamaged}
+use Rattle.items.specs.Items.{timesRise, countsRight}
+use Rattle.items.proofs.Tests.{not-above, all-true, all-false, false-all, any-append, any-map, any-joined}
+use Rattle.items.proofs.Rises.{rise-same}
+
+-- On a record worked on, on the times that an input names, and on those of a target.
+abbrev pub pastLimits : Entry → Bool
+pastLimits e = recordPastLimits (e .what)
+
+abbrev pub inputTimes : (ℕ → Bool) → Entry → Bool
+inputTimes f e = anyOf f (originTimes (e .origin) ++ originTimes (e .before))
+
+abbrev pub targetTimes : (ℕ → Bool) → Target → Bool
+targetTimes f t = anyOf f (t .time ∷ t .parentTime ∷ [])
+
+module _ (l : Line) (n : ℕ) where
+  abbrev x : Node
+  x = nodeAt l n
+
+  -- On what an input was made from, on who made it, and on the node's clock.
+  abbrev pub wrongInput : Entry → Bool
+  wrongInput e = notParent (l .plan) n (e .origin) || beforeNotParent (l .plan) (e .origin) (e .before)
+
+  abbrev pub wrongMaker : Entry → Bool
+  wrongMaker e = originWrong (l .plan) n (e .origin) || beforeWrong (l .plan) (e .origin) (e .before)
+
+  abbrev pub pastEntry : Entry → Bool
+  pastEntry e = anyOf (λ (b : ℕ). pastLane l b (e .origin) (e .before)) (entering (l .plan) n)
+
+  abbrev pub wrongTarget : Target → Bool
+  wrongTarget t = not (isParent (l .plan) n (t .parent))
+
+  abbrev pub notPassed : Held → Bool
+  notPassed h = not (passedOn (l .plan) n (h .what))
+
+  -- None of them applies.
+  pub record Clear : Type 0 where
+    pub counts : countsRight x ≡ true
+    pub records : anyOf pastLimits (workedOn x) ≡ false
+    pub inputs : anyOf wrongInput (workedOn x) ≡ false
+    pub parents : anyOf wrongTarget (x .targets) ≡ false
+    pub log-past : anyOf (λ (e : Entry). ltb (l .steps) (e .time)) (x .log) ≡ false
+    pub inputs-past : anyOf (inputTimes (ltb (l .steps))) (workedOn x) ≡ false
+    pub time-past : ltb (l .steps) (x .time) ≡ false
+    pub targets-past : anyOf (targetTimes (ltb (l .steps))) (x .targets) ≡ false
+    pub log-nought : anyOf (λ (e : Entry). eqb 0 (e .time)) (x .log) ≡ false
+    pub inputs-nought : anyOf (inputTimes (eqb 0)) (workedOn x) ≡ false
+    pub makers : anyOf wrongMaker (workedOn x) ≡ false
+    pub log-rises : timesRise (λ (e : Entry). e .time) 0 (x .time) (x .log) ≡ true
+    pub clock : anyOf pastEntry (workedOn x) ≡ false
+    pub rows : heldWrong l n ≡ false
+    pub passed : anyOf notPassed (x .held) ≡ false
+    pub missing : markMissing x ≡ false
+    pub on-end : markOnEnd (l .plan) n x ≡ false
+    pub again : replayWrong l n ≡ false
+    pub holds : nodeHolds x ≡ false
+
+-- The conditions with several parts.
+module _ (x : Node) where
+  limits-clear : nodePastLimits x ≡ false → (countsRight x ≡ true) × (anyOf pastLimits (workedOn x) ≡ false)
+  unfolding nodePastLimits countsRight
+  limits-clear e =
+      let (log, (held, (targets, records))) = all-false (ltb logLimit (length (x .log))) (ltb heldLimit (length (x .held)) ∷ ltb targetLimit (length (x .targets)) ∷ anyOf pastLimits (workedOn x) ∷ []) e in
+      (rw (not-above (length (x .log)) logLimit, log, not-above (length (x .held)) heldLimit, held, not-above (length (x .targets)) targetLimit, targets), records)
+
+  clear-limits : countsRight x ≡ true → anyOf pastLimits (workedOn x) ≡ false → nodePastLimits x ≡ false
+  unfolding nodePastLimits countsRight
+  clear-limits counts records =
+      let (log, (held, targets)) = all-true (leb (length (x .log)) logLimit) (leb (length (x .held)) heldLimit ∷ leb (length (x .targets)) targetLimit ∷ []) counts in
+      rw (
+        le-ltb logLimit (length (x .log)) (leb-true (length (x .log)) logLimit log),
+        le-ltb heldLimit (length (x .held)) (leb-true (length (x .held)) heldLimit held),
+        le-ltb targetLimit (length (x .targets)) (leb-true (length (x .targets)) targetLimit targets),
+        records,
+      )
+
+  named-times : (f : ℕ → Bool) → anyOf f (nodeNamedTimes x) ≡ (anyOf (λ (e : Entry). f (e .time)) (x .log) || anyOf (inputTimes f) (workedOn x))
+  named-times f =
+      any-append f (map (λ (e : Entry). e .time) (x .log)) (joined (map (λ (e : Entry). originTimes (e .origin) ++ originTimes (e .before)) (workedOn x)))
+      ∙ rw (any-map f (λ (e : Entry). e .time) (x .log), any-joined f (λ (e : Entry). originTimes (e .origin) ++ originTimes (e .before)) (workedOn x))
+
+  past-is : (steps : ℕ) → nodeTimePast steps x ≡ (anyOf (λ (e : Entry). ltb steps (e .time)) (x .log) || anyOf (inputTimes (ltb steps)) (workedOn x) || ltb steps (x .time) || anyOf (targetTimes (ltb steps)) (x .targets))
+  unfolding nodeTimePast
+  past-is steps =
+      any-append (ltb steps) (nodeNamedTimes x) (nodeOtherTimes x)
+      ∙ rw (named-times (ltb steps), any-joined (ltb steps) (λ (t : Target). t .time ∷ t .parentTime ∷ []) (x .targets))
+      (sym (or-assoc (anyOf (λ (e : Entry). ltb steps (e .time)) (x .log) || anyOf (inputTimes (ltb steps)) (workedOn x)) (ltb steps (x .time)) (anyOf (targetTimes (ltb steps)) (x .targets))))
+
+  zero-is : nodeTimeZero x ≡ (anyOf (λ (e : Entry). eqb 0 (e .time)) (x .log) || anyOf (inputTimes (eqb 0)) (workedOn x))
+  unfolding nodeTimeZero
+  zero-is = named-times (eqb 0)
+
+  log-is : logWrong x ≡ not (timesRise (λ (e : Entry). e .time) 0 (x .time) (x .log))
+  unfolding logWrong
+  log-is = ap not (sym (rise-same (λ (e : Entry). e .time) 0 (x .time) (x .log)))
+
+module _ (l : Line) (n : ℕ) where
+  abbrev others : List Bool
+  others =
+      nodeWrongParent (l .plan) n (x l n) ∷ nodeTimePast (l .steps) (x l n) ∷ nodeTimeZero (x l n) ∷ nodeMakerWrong (l .plan) n (x l n) ∷ logWrong (x l n) ∷ pastClock l n
+      ∷ heldWrong l n ∷ heldNotPassed (l .plan) n (x l n) ∷ markMissing (x l n) ∷ markOnEnd (l .plan) n (x l n) ∷ replayWrong l n ∷ nodeHolds (x l n) ∷ []
+
+  pub node-clear : nodeDamaged l n ≡ false → Clear l n
+  unfolding nodeDamaged nodeWrongParent nodeMakerWrong pastClock heldNotPassed
+  node-clear e =
+      let y : Node = nodeAt l n in
+      let (limits, (parents, (past, (nought, (makers, (log, (clock, (rows, (passed, (missing, (on-end, (again, holds)))))))))))) = all-false (nodePastLimits y) others e in
+      let (counts, records) = limits-clear y limits in
+      let (inputs, targets) = neither-true (anyOf (wrongInput l n) (workedOn y)) (anyOf (wrongTarget l n) (y .targets)) parents in
+      let (log-past, (inputs-past, (time-past, targets-past))) =
+      all-false (anyOf (λ (e : Entry). ltb (l .steps) (e .time)) (y .log)) (anyOf (inputTimes (ltb (l .steps))) (workedOn y) ∷ ltb (l .steps) (y .time) ∷ anyOf (targetTimes (ltb (l .steps))) (y .targets) ∷ []) (sym (past-is y (l .steps)) ∙ past) in
+      let (log-nought, inputs-nought) = neither-true (anyOf (λ (e : Entry). eqb 0 (e .time)) (y .log)) (anyOf (inputTimes (eqb 0)) (workedOn y)) (sym (zero-is y) ∙ nought) in
+      record {
+        counts = counts;
+        records = records;
+        inputs = inputs;
+        parents = targets;
+        log-past = log-past;
+        inputs-past = inputs-past;
+        time-past = time-past;
+        targets-past = targets-past;
+        log-nought = log-nought;
+        inputs-nought = inputs-nought;
+        makers = makers;
+        log-rises = not-false (timesRise (λ (e : Entry). e .time) 0 (y .time) (y .log)) (sym (log-is y) ∙ log);
+        clock = clock;
+        rows = rows;
+        passed = passed;
+        missing = missing;
+        on-end = on-end;
+        again = again;
+        holds = holds;
+      }
+
+  pub clear-node : Clear l n → nodeDamaged l n ≡ false
+  unfolding nodeDamaged nodeWrongParent nodeMakerWrong pastClock heldNotPassed
+  clear-node c =
+      let y : Node = nodeAt l n in
+      let limits = clear-limits y (c .counts) (c .records) in
+      let parents : nodeWrongParent (l .plan) n y ≡ false = rw (c .inputs, c .parents) in
+      let past : nodeTimePast (l .steps) y ≡ false = past-is y (l .steps) ∙ rw (c .log-past, c .inputs-past, c .time-past, c .targets-past) in
+      let nought : nodeTimeZero y ≡ false = zero-is y ∙ rw (c .log-nought, c .inputs-nought) in
+      let log = log-is y ∙ ap not (c .log-rises) in
+      false-all (nodePastLimits y) others (limits, (parents, (past, (nought, (c .makers, (log, (c .clock, (c .rows, (c .passed, (c .missing, (c .on-end, (c .again, c .holds))))))))))))
