@@ -1,0 +1,2 @@
+-- The paper's two-node line, fresh, written and read back.
+use Prim.Native.Nat.{ℕ}
