@@ -1,4 +1,5 @@
 -- A line in the lent buffer of 61,440 bytes (docs/LAYOUT.md).
+pub mod Sound
 pub mod Sizes
 pub mod Pieces
 pub mod Node
