@@ -1,1 +1,3 @@
 -- What the line's code rests on.
+pub mod BytesLaws
+pub mod StartBytes

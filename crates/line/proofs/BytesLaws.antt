@@ -1,0 +1,72 @@
+-- Bytes of a buffer: four of them as a number, bytes that are all 0, and bytes written one by one.
+use Prim.Native.Nat.{ℕ, zero, suc, _+_, _*_, _-_, _≤_, _<_}
+use mathlib.Core.Path.{_≡_, refl, sym, ap, _∙_}
+use mathlib.Core.Bool.{Bool, true, false, _&&_, and-assoc}
+use mathlib.Core.List.{List, [], _∷_, _++_, append-nil}
+use native.Mathlib.Nat.{add-zero, zero-add}
+use native.Mathlib.Omega.{arith}
+use borrow.Author.Tests.{ne-eqb, eqb-true}
+use lib.Dec.{eqb, eqb·suc-zero}
+use lib.Bits.{bitOr, or-zero-l, or-add-and, and-le-r}
+use lib.ListN.{length, getD, take, drop, set, length-drop, drop-of-length-le}
+use lib.Seq.{take-suc, take-all, take-length, getD-drop, paste, paste-suc}
+use Rattle.plan.specs.Layout.{spelled}
+use Rattle.plan.specs.Lawful.{Zeros}
+use Rattle.basics.specs.Bools.{both-true}
+use Rattle.line.specs.Zero.{zeroBytes}
+
+-- ---- numbers
+
+four-spelled : (s : List ℕ) → 4 ≤ length s → spelled 0 (take 4 s) ≡ ((getD s 0 0 * 256 + getD s 1 0) * 256 + getD s 2 0) * 256 + getD s 3 0
+four-spelled [] h = let no : ⊥ = omega arith in absurd no
+four-spelled (a ∷ []) h = let no : ⊥ = omega arith in absurd no
+four-spelled (a ∷ b ∷ []) h = let no : ⊥ = omega arith in absurd no
+four-spelled (a ∷ b ∷ c ∷ []) h = let no : ⊥ = omega arith in absurd no
+four-spelled (a ∷ b ∷ c ∷ d ∷ s) h = omega arith
+
+pub four-field : (i : ℕ) (s : List ℕ) → i + 4 ≤ length s
+    → spelled 0 (take 4 (drop i s)) ≡ ((getD s i 0 * 256 + getD s (i + 1) 0) * 256 + getD s (i + 2) 0) * 256 + getD s (i + 3) 0
+four-field i s h = four-spelled (drop i s) (simp length-drop (omega arith)) ∙ simp (getD-drop, add-zero)
+
+-- ---- bytes that are all 0
+
+-- An or is 0 where both are.
+or-zero : (a b : ℕ) → eqb (bitOr a b) 0 ≡ (eqb a 0 && eqb b 0)
+or-zero zero b = rw or-zero-l
+or-zero (suc a) b = rw (eqb·suc-zero, ne-eqb (bitOr (suc a) b) 0 (λ e. omega (arith, e, or-add-and (suc a) b, and-le-r (suc a) b)))
+
+zero-more : (s : List ℕ) (b : ℕ) → (zeroBytes s && eqb b 0) ≡ zeroBytes (s ++ (b ∷ []))
+zero-more [] b = one (eqb b 0)
+  where
+    one : (t : Bool) → t ≡ (t && true)
+    one true = refl
+    one false = refl
+zero-more (x ∷ s) b = and-assoc (eqb x 0) (zeroBytes s) (eqb b 0) ∙ ap (λ (t : Bool). eqb x 0 && t) (zero-more s b)
+
+-- One byte more.
+pub zero-turn : (s : List ℕ) (from i seen : ℕ) → from ≤ i → i < length s → eqb seen 0 ≡ zeroBytes (take (i - from) (drop from s))
+    → eqb (bitOr seen (getD s i 0)) 0 ≡ zeroBytes (take (i + 1 - from) (drop from s))
+zero-turn s from i seen l m e =
+    let more : i + 1 - from ≡ suc (i - from) = omega arith in
+    let here : from + (i - from) ≡ i = omega arith in
+    let below : i - from < length (drop from s) = simp length-drop (omega arith) in
+    rw (or-zero seen (getD s i 0), e, more, take-suc (drop from s) (i - from) 0 below, getD-drop, here) (zero-more (take (i - from) (drop from s)) (getD s i 0))
+
+-- What the test finds.
+pub zero-bytes : (s : List ℕ) → zeroBytes s ≡ true → Zeros s
+zero-bytes [] e = tt
+zero-bytes (b ∷ s) e =
+    let t = both-true (eqb b 0) (zeroBytes s) e in
+    (eqb-true b 0 (t .0), zero-bytes s (t .1))
+
+-- ---- bytes written one by one
+
+pub paste-turn : (d : List ℕ) (at : ℕ) (s : List ℕ) (j i : ℕ) → at + j ≡ i → i < length d → j < length s → set (paste d at s j) i (getD s j 0) ≡ paste d at s (suc j)
+paste-turn d at s j i e l h = ap (λ (k : ℕ). set (paste d at s j) k (getD s j 0)) (sym e) ∙ paste-suc d at s j 0 (omega arith) h
+
+-- All of them, up to the end and up to a place.
+pub paste-end : (d : List ℕ) (at : ℕ) (s : List ℕ) (n : ℕ) → length d ≤ at + n → length s ≤ n → paste d at s n ≡ take at d ++ s
+paste-end d at s n l h = rw (take-all n s h, drop-of-length-le d {i = at + n} l, append-nil)
+
+pub paste-front : (d s : List ℕ) → paste d 0 s (length s) ≡ s ++ drop (length s) d
+paste-front d s = rw (take-length s, zero-add)
