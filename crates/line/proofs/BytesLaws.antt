@@ -2,14 +2,14 @@
 use Prim.Native.Nat.{ℕ, zero, suc, _+_, _*_, _-_, _≤_, _<_}
 use mathlib.Core.Path.{_≡_, refl, sym, ap, _∙_}
 use mathlib.Core.Bool.{Bool, true, false, _&&_, and-assoc}
-use mathlib.Core.List.{List, [], _∷_, _++_, append-nil}
-use native.Mathlib.Nat.{add-zero, zero-add}
+use mathlib.Core.List.{List, [], _∷_, _++_}
+use native.Mathlib.Nat.{add-zero}
 use native.Mathlib.Omega.{arith}
 use borrow.Author.Tests.{ne-eqb, eqb-true}
 use lib.Dec.{eqb, eqb·suc-zero}
 use lib.Bits.{bitOr, or-zero-l, or-add-and, and-le-r}
-use lib.ListN.{length, getD, take, drop, set, length-drop, drop-of-length-le}
-use lib.Seq.{take-suc, take-all, take-length, getD-drop, paste, paste-suc}
+use lib.ListN.{length, getD, take, drop, set, length-drop}
+use lib.Seq.{take-suc, take-all, getD-drop, paste, paste-suc}
 use Rattle.plan.specs.Layout.{spelled}
 use Rattle.plan.specs.Lawful.{Zeros}
 use Rattle.basics.specs.Bools.{both-true}
@@ -64,9 +64,6 @@ zero-bytes (b ∷ s) e =
 pub paste-turn : (d : List ℕ) (at : ℕ) (s : List ℕ) (j i : ℕ) → at + j ≡ i → i < length d → j < length s → set (paste d at s j) i (getD s j 0) ≡ paste d at s (suc j)
 paste-turn d at s j i e l h = ap (λ (k : ℕ). set (paste d at s j) k (getD s j 0)) (sym e) ∙ paste-suc d at s j 0 (omega arith) h
 
--- All of them, up to the end and up to a place.
-pub paste-end : (d : List ℕ) (at : ℕ) (s : List ℕ) (n : ℕ) → length d ≤ at + n → length s ≤ n → paste d at s n ≡ take at d ++ s
-paste-end d at s n l h = rw (take-all n s h, drop-of-length-le d {i = at + n} l, append-nil)
-
-pub paste-front : (d s : List ℕ) → paste d 0 s (length s) ≡ s ++ drop (length s) d
-paste-front d s = rw (take-length s, zero-add)
+-- All of them.
+pub paste-all : (d : List ℕ) (at : ℕ) (s : List ℕ) (n to : ℕ) → length s ≡ n → at + n ≡ to → paste d at s n ≡ take at d ++ s ++ drop to d
+paste-all d at s n to e f = rw (take-all n s (omega arith), f)

@@ -2,11 +2,11 @@
 use Prim.Native.Nat.{ℕ, _-_, _≤_}
 use mathlib.Core.Path.{_≡_, refl, sym, _∙_}
 use mathlib.Core.Bool.{Bool, true, false}
-use mathlib.Core.List.{List, _++_}
+use mathlib.Core.List.{List, _++_, append-nil}
 use native.Mathlib.Omega.{arith}
 use borrow.Author.Tests.{eq-eqb, ne-eqb}
 use lib.Dec.{eqb}
-use lib.ListN.{length, take, drop, replicate}
+use lib.ListN.{length, take, drop, replicate, drop-of-length-le}
 use lib.Seq.{take-append-seam}
 use Rattle.plan.specs.Lawful.{Bytes}
 use Rattle.plan.specs.Plan.{planOf, planNodes, planChannels}
@@ -55,5 +55,5 @@ module _ (plan state : List ℕ) where
 
   -- What the code writes: the plan to the front, then 0 behind it.
   pub zeros-behind : (copied : List ℕ) → copied ≡ plan ++ drop (length plan) state → length copied ≡ stateSize
-      → take (length plan) copied ++ replicate (length copied - length plan) 0 ≡ plan ++ replicate (stateSize - length plan) 0
-  zeros-behind copied e size = rw (size, e, take-append-seam)
+      → take (length plan) copied ++ replicate (stateSize - length plan) 0 ++ drop stateSize copied ≡ plan ++ replicate (stateSize - length plan) 0
+  zeros-behind copied e size = rw (drop-of-length-le copied {i = stateSize} (omega arith), append-nil, e, take-append-seam)

@@ -42,7 +42,7 @@ pub fn get32(s: &[u8], at: usize) -> u32
     ((wide32(s[at]) * 256 + wide32(s[at + 1])) * 256 + wide32(s[at + 2])) * 256 + wide32(s[at + 3])
 }
 
-// Whether the bytes from a place up to another are all 0: they are or-ed together, and the one test comes last, so that many are taken at a time.
+// Whether the bytes from a place up to another are all 0. They are or-ed together and tested once, so that the compiler takes many at a time.
 pub fn all_zero(s: &[u8], from: usize, to: usize) -> bool
     requires { ⌜ (from ≤ to) × (to ≤ length (now s)) ⌝ }
     ensures { λ r. ⌜ r ≡ zeroBytes (take (to - from) (drop from (now (s .entry)))) ⌝ }
@@ -56,13 +56,13 @@ pub fn all_zero(s: &[u8], from: usize, to: usize) -> bool
     seen == 0
 }
 
-// The bytes from a place on become 0.
-pub fn fill_zero(s: &mut [u8], from: usize)
-    requires { ⌜ from ≤ length (now s) ⌝ }
-    ensures { λ _. ⌜ now (s .exit) ≡ take from (now (s .entry)) ++ replicate (length (now (s .entry)) - from) 0 ⌝ }
+// The bytes from a place up to another become 0.
+pub fn fill_zero(s: &mut [u8], from: usize, to: usize)
+    requires { ⌜ (from ≤ to) × (to ≤ length (now s)) ⌝ }
+    ensures { λ _. ⌜ now (s .exit) ≡ take from (now (s .entry)) ++ replicate (to - from) 0 ++ drop to (now (s .entry)) ⌝ }
 {
     let mut i = from;
-    while i < s.len() {
+    while i < to {
         s[i] = 0;
         i += 1;
     }

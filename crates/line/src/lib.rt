@@ -38,6 +38,6 @@ pub extern "C" fn line_load(plan: &[u8], state: &mut [u8]) -> u32
         return 8;
     }
     bytes::copy_to(plan, state);
-    bytes::fill_zero(state, plan.len());
+    bytes::fill_zero(state, plan.len(), Line::STATE_SIZE);
     0
 }

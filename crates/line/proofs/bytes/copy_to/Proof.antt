@@ -5,7 +5,7 @@ use native.Mathlib.Numerals.{add-one}
 use native.Mathlib.Omega.{arith}
 use lib.ListN.{length, getD, length-set}
 use lib.Seq.{paste, paste-zero}
-use Rattle.line.proofs.BytesLaws.{paste-turn, paste-front}
+use Rattle.line.proofs.BytesLaws.{paste-turn, paste-all}
 use Rattle.line.proofs.bytes.copy_to.Statement.{statement}
 use Rattle.line.proofs.bytes.copy_to.Tie as tie
 
@@ -37,8 +37,8 @@ loop-again c =
 returns : tie.Need-returns Inv-loop μ-loop
 returns c =
     let a = c .before .before .args in
-    let e : c .before .loop .i ≡ length (a .from .now) = omega arith in
-    rw e at (c .before .loop .inv .now) ∙ paste-front (a .to .now) (a .from .now)
+    let t = c .before .loop in
+    t .inv .now ∙ paste-all (a .to .now) 0 (a .from .now) (t .i) (length (a .from .now)) (omega arith) (omega arith)
 
 pub copy-to-spec : {M : Type 1} → statement M
 copy-to-spec =

@@ -5,33 +5,33 @@ use native.Mathlib.Nat.{sub-self}
 use native.Mathlib.Omega.{arith}
 use lib.ListN.{length, replicate, length-set, length-replicate, getD-replicate}
 use lib.Seq.{paste, paste-zero}
-use Rattle.line.proofs.BytesLaws.{paste-turn, paste-end}
+use Rattle.line.proofs.BytesLaws.{paste-turn, paste-all}
 use Rattle.line.proofs.bytes.fill_zero.Statement.{statement}
 use Rattle.line.proofs.bytes.fill_zero.Tie as tie
 
 -- The bytes from the place up to i are 0.
-record Filled (s₀ : List ℕ) (from : ℕ) (s : List ℕ) (i : ℕ) : Type 0 where
+record Filled (s₀ : List ℕ) (from to : ℕ) (s : List ℕ) (i : ℕ) : Type 0 where
   low : from ≤ i
-  high : i ≤ length s₀
+  high : i ≤ to
   same : length s ≡ length s₀
-  now : s ≡ paste s₀ from (replicate (length s₀ - from) 0) (i - from)
+  now : s ≡ paste s₀ from (replicate (to - from) 0) (i - from)
 
 abbrev Inv-loop : tie.InvT-loop
-Inv-loop s₀ from i₀ s i = Filled s₀ from s i
+Inv-loop s₀ from to i₀ s i = Filled s₀ from to s i
 
 abbrev μ-loop : tie.MeasureT-loop
-μ-loop s₀ from i₀ s i = length s₀ - i
+μ-loop s₀ from to i₀ s i = to - i
 
 loop-holds : tie.Need-loop-holds Inv-loop μ-loop
 loop-holds c =
     let a = c .args in
-    record { low = omega arith; high = omega arith; same = refl; now = rw sub-self (paste-zero (a .s .now) (a .from) (replicate (length (a .s .now) - a .from) 0)) }
+    record { low = omega arith; high = omega arith; same = refl; now = rw sub-self (paste-zero (a .s .now) (a .from) (replicate (a .to - a .from) 0)) }
 
 loop-again : tie.Need-loop-again Inv-loop μ-loop
 loop-again c =
     let a = c .before .before .args in
     let t = c .before .loop in
-    let n : ℕ = length (a .s .now) - a .from in
+    let n : ℕ = a .to - a .from in
     let j : ℕ = t .i - a .from in
     let more : t .i + 1 - a .from ≡ suc j = omega arith in
     record {
@@ -45,7 +45,7 @@ returns : tie.Need-returns Inv-loop μ-loop
 returns c =
     let a = c .before .before .args in
     let t = c .before .loop in
-    t .inv .now ∙ paste-end (a .s .now) (a .from) (replicate (length (a .s .now) - a .from) 0) (t .i - a .from) (omega arith) (rw length-replicate (omega arith))
+    t .inv .now ∙ paste-all (a .s .now) (a .from) (replicate (a .to - a .from) 0) (t .i - a .from) (a .to) (rw length-replicate (omega arith)) (omega arith)
 
 pub fill-zero-spec : {M : Type 1} → statement M
 fill-zero-spec =
