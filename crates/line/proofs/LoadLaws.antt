@@ -14,7 +14,7 @@ use Rattle.plan.specs.Check.{planRefusal}
 use Rattle.plan.proofs.CheckLaws.{accepted}
 use Rattle.plan.proofs.PlanLaws.{plan-size}
 use Rattle.rules.specs.Line.{initialLine}
-use Rattle.state.specs.Sizes.{stateSize}
+use Rattle.state.specs.Sizes.{stateSize, planArea}
 use Rattle.state.specs.State.{lineBytes}
 use Rattle.line.specs.Load.{loadAnswer, loadLeft}
 use Rattle.line.proofs.StartBytes.{start-bytes}
@@ -45,7 +45,7 @@ module _ (plan state : List ℕ) where
       let a : 8 ≡ loadAnswer plan state = sym (answer-is ∙ rw (eq-eqb (planRefusal plan) 0 z, ne-eqb (length state) stateSize h)) in
       (a, left-as-it-was 8 (λ e. omega arith) a)
 
-  pub plan-short : planRefusal plan ≡ 0 → length plan ≤ stateSize
+  pub plan-short : planRefusal plan ≡ 0 → length plan ≤ planArea
   plan-short z = let a = accepted plan z in omega (arith, a .sized, plan-size (planNodes plan) (planChannels plan))
 
   pub loaded : Bytes plan → planRefusal plan ≡ 0 → length state ≡ stateSize → (0 ≡ loadAnswer plan state) × (plan ++ replicate (stateSize - length plan) 0 ≡ loadLeft plan state)
