@@ -6,4 +6,4 @@ use lib.Dec.{eqb}
 use Rattle.rules.specs.Lists.{allOf}
 
 abbrev pub zeroBytes : List ℕ → Bool
-zeroBytes s = allOf (λ (b : ℕ). eqb b 0) s
+zeroBytes s = allOf (eqb 0) s

@@ -19,7 +19,7 @@ fn wide32(b: u8) -> u32
 }
 
 // The byte at a place.
-pub fn get8(s: &[u8], at: usize) -> u8
+pub(crate) fn get8(s: &[u8], at: usize) -> u8
     requires { ⌜ at + 1 ≤ length (now s) ⌝ }
     ensures { λ r. ⌜ r ≡ spelled 0 (take 1 (drop at (now (s .entry)))) ⌝ }
 {
@@ -27,7 +27,7 @@ pub fn get8(s: &[u8], at: usize) -> u8
 }
 
 // The number that two bytes spell.
-pub fn get16(s: &[u8], at: usize) -> u16
+pub(crate) fn get16(s: &[u8], at: usize) -> u16
     requires { ⌜ at + 2 ≤ length (now s) ⌝ }
     ensures { λ r. ⌜ r ≡ spelled 0 (take 2 (drop at (now (s .entry)))) ⌝ }
 {
@@ -35,7 +35,7 @@ pub fn get16(s: &[u8], at: usize) -> u16
 }
 
 // The number that four bytes spell.
-pub fn get32(s: &[u8], at: usize) -> u32
+pub(crate) fn get32(s: &[u8], at: usize) -> u32
     requires { ⌜ at + 4 ≤ length (now s) ⌝ }
     ensures { λ r. ⌜ r ≡ spelled 0 (take 4 (drop at (now (s .entry)))) ⌝ }
 {
@@ -43,7 +43,7 @@ pub fn get32(s: &[u8], at: usize) -> u32
 }
 
 // Whether the bytes from a place up to another are all 0. They are or-ed together and tested once, so that the compiler takes many at a time.
-pub fn all_zero(s: &[u8], from: usize, to: usize) -> bool
+pub(crate) fn all_zero(s: &[u8], from: usize, to: usize) -> bool
     requires { ⌜ (from ≤ to) × (to ≤ length (now s)) ⌝ }
     ensures { λ r. ⌜ r ≡ zeroBytes (take (to - from) (drop from (now (s .entry)))) ⌝ }
 {
@@ -57,7 +57,7 @@ pub fn all_zero(s: &[u8], from: usize, to: usize) -> bool
 }
 
 // The bytes from a place up to another become 0.
-pub fn fill_zero(s: &mut [u8], from: usize, to: usize)
+pub(crate) fn fill_zero(s: &mut [u8], from: usize, to: usize)
     requires { ⌜ (from ≤ to) × (to ≤ length (now s)) ⌝ }
     ensures { λ _. ⌜ now (s .exit) ≡ take from (now (s .entry)) ++ replicate (to - from) 0 ++ drop to (now (s .entry)) ⌝ }
 {
@@ -69,7 +69,7 @@ pub fn fill_zero(s: &mut [u8], from: usize, to: usize)
 }
 
 // One slice to the front of another.
-pub fn copy_to(from: &[u8], to: &mut [u8])
+pub(crate) fn copy_to(from: &[u8], to: &mut [u8])
     requires { ⌜ length (now from) ≤ length (now to) ⌝ }
     ensures { λ _. ⌜ now (to .exit) ≡ now (from .entry) ++ drop (length (now (from .entry))) (now (to .entry)) ⌝ }
 {

@@ -1,12 +1,12 @@
-use Prim.Native.Nat.{ℕ, _-_, _≤_, _<_}
-use mathlib.Core.Path.{_≡_, refl}
+use Prim.Native.Nat.{ℕ, _-_, _≤_}
+use mathlib.Core.Path.{_≡_, refl, _∙_}
 use mathlib.Core.List.{List}
 use native.Mathlib.Nat.{sub-self}
 use native.Mathlib.Omega.{arith}
 use lib.Dec.{eqb}
-use lib.ListN.{length, take, drop}
+use lib.ListN.{take, drop}
 use Rattle.line.specs.Zero.{zeroBytes}
-use Rattle.line.proofs.BytesLaws.{zero-turn}
+use Rattle.line.proofs.BytesLaws.{zero-turn, zero-test}
 use Rattle.line.proofs.bytes.all_zero.Statement.{statement}
 use Rattle.line.proofs.bytes.all_zero.Tie as tie
 
@@ -14,7 +14,7 @@ use Rattle.line.proofs.bytes.all_zero.Tie as tie
 record Seen (s : List ℕ) (from to seen i : ℕ) : Type 0 where
   low : from ≤ i
   high : i ≤ to
-  now : eqb seen 0 ≡ zeroBytes (take (i - from) (drop from s))
+  now : eqb 0 seen ≡ zeroBytes (take (i - from) (drop from s))
 
 abbrev Inv-loop : tie.InvT-loop
 Inv-loop s from to seen₀ i₀ seen i = Seen s from to seen i
@@ -34,7 +34,7 @@ loop-again c =
 returns : tie.Need-returns Inv-loop μ-loop
 returns c =
     let e : c .before .loop .i ≡ c .before .before .args .to = omega arith in
-    rw e at (c .before .loop .inv .now)
+    zero-test (c .before .loop .seen) ∙ rw e at (c .before .loop .inv .now)
 
 pub all-zero-spec : {M : Type 1} → statement M
 all-zero-spec =
