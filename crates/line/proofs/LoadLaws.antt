@@ -25,6 +25,9 @@ answerBy whole sized refusal = elim whole [ true ↦ elim sized [ true ↦ 0 | f
 abbrev leftBy : Bool → List ℕ → List ℕ → List ℕ
 leftBy done line state = elim done [ true ↦ line | false ↦ state ]
 
+pub plan-short : (plan : List ℕ) → planRefusal plan ≡ 0 → length plan ≤ planArea
+plan-short plan z = let a = accepted plan z in omega (arith, a .sized, plan-size (planNodes plan) (planChannels plan))
+
 module _ (plan state : List ℕ) where
   answer-is : loadAnswer plan state ≡ answerBy (eqb (planRefusal plan) 0) (eqb (length state) stateSize) (planRefusal plan)
   unfolding loadAnswer
@@ -45,15 +48,12 @@ module _ (plan state : List ℕ) where
       let a : 8 ≡ loadAnswer plan state = sym (answer-is ∙ rw (eq-eqb (planRefusal plan) 0 z, ne-eqb (length state) stateSize h)) in
       (a, left-as-it-was 8 (λ e. omega arith) a)
 
-  pub plan-short : planRefusal plan ≡ 0 → length plan ≤ planArea
-  plan-short z = let a = accepted plan z in omega (arith, a .sized, plan-size (planNodes plan) (planChannels plan))
-
   pub loaded : Bytes plan → planRefusal plan ≡ 0 → length state ≡ stateSize → (0 ≡ loadAnswer plan state) × (plan ++ replicate (stateSize - length plan) 0 ≡ loadLeft plan state)
   loaded h z e =
       let a : loadAnswer plan state ≡ 0 = answer-is ∙ rw (eq-eqb (planRefusal plan) 0 z, eq-eqb (length state) stateSize e) in
       (sym a, sym (left-is ∙ rw a (start-bytes plan h z)))
 
   -- What the code writes: the plan to the front, then 0 behind it.
-  pub zeros-behind : (copied : List ℕ) → copied ≡ plan ++ drop (length plan) state → length copied ≡ stateSize
+  pub load-written : (copied : List ℕ) → copied ≡ plan ++ drop (length plan) state → length copied ≡ stateSize
       → take (length plan) copied ++ replicate (stateSize - length plan) 0 ++ drop stateSize copied ≡ plan ++ replicate (stateSize - length plan) 0
-  zeros-behind copied e size = rw (drop-of-length-le copied {i = stateSize} (omega arith), append-nil, e, take-append-seam)
+  load-written copied e size = rw (drop-of-length-le copied {i = stateSize} (omega arith), append-nil, e, take-append-seam)

@@ -7,7 +7,7 @@ use lib.ListN.{length}
 use Rattle.plan.specs.Check.{planRefusal}
 use Rattle.plan.proofs.BytesLaws.{bytes-known}
 use Rattle.state.specs.Sizes.{stateSize}
-use Rattle.line.proofs.LoadLaws.{plan-short, plan-refused, size-refused, loaded, zeros-behind}
+use Rattle.line.proofs.LoadLaws.{plan-short, plan-refused, size-refused, loaded, load-written}
 use Rattle.line.proofs.line_load.Statement.{statement}
 use Rattle.line.proofs.line_load.Tie as tie
 
@@ -24,13 +24,13 @@ returns-2 c =
 copy-to-requires : tie.Need-copy-to-requires
 copy-to-requires c κs =
     let a = c .before .before .before .before .before .before .args in
-    omega (arith, plan-short (a .plan .now) (a .state .now) (sym (c .before .before .before .plan-check .ensures) ∙ c .before .before .if1 .left))
+    omega (arith, plan-short (a .plan .now) (sym (c .before .before .before .plan-check .ensures) ∙ c .before .before .if1 .left))
 
 fill-zero-requires : tie.Need-fill-zero-requires
 fill-zero-requires c κs =
     let checked = c .before .before .before .before .before .before .before in
     let a = checked .before .before .before .args in
-    omega (arith, c .before .before .before .copy-to .kept .1 .0, plan-short (a .plan .now) (a .state .now) (sym (checked .plan-check .ensures) ∙ c .before .before .before .before .before .before .if1 .left))
+    omega (arith, c .before .before .before .copy-to .kept .1 .0, plan-short (a .plan .now) (sym (checked .plan-check .ensures) ∙ c .before .before .before .before .before .before .if1 .left))
 
 returns-3 : tie.Need-returns-3
 returns-3 c =
@@ -43,7 +43,7 @@ returns-3 c =
     let z : planRefusal plan ≡ 0 = sym (checked .plan-check .ensures) ∙ copied .before .before .before .if1 .left in
     let size : length state ≡ stateSize = copied .before .before .if2 .left in
     let l = loaded plan state (bytes-known plan (λ i. known .shared-slice-known .given i .fits)) z size in
-    (l .0, filled .fill-zero .ensures ∙ zeros-behind plan state (copied .copy-to .last .1 .0) (copied .copy-to .ensures) (copied .copy-to .kept .1 .0 ∙ size) ∙ l .1)
+    (l .0, filled .fill-zero .ensures ∙ load-written plan state (copied .copy-to .last .1 .0) (copied .copy-to .ensures) (copied .copy-to .kept .1 .0 ∙ size) ∙ l .1)
 
 pub line-load-spec : {M : Type 1} → statement M
 line-load-spec =
