@@ -68,3 +68,8 @@ slots n l = record { size = n * l .size; write = writeSlots l n; read = readSlot
 unfoldable pub upToSlots : {A : Type 0} → ℕ → ℕ → Layout A → Layout (List A)
 unfolding number slots pair via
 upToSlots width limit l = via (pair (number width) (slots limit l)) (λ xs. (length xs, xs)) (λ p. take (p .0) (p .1))
+
+-- A value, and so many unused bytes behind it.
+unfoldable pub padded : {A : Type 0} → ℕ → Layout A → Layout A
+unfolding zeros pair via
+padded n l = via (pair l (zeros n)) (λ a. (a, tt)) (λ p. p .0)

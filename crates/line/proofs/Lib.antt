@@ -1,0 +1,4 @@
+-- What the line's code rests on.
+pub mod BytesLaws
+pub mod StartBytes
+pub mod LoadLaws

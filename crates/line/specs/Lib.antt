@@ -1,0 +1,3 @@
+-- What the line's functions answer and leave, by bytes.
+pub mod Zero
+pub mod Load

@@ -1,0 +1,43 @@
+// The line in its lent buffer, for the panel: what is passed are bytes, what comes back is one number.
+ghost use mathlib.Core.Path.{_≡_};
+ghost use Rattle.line.specs.Load.{loadAnswer, loadLeft};
+
+mod bytes;
+
+// The line's own limits (document 01, "The limits belong to the line itself").
+pub struct Line {
+    pub steps: u32,
+}
+
+impl Line {
+    // "a lent buffer of 61,440 bytes"
+    pub const STATE_SIZE: usize = 61_440;
+    // "64 log entries a node"
+    pub const LOG_LIMIT: u32 = 64;
+    // "8 messages on a belt"
+    pub const QUEUE_LIMIT: u32 = 8;
+    // "64 held records a node"
+    pub const HELD_LIMIT: u32 = 64;
+    // "64 targets a node"
+    pub const TARGET_LIMIT: u32 = 64;
+    // "1,000,000 accepted steps"
+    pub const STEP_LIMIT: u32 = 1_000_000;
+}
+
+// Load: the plan's first refusal, 8 for a state of another size, or 0 with the plan's line, in which nothing has happened yet, in the state.
+#[no_mangle]
+pub extern "C" fn line_load(plan: &[u8], state: &mut [u8]) -> u32
+    ensures { λ r. ⌜ (r ≡ loadAnswer (now (plan .entry)) (now (state .entry)))
+        × (now (state .exit) ≡ loadLeft (now (plan .entry)) (now (state .entry))) ⌝ }
+{
+    let refusal = plan::plan_check(plan);
+    if refusal != 0 {
+        return refusal;
+    }
+    if state.len() != Line::STATE_SIZE {
+        return 8;
+    }
+    bytes::copy_to(plan, state);
+    bytes::fill_zero(state, plan.len(), Line::STATE_SIZE);
+    0
+}

@@ -1,0 +1,75 @@
+-- A channel's block: mark, taken, heard, queue.
+use Prim.Native.Nat.{ℕ, _+_, _*_}
+use mathlib.Core.List.{List, [], _∷_, _++_, map}
+use mathlib.Core.Path.{_≡_, refl}
+use lib.ListN.{length, getD, take, drop, replicate}
+use Rattle.plan.specs.declared.Channel.{Channel}
+use Rattle.plan.specs.Plan.{Plan}
+use Rattle.plan.specs.Layout.{Layout, fields, via, pair, upToSlots, padded}
+use Rattle.rules.specs.Line.{queueLimit, Message, Lane, parents}
+use Rattle.state.specs.Sizes.{blockSize, countSize, parentLimit, heardAt, queueAt, messageSize, laneRestAt, laneRest}
+use Rattle.state.specs.Pieces.{messageLayout}
+
+-- Mark, taken, and what was heard of four parents.
+abbrev pub heardWidths : List ℕ
+heardWidths = 4 ∷ 4 ∷ 4 ∷ 4 ∷ []
+
+abbrev pub laneWidths : List ℕ
+laneWidths = 4 ∷ 4 ∷ heardWidths
+
+unfoldable pub laneFields : Layout (List ℕ)
+unfolding fields
+laneFields = fields laneWidths
+
+unfoldable pub queueLayout : Layout (List Message)
+unfolding messageLayout upToSlots
+queueLayout = upToSlots countSize queueLimit messageLayout
+
+abbrev pub LaneParts : Type 0
+LaneParts = List ℕ × List Message
+
+abbrev pub laneSeen : Lane → LaneParts
+laneSeen x = (x .mark ∷ x .taken ∷ x .heard, x .queue)
+
+abbrev pub laneFrom : LaneParts → Lane
+laneFrom p = record { mark = getD (p .0) 0 0; taken = getD (p .0) 1 0; heard = drop 2 (p .0); queue = p .1 }
+
+unfoldable pub laneParts : Layout LaneParts
+unfolding laneFields queueLayout pair
+laneParts = pair laneFields queueLayout
+
+-- A lane with four heard.
+unfoldable pub laneLayout : Layout Lane
+unfolding laneParts via padded
+laneLayout = padded laneRest (via laneParts laneSeen laneFrom)
+
+-- A line's lane has one heard for each parent of its sender: the others are written 0, and cut when it is read.
+abbrev pub withHeard : List ℕ → Lane → Lane
+withHeard hs x = record { mark = x .mark; taken = x .taken; heard = hs; queue = x .queue }
+
+unfoldable pub padHeard : Lane → Lane
+padHeard x = withHeard (take parentLimit (x .heard ++ replicate parentLimit 0)) x
+
+unfoldable pub cutHeard : ℕ → Lane → Lane
+cutHeard n x = withHeard (take n (x .heard)) x
+
+-- How many are heard on a channel.
+unfoldable pub heardCount : Plan → Channel → ℕ
+unfolding parents
+heardCount p c = length (parents p (c .sender))
+
+abbrev pub cutLanes : Plan → List Channel → List Lane → List Lane
+cutLanes p [] xs = []
+cutLanes p (c ∷ cs) [] = []
+cutLanes p (c ∷ cs) (x ∷ xs) = cutHeard (heardCount p c) x ∷ cutLanes p cs xs
+
+-- The offsets add up.
+pub heard-end : heardAt + parentLimit * countSize ≡ queueAt
+heard-end = refl
+
+pub queue-end : queueAt + countSize + queueLimit * messageSize ≡ laneRestAt
+queue-end = refl
+
+pub lane-size : laneLayout .size ≡ blockSize
+unfolding laneLayout
+lane-size = refl
