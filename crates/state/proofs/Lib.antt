@@ -1,1 +1,3 @@
 pub mod SoundLaws
+pub mod PieceLaws
+pub mod BlockLaws
