@@ -1,3 +1,6 @@
 pub mod SoundLaws
 pub mod PieceLaws
 pub mod BlockLaws
+pub mod ListLaws
+pub mod HeardLaws
+pub mod LineLaws
