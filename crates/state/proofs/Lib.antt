@@ -4,3 +4,4 @@ pub mod BlockLaws
 pub mod ListLaws
 pub mod HeardLaws
 pub mod LineLaws
+pub mod StartLaws

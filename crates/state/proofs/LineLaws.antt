@@ -3,11 +3,10 @@ use Prim.Native.Nat.{ℕ, _+_, _*_, _-_, _≤_, _<_}
 use mathlib.Core.Path.{_≡_, refl, sym, ap, ap₂, subst, _∙_}
 use mathlib.Core.Bool.{true}
 use mathlib.Core.List.{List, [], _∷_, _++_, map}
-use native.Mathlib.Nat.{add-mul}
 use native.Mathlib.Omega.{arith}
 use lib.ListN.{length, getD, take, drop, replicate, length-append, length-map, List·getD-append}
 use Rattle.plan.specs.Layout.{Layout, slots}
-use Rattle.plan.specs.Lawful.{Each, FieldsFit, SlotsFit}
+use Rattle.plan.specs.Lawful.{Bytes, FieldsFit, SlotsFit}
 use Rattle.plan.specs.Rule.{ruleWidths, ruleOf, ruleLayout}
 use Rattle.plan.specs.Channel.{channelWidths, channelOf, channelLayout}
 use Rattle.plan.specs.Plan.{Plan, nodeCount, channelCount, headWidths, headNumbers, planLayout, planSize, planBytes, planNodes, planChannels}
@@ -70,10 +69,6 @@ parts-sound n m = padded-sound (pair-sound (plan-part-sound n m) (pair-sound ste
 
 -- ---- how long it is
 
--- So many slots, and those that are left.
-share : (n limit size : ℕ) → n ≤ limit → n * size + (limit - n) * size ≡ limit * size
-share n limit size h = sym (add-mul n (limit - n) size) ∙ ap (λ (k : ℕ). k * size) (let e : n + (limit - n) ≡ limit = omega arith in e)
-
 pub state-size : (n m : ℕ) → n ≤ nodePages → m ≤ laneBlocks → stateLayout n m .size ≡ stateSize
 unfolding stateLayout
 state-size n m h k = omega (arith, plan-size n m)
@@ -84,3 +79,52 @@ line-long l h k =
     let n = nodeCount (l .plan) in
     let m = channelCount (l .plan) in
     parts-sound n m .sized (lineSeen l) ∙ state-size n m h k
+
+pub line-bytes : (l : Line) → Bytes (lineBytes l)
+unfolding lineBytes
+line-bytes l = parts-sound (nodeCount (l .plan)) (channelCount (l .plan)) .bytes (lineSeen l)
+
+-- ---- what is written is read back
+
+-- A line's bytes begin as its plan's do.
+nodes-first : (l : Line) → planNodes (lineBytes l) ≡ planNodes (planBytes (l .plan))
+unfolding lineBytes planBytes planNodes
+nodes-first l = refl
+
+channels-first : (l : Line) → planChannels (lineBytes l) ≡ planChannels (planBytes (l .plan))
+unfolding lineBytes planBytes planChannels
+channels-first l = refl
+
+plan-known : (p : Plan) → planFits p ≡ true → PlanFits p
+plan-known p e = subst PlanFits (fits-accepted p e .1) (plan-fits (planBytes p) (plan-bytes p))
+
+pub nodes-in : (l : Line) → planFits (l .plan) ≡ true → planNodes (lineBytes l) ≡ nodeCount (l .plan)
+nodes-in l e = nodes-first l ∙ nodes-read (l .plan) (plan-known (l .plan) e)
+
+pub channels-in : (l : Line) → planFits (l .plan) ≡ true → planChannels (lineBytes l) ≡ channelCount (l .plan)
+channels-in l e = channels-first l ∙ channels-read (l .plan) (plan-known (l .plan) e)
+
+pub parts-fit : (l : Line) → LineFits l → PartsFit (nodeCount (l .plan)) (channelCount (l .plan)) (lineSeen l)
+parts-fit l f =
+    let h = plan-known (l .plan) (f .plan) in
+    let node = each-known NodeFits (l .nodes) freshNode (λ n k. f .node n (omega (arith, f .nodes))) in
+    let lane = each-known LaneFits (l .lanes) noLane (λ b k. f .lane b (omega (arith, f .lanes))) in
+    (
+      (head-fits (l .plan) h, ((refl, h .rule), (refl, h .channel))),
+      (f .steps, ((f .nodes, node), (length-map (l .lanes) padHeard ∙ f .lanes, each-map LaneFits PaddedFits padHeard pad-fits (l .lanes) lane))),
+    )
+
+pub line-known : (l : Line) → LineFits l → lineFrom (lineSeen l) ≡ l
+line-known l f = λ i. record {
+  plan = l .plan;
+  steps = l .steps;
+  nodes = l .nodes;
+  lanes = cut-pads (l .plan) (l .plan .channels) (l .lanes) (f .lanes) (λ b h. (f .heard b h, heard-few (l .plan) (f .plan) b h)) i;
+}
+
+pub line-read : (l : Line) → LineFits l → lineOf (lineBytes l) ≡ l
+unfolding lineOf lineBytes
+line-read l f =
+    ap₂ (λ (n m : ℕ). stateLayout n m .read (lineBytes l)) (nodes-in l (f .plan)) (channels-in l (f .plan))
+    ∙ ap lineFrom (parts-sound (nodeCount (l .plan)) (channelCount (l .plan)) .readBack (lineSeen l) (parts-fit l f))
+    ∙ line-known l f
