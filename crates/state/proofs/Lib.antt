@@ -5,3 +5,4 @@ pub mod ListLaws
 pub mod HeardLaws
 pub mod LineLaws
 pub mod StartLaws
+pub mod SpelledLaws
