@@ -6,3 +6,4 @@ pub mod HeardLaws
 pub mod LineLaws
 pub mod StartLaws
 pub mod SpelledLaws
+pub mod ReadLaws
