@@ -7,3 +7,5 @@ pub mod LineLaws
 pub mod StartLaws
 pub mod SpelledLaws
 pub mod ReadLaws
+pub mod FieldLaws
+pub mod InPlace
