@@ -83,6 +83,30 @@ lanes-read-at m s = padded-read (slots-sound lane-sound m) ((laneBlocks - m) * b
 
 -- ---- the line
 
+-- The page of a node, and the block of a channel.
+abbrev pub pageOf : ℕ → List ℕ → List ℕ
+pageOf k s = take pageSize (drop (pageAt k) s)
+
+abbrev pub blockOf : ℕ → List ℕ → List ℕ
+blockOf b s = take blockSize (drop (blockAt b) s)
+
+length-cut : (p : Plan) (cs : List Channel) (xs : List Lane) → length xs ≡ length cs → length (cutLanes p cs xs) ≡ length cs
+length-cut p [] xs e = refl
+length-cut p (c ∷ cs) [] e = let no : ⊥ = omega arith in absurd no
+length-cut p (c ∷ cs) (x ∷ xs) e = ap suc (length-cut p cs xs (omega arith))
+
+cut-at : (p : Plan) (cs : List Channel) (xs : List Lane) → length xs ≡ length cs → (b : ℕ) → b < length cs → getD (cutLanes p cs xs) b noLane ≡ cutHeard (heardCount p (getD cs b noChannel)) (getD xs b noLane)
+cut-at p [] xs e b h = let no : ⊥ = omega arith in absurd no
+cut-at p (c ∷ cs) [] e b h = let no : ⊥ = omega arith in absurd no
+cut-at p (c ∷ cs) (x ∷ xs) e zero h = refl
+cut-at p (c ∷ cs) (x ∷ xs) e (suc b) h = cut-at p cs xs (omega arith) b (omega arith)
+
+page-start : (k : ℕ) → pageSize + k * pageSize ≡ pageAt k
+page-start k = omega arith
+
+block-start : (b : ℕ) → blocksAt + b * blockSize ≡ blockAt b
+block-start b = omega arith
+
 module _ (s : List ℕ) where
   abbrev n : ℕ
   n = planNodes s
@@ -112,3 +136,35 @@ module _ (s : List ℕ) where
     pub line-lanes : lineOf s .lanes ≡ cutLanes (planOf s) (planOf s .channels) (readSlots laneLayout m (drop blocksAt s))
     unfolding lineOf
     line-lanes = ap₂ (λ (p : Plan) (xs : List Lane). cutLanes p (p .channels) xs) line-plan (ap (λ (x : StateParts). x .1 .1 .1) parts ∙ lanes-read-at m (drop blocksAt s))
+
+    pub nodes-counted : length (lineOf s .nodes) ≡ n
+    nodes-counted = ap length line-nodes ∙ length-readSlots nodeLayout n (drop pageSize s)
+
+    lanes-given : length (readSlots laneLayout m (drop blocksAt s)) ≡ length (planOf s .channels)
+    lanes-given = length-readSlots laneLayout m (drop blocksAt s) ∙ sym (channel-count s)
+
+    pub lanes-counted : length (lineOf s .lanes) ≡ m
+    lanes-counted = ap length line-lanes ∙ length-cut (planOf s) (planOf s .channels) (readSlots laneLayout m (drop blocksAt s)) lanes-given ∙ channel-count s
+
+    -- Each node lies in its page, each lane in its block.
+    pub node-in : (k : ℕ) → k < n → nodeAt (lineOf s) k ≡ nodeLayout .read (pageOf k s)
+    unfolding nodeLayout
+    node-in k h =
+        ap (λ (xs : List Node). getD xs k freshNode) line-nodes
+        ∙ slot-at nodeLayout n (drop pageSize s) k freshNode h
+        ∙ ap (λ (t : List ℕ). nodeLayout .read (take pageSize t)) (drop-drop (k * pageSize) pageSize s ∙ ap (λ (a : ℕ). drop a s) (page-start k))
+
+    pub lane-in : (b : ℕ) → b < m → laneAt (lineOf s) b ≡ cutHeard (heardCount (planOf s) (channelAt (planOf s) b)) (laneLayout .read (blockOf b s))
+    unfolding laneLayout
+    lane-in b h =
+        let c = heardCount (planOf s) (channelAt (planOf s) b) in
+        ap (λ (xs : List Lane). getD xs b noLane) line-lanes
+        ∙ cut-at (planOf s) (planOf s .channels) (readSlots laneLayout m (drop blocksAt s)) lanes-given b (rw channel-count h)
+        ∙ ap (cutHeard c) (slot-at laneLayout m (drop blocksAt s) b noLane h)
+        ∙ ap (λ (t : List ℕ). cutHeard c (laneLayout .read (take blockSize t))) (drop-drop (b * blockSize) blocksAt s ∙ ap (λ (a : ℕ). drop a s) (block-start b))
+
+    pub node-past : (k : ℕ) → n ≤ k → nodeAt (lineOf s) k ≡ freshNode
+    node-past k h = List·getD-eq-default (lineOf s .nodes) freshNode (rw nodes-counted h)
+
+    pub lane-past : (b : ℕ) → m ≤ b → laneAt (lineOf s) b ≡ noLane
+    lane-past b h = List·getD-eq-default (lineOf s .lanes) noLane (rw lanes-counted h)

@@ -9,3 +9,4 @@ pub mod SpelledLaws
 pub mod ReadLaws
 pub mod FieldLaws
 pub mod InPlace
+pub mod OffsetLaws
