@@ -10,3 +10,5 @@ pub mod ReadLaws
 pub mod FieldLaws
 pub mod InPlace
 pub mod OffsetLaws
+pub mod RightLaws
+pub mod RightAt
