@@ -12,3 +12,4 @@ pub mod InPlace
 pub mod OffsetLaws
 pub mod RightLaws
 pub mod RightAt
+pub mod PieceRight

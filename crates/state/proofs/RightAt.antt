@@ -28,10 +28,10 @@ iff-at P e = (subst P e, subst P (sym e))
 iff-both : {s t u v : List ℕ} (P : List ℕ → List ℕ → Type 0) → s ≡ t → u ≡ v → P s u ↔ P t v
 iff-both P e f = (subst₂ P e f, subst₂ P (sym e) (sym f))
 
-part-long : (a w : ℕ) (s : List ℕ) → a + w ≤ length s → length (take w (drop a s)) ≡ w
+pub part-long : (a w : ℕ) (s : List ℕ) → a + w ≤ length s → length (take w (drop a s)) ≡ w
 part-long a w s h = length-take-le w (drop a s) (simp length-drop (omega arith))
 
-part-bytes : (a w : ℕ) (s : List ℕ) → Bytes s → Bytes (take w (drop a s))
+pub part-bytes : (a w : ℕ) (s : List ℕ) → Bytes s → Bytes (take w (drop a s))
 part-bytes a w s h = bytes-take w (drop a s) (bytes-drop a s h)
 
 -- The first and the second part of a part.
@@ -60,10 +60,10 @@ module _ {A : Type 0} {l : Layout A} {Fits : A → Type 0} (inner : Sound l Fits
   padded-at n h =
       Iff·trans (padded-right inner n (take (l .size + n) (drop a s)) (part-long a (l .size + n) s h)) (Iff·and (iff-at (Right l) (part-first a (l .size) n s)) (iff-at Zeros (part-second a (l .size) n s)))
 
-  pub via-at : {B : Type 0} (seen : B → A) (value : A → B) → ((x : A) → Fits x → Fits (seen (value x))) → Bytes s
+  pub via-at : {B : Type 0} (seen : B → A) (value : A → B) → Fits (seen (value (l .read (take (l .size) (drop a s)))))
       → RightAt (via l seen value) a s ↔ (RightAt l a s × (seen (value (l .read (take (l .size) (drop a s)))) ≡ l .read (take (l .size) (drop a s))))
   unfolding via
-  via-at seen value fitting h = via-right inner seen value fitting (take (l .size) (drop a s)) (part-bytes a (l .size) s h)
+  via-at seen value h = via-right inner seen value (take (l .size) (drop a s)) h
 
 -- ---- slots
 

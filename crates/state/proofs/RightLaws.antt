@@ -47,12 +47,12 @@ module _ {A : Type 0} {l : Layout A} {Fits : A → Type 0} (inner : Sound l Fits
   padded-right n s e = Iff·trans (pair-right (zeros n) s) (Iff·and (λ r. r, λ r. r) (zeros-right n (drop (l .size) s) (simp length-drop (omega arith))))
 
   -- A value seen as another.
-  pub via-right : {B : Type 0} (seen : B → A) (value : A → B) → ((a : A) → Fits a → Fits (seen (value a))) → (s : List ℕ) → Bytes s
+  pub via-right : {B : Type 0} (seen : B → A) (value : A → B) (s : List ℕ) → Fits (seen (value (l .read s)))
       → Right (via l seen value) s ↔ (Right l s × (seen (value (l .read s)) ≡ l .read s))
   unfolding via
-  via-right seen value fitting s h =
+  via-right seen value s h =
       let x = l .read s in
-      let known : (l .write (seen (value x)) ≡ s) → seen (value x) ≡ x = λ e. sym (inner .readBack (seen (value x)) (fitting x (inner .fits s h))) ∙ ap (l .read) e in (
+      let known : (l .write (seen (value x)) ≡ s) → seen (value x) ≡ x = λ e. sym (inner .readBack (seen (value x)) h) ∙ ap (l .read) e in (
         λ e. (ap (l .write) (sym (known e)) ∙ e, known e),
         λ r. ap (l .write) (r .1) ∙ r .0,
       )
