@@ -13,3 +13,4 @@ pub mod OffsetLaws
 pub mod RightLaws
 pub mod RightAt
 pub mod PieceRight
+pub mod BlockRight

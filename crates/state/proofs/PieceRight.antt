@@ -54,3 +54,60 @@ module _ (s : List ℕ) (k : Bytes s) where
         λ r q. sym time ∙ numbers .0 (split .0 r .1) (sender ∙ q),
         λ f. split .1 (fields-at originWidths a s (omega arith) k, numbers .1 (λ q. time ∙ f (sym sender ∙ q))),
       )
+
+  pub message-at : (a : ℕ) → a + 20 ≤ length s → RightAt messageLayout a s ↔ MessageRight a s
+  unfolding messageLayout
+  message-at a h =
+      let whole = padded-at message-body-sound a s 3 h in
+      let first = pair-at record-sound a s (pair (number 4) originLayout) in
+      let second = pair-at (number-sound 4) (a + 8) s originLayout in
+      let what = record-at s k a (omega arith) in
+      let origin = origin-at (a + 8 + 4) (a + 12) (omega arith) (omega arith) in (
+        λ r.
+            let x = first .0 (whole .0 r .0) in
+            record { what = what .0 (x .0); origin = origin .0 (second .0 (x .1) .1); unused = whole .0 r .1 },
+        λ r. whole .1 (first .1 (what .1 (r .what), second .1 (number-at 4 (a + 8) s (omega arith) k, origin .1 (r .origin))), r .unused),
+      )
+
+  pub entry-at : (a : ℕ) → a + 24 ≤ length s → RightAt entryLayout a s ↔ EntryRight a s
+  unfolding entryLayout
+  entry-at a h =
+      let whole = padded-at entry-body-sound a s 2 h in
+      let first = pair-at record-sound a s (pair (number 4) (pair originLayout originLayout)) in
+      let second = pair-at (number-sound 4) (a + 8) s (pair originLayout originLayout) in
+      let third = pair-at origin-sound (a + 8 + 4) s originLayout in
+      let what = record-at s k a (omega arith) in
+      let origin = origin-at (a + 8 + 4) (a + 12) (omega arith) (omega arith) in
+      let before = origin-at (a + 8 + 4 + 5) (a + 17) (omega arith) (omega arith) in (
+        λ r.
+            let x = first .0 (whole .0 r .0) in
+            let y = third .0 (second .0 (x .1) .1) in
+            record { what = what .0 (x .0); origin = origin .0 (y .0); before = before .0 (y .1); unused = whole .0 r .1 },
+        λ r.
+            whole .1 (first .1 (what .1 (r .what), second .1 (number-at 4 (a + 8) s (omega arith) k, third .1 (origin .1 (r .origin), before .1 (r .before)))), r .unused),
+      )
+
+  pub held-at : (a : ℕ) → a + 20 ≤ length s → RightAt heldLayout a s ↔ HeldRight a s
+  unfolding heldLayout
+  held-at a h =
+      let whole = padded-at held-body-sound a s 2 h in
+      let first = pair-at record-sound a s (pair (number 1) (pair (number 4) originLayout)) in
+      let second = pair-at (number-sound 1) (a + 8) s (pair (number 4) originLayout) in
+      let third = pair-at (number-sound 4) (a + 8 + 1) s originLayout in
+      let what = record-at s k a (omega arith) in
+      let before = origin-at (a + 8 + 1 + 4) (a + 13) (omega arith) (omega arith) in (
+        λ r.
+            let x = first .0 (whole .0 r .0) in
+            record { what = what .0 (x .0); before = before .0 (third .0 (second .0 (x .1) .1) .1); unused = whole .0 r .1 },
+        λ r.
+            whole .1 (
+              first .1 (what .1 (r .what), second .1 (number-at 1 (a + 8) s (omega arith) k, third .1 (number-at 4 (a + 8 + 1) s (omega arith) k, before .1 (r .before)))),
+              r .unused,
+            ),
+      )
+
+  pub target-at : (a : ℕ) → a + 12 ≤ length s → RightAt targetLayout a s ↔ TargetRight a s
+  unfolding targetLayout
+  target-at a h =
+      let whole = padded-at target-body-sound a s 3 h in
+      (λ r. whole .0 r .1, λ r. whole .1 (fields-at targetWidths a s (omega arith) k, r))
