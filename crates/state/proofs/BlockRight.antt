@@ -9,7 +9,7 @@ use lib.ListN.{length, getD, take, drop, replicate}
 use lib.Seq.{drop-drop, take-take, take-all}
 use Rattle.plan.specs.Layout.{Layout, spelled, pair, upToSlots, via, readFields}
 use Rattle.plan.specs.Lawful.{Bytes, Zeros}
-use Rattle.plan.proofs.LayoutLaws.{fields-front}
+use Rattle.plan.proofs.BytesLaws.{each-take}
 use Rattle.rules.specs.Line.{logLimit, queueLimit, heldLimit, targetLimit, Lane}
 use Rattle.state.specs.Sizes.{countSize, pageSize, blockSize, nodeRest, laneRest, nodeRestAt, laneRestAt, statusAt, crashedAt, logAt, entrySize, heldAt, heldSize, targetsAt, targetSize, queueAt, messageSize, parentLimit, heardAt}
 use Rattle.state.specs.Pieces.{messageLayout, entryLayout, heldLayout, targetLayout}
@@ -19,7 +19,12 @@ use Rattle.state.specs.Right.{ZerosAt, wordAt, ListRight, MessageRight, 
 use Rattle.state.proofs.SoundLaws.{fields-sound}
 use Rattle.state.proofs.PieceLaws.{message-sound, entry-sound, held-sound, target-sound}
 use Rattle.state.proofs.BlockLaws.{log-sound, held-list-sound, targets-sound, node-parts-sound, node-seen-fits, node-body-sound, node-sound, queue-sound, lane-body-sound, lane-sound}
+use Rattle.state.specs.Fits.{TimeFits, LaneFits}
+use Rattle.state.proofs.ListLaws.{IsZero, each-known, each-at, take-replicate}
+use Rattle.state.proofs.HeardLaws.{pad-fits}
 use Rattle.state.proofs.ReadLaws.{part-part}
+use Rattle.state.proofs.FieldLaws.{heard-at}
+use Rattle.state.proofs.RightLaws.{zeros-same}
 use Rattle.state.proofs.RightAt.{RightAt, part-bytes, number-at, fields-at, pair-at, padded-at, via-at, list-at, list-slots}
 use Rattle.state.proofs.PieceRight.{byte-in, message-at, entry-at, held-at, target-at}
 
@@ -137,4 +142,71 @@ module _ (s : List ℕ) (k : Bytes s) (a : ℕ) (h : a + pageSize ≤ length s) 
               ),
               r .rest,
             ),
+      )
+
+-- ---- a channel's block
+
+-- Numbers cut and padded again are the same where the last ones are 0.
+pad-cut : (n m k : ℕ) (hs : List ℕ) → length hs ≡ n → n ≤ m → (take n (take k hs ++ replicate m 0) ≡ hs) ↔ ((i : ℕ) → k ≤ i → i < n → getD hs i 0 ≡ 0)
+pad-cut n m zero hs e h =
+    let zeros : take {A = ℕ} n (replicate m 0) ≡ replicate n 0 = take-replicate n m 0 h in
+    let same = zeros-same n hs e in (
+      λ q i l k. each-at IsZero hs 0 (same .0 (sym zeros ∙ q)) i (omega arith),
+      λ f. zeros ∙ same .1 (each-known IsZero hs 0 (λ i l. f i (omega arith) (omega arith))),
+    )
+pad-cut n m (suc k) [] e h = (λ q i l j. refl, λ f. ap (λ (c : ℕ). take {A = ℕ} c (replicate m 0)) (sym e))
+pad-cut zero m (suc k) (x ∷ hs) e h = let no : ⊥ = omega arith in absurd no
+pad-cut (suc n) m (suc k) (x ∷ hs) e h =
+    let rest = pad-cut n m k hs (omega arith) (omega arith) in (
+      λ q. heard-later (rest .0 (ap (drop 1) q)),
+      λ f. ap (λ (ys : List ℕ). x ∷ ys) (rest .1 (λ i l j. f (suc i) (omega arith) (omega arith))),
+    )
+  where
+    heard-later : ((i : ℕ) → k ≤ i → i < n → getD hs i 0 ≡ 0) → (i : ℕ) → suc k ≤ i → i < suc n → getD (x ∷ hs) i 0 ≡ 0
+    heard-later f zero l j = let no : ⊥ = omega arith in absurd no
+    heard-later f (suc i) l j = f i (omega arith) (omega arith)
+
+-- A lane on which so many are heard.
+unfoldable pub laneWith : ℕ → Layout Lane
+unfolding laneLayout padHeard cutHeard via
+laneWith count = via laneLayout padHeard (cutHeard count)
+
+heard-same : (count : ℕ) (x : Lane) → length (x .heard) ≡ parentLimit → (padHeard (cutHeard count x) ≡ x) ↔ ((i : ℕ) → count ≤ i → i < parentLimit → getD (x .heard) i 0 ≡ 0)
+unfolding padHeard cutHeard
+heard-same count x e =
+    let same = pad-cut parentLimit parentLimit count (x .heard) e (omega arith) in
+    (λ q. same .0 (ap (λ (y : Lane). y .heard) q), λ f. ap (λ (hs : List ℕ). withHeard hs x) (same .1 f))
+
+cut-fits : (count : ℕ) (x : Lane) → LaneFits x → LaneFits (cutHeard count x)
+unfolding cutHeard
+cut-fits count x h = record { mark = h .mark; taken = h .taken; heard = each-take TimeFits count (x .heard) (h .heard); queue = h .queue }
+
+module _ (s : List ℕ) (k : Bytes s) (a : ℕ) (h : a + blockSize ≤ length s) where
+  block-right : RightAt laneLayout a s ↔ (ListRight MessageRight queueLimit messageSize (a + queueAt) s × ZerosAt (a + laneRestAt) laneRest s)
+  unfolding laneLayout
+  block-right =
+      let whole = padded-at lane-body-sound a s laneRest h in
+      let first = pair-at (fields-sound laneWidths) a s queueLayout in
+      let queue = queue-right s k (a + queueAt) (omega arith) in
+      (λ r. (queue .0 (first .0 (whole .0 r .0) .1), whole .0 r .1), λ r. whole .1 (first .1 (fields-at laneWidths a s (omega arith) k, queue .1 (r .0)), r .1))
+
+  heard-word : (i : ℕ) → i < parentLimit → getD (laneLayout .read (take blockSize (drop a s)) .heard) i 0 ≡ wordAt (a + heardAt + 4 * i) s
+  heard-word i l =
+      heard-at (take blockSize (drop a s)) i l
+      ∙ ap (spelled 0) (part-part 4 (heardAt + 4 * i) blockSize a s (omega arith))
+      ∙ ap (λ (j : ℕ). wordAt j s) (let e : a + (heardAt + 4 * i) ≡ a + heardAt + 4 * i = omega arith in e)
+
+  pub lane-right : (count : ℕ) → RightAt (laneWith count) a s ↔ LaneRight count a s
+  unfolding laneWith
+  lane-right count =
+      let t = take blockSize (drop a s) in
+      let x = laneLayout .read t in
+      let fits = lane-sound .fits t (part-bytes a blockSize s k) in
+      let split = via-at lane-sound a s padHeard (cutHeard count) (pad-fits (cutHeard count x) (cut-fits count x (fits .lane))) in
+      let heard = heard-same count x (fits .four) in (
+        λ r.
+            let v = split .0 r in
+            let b = block-right .0 (v .0) in
+            record { heard = λ i l j. sym (heard-word i j) ∙ heard .0 (v .1) i l j; queue = b .0; rest = b .1 },
+        λ r. split .1 (block-right .1 (r .queue, r .rest), heard .1 (λ i l j. heard-word i j ∙ r .heard i l j)),
       )

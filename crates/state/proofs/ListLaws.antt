@@ -1,9 +1,9 @@
 -- Lists: what holds of each thing in one, and parts of parts.
-use Prim.Native.Nat.{ℕ, zero, suc, _<_}
+use Prim.Native.Nat.{ℕ, zero, suc, _≤_, _<_}
 use mathlib.Core.Path.{_≡_, refl, ap, ap₂}
 use mathlib.Core.List.{List, [], _∷_, _++_, map}
 use native.Mathlib.Omega.{arith}
-use lib.ListN.{length, getD, replicate}
+use lib.ListN.{length, getD, take, replicate}
 use Rattle.plan.specs.Lawful.{Each, Zeros}
 
 module _ {A : Type 0} (P : A → Type 0) where
@@ -42,3 +42,8 @@ zeros-append s t h k = each-append IsZero s t h k
 pub all-zero : (s : List ℕ) → Zeros s → s ≡ replicate (length s) 0
 all-zero [] h = refl
 all-zero (b ∷ s) h = ap₂ (λ (x : ℕ) (xs : List ℕ). x ∷ xs) (h .0) (all-zero s (h .1))
+
+pub take-replicate : {A : Type 0} (n m : ℕ) (x : A) → n ≤ m → take n (replicate m x) ≡ replicate n x
+take-replicate zero m x h = refl
+take-replicate (suc n) zero x h = let no : ⊥ = omega arith in absurd no
+take-replicate (suc n) (suc m) x h = ap (λ (ys : List _). x ∷ ys) (take-replicate n m x (omega arith))
