@@ -44,19 +44,19 @@ pub record Counted (s : List ℕ) : Type 0 where
   pub channels : planChannels s ≤ laneBlocks
 
 module _ (n m : ℕ) (h : n ≤ nodePages) (k : m ≤ laneBlocks) where
-  plan-long : planPart n m .size ≡ planArea
+  pub plan-long : planPart n m .size ≡ planArea
   unfolding planPart
   plan-long = omega (arith, plan-size n m)
 
-  steps-end : planPart n m .size + stepsPart .size ≡ pageSize
+  pub steps-end : planPart n m .size + stepsPart .size ≡ pageSize
   unfolding stepsPart
   steps-end = omega (arith, plan-long)
 
-  nodes-long : nodesPart n .size ≡ nodePages * pageSize
+  pub nodes-long : nodesPart n .size ≡ nodePages * pageSize
   unfolding nodesPart
   nodes-long = omega arith
 
-  nodes-end : planPart n m .size + stepsPart .size + nodesPart n .size ≡ blocksAt
+  pub nodes-end : planPart n m .size + stepsPart .size + nodesPart n .size ≡ blocksAt
   nodes-end = omega (arith, steps-end, nodes-long)
 
   parts-read : (s : List ℕ)

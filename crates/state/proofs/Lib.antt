@@ -14,3 +14,4 @@ pub mod RightLaws
 pub mod RightAt
 pub mod PieceRight
 pub mod BlockRight
+pub mod WholeRight

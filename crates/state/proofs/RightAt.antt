@@ -35,10 +35,10 @@ pub part-bytes : (a w : ℕ) (s : List ℕ) → Bytes s → Bytes (take w (drop 
 part-bytes a w s h = bytes-take w (drop a s) (bytes-drop a s h)
 
 -- The first and the second part of a part.
-part-first : (a n m : ℕ) (s : List ℕ) → take n (take (n + m) (drop a s)) ≡ take n (drop a s)
+pub part-first : (a n m : ℕ) (s : List ℕ) → take n (take (n + m) (drop a s)) ≡ take n (drop a s)
 part-first a n m s = take-take n (n + m) (drop a s) (omega arith)
 
-part-second : (a n m : ℕ) (s : List ℕ) → drop n (take (n + m) (drop a s)) ≡ take m (drop (a + n) s)
+pub part-second : (a n m : ℕ) (s : List ℕ) → drop n (take (n + m) (drop a s)) ≡ take m (drop (a + n) s)
 part-second a n m s = drop-take n (n + m) (drop a s) ∙ rw (add-sub-cancel-left, drop-drop)
 
 pub number-at : (w a : ℕ) (s : List ℕ) → a + w ≤ length s → Bytes s → RightAt (number w) a s

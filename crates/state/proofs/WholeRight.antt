@@ -1,0 +1,109 @@
+-- A state is what its line is written as exactly where its parts are right.
+use Prim.Native.Nat.{ℕ, zero, suc, _+_, _*_, _-_, _≤_, _<_}
+use mathlib.Core.Path.{_≡_, refl, sym, ap, ap₂, subst, subst₂, _∙_}
+use mathlib.Core.Logic.{_↔_, Iff·trans, Iff·and, Iff·symm}
+use mathlib.Core.List.{List, [], _∷_, _++_, map}
+use native.Mathlib.Nat.{suc-mul, mul-suc, mul-comm, add-comm, zero-add}
+use native.Mathlib.Omega.{arith}
+use lib.Dec.{lit<, lit≤}
+use lib.ListN.{length, getD, take, drop, replicate}
+use lib.Seq.{drop-drop, take-take, take-all}
+use Rattle.plan.specs.declared.Channel.{Channel}
+use Rattle.plan.specs.Layout.{Layout, bytesOf, spelled, number, pair, slots, padded, writeSlots, readSlots}
+use Rattle.plan.specs.Lawful.{Bytes, Zeros}
+use Rattle.plan.specs.Plan.{Plan, planOf, planBytes, planLayout, planNodes, planChannels, planSize, headNumbers, nodeCount, channelCount, channelAt, noChannel}
+use Rattle.plan.proofs.LayoutLaws.{slots-front}
+use Rattle.plan.proofs.PlanLaws.{plan-size, node-count, channel-count}
+use Rattle.rules.specs.Line.{Node, Lane, Line}
+use Rattle.state.specs.Sound.{Right, Sound}
+use Rattle.state.specs.Sizes.{stateSize, pageSize, planArea, stepsAt, countSize, stepsRest, nodePages, pageAt, laneBlocks, blockSize, blocksAt, blockAt, tailAt, tailSize}
+use Rattle.state.specs.Node.{nodeLayout}
+use Rattle.state.specs.Lane.{laneLayout, padHeard, cutHeard, heardCount, cutLanes}
+use Rattle.state.specs.State.{StateParts, planPart, stepsPart, nodesPart, lanesPart, stateParts, lineSeen, lineBytes, lineOf}
+use Rattle.state.specs.Right.{ZerosAt, wordAt, NodeRight, LaneRight, StateRight}
+use Rattle.state.proofs.SoundLaws.{number-sound, pair-sound, slots-sound}
+use Rattle.state.proofs.BlockLaws.{node-sound, lane-sound}
+use Rattle.state.proofs.LineLaws.{plan-sound, plan-part-sound, steps-part-sound, nodes-part-sound, lanes-part-sound, parts-sound}
+use Rattle.state.proofs.InPlace.{Counted, line-plan, line-steps, line-nodes, line-lanes, plan-long, steps-end, nodes-long, nodes-end}
+use Rattle.state.proofs.RightLaws.{append-cut, zeros-same}
+use Rattle.state.proofs.RightAt.{RightAt, iff-at, part-long, part-first, part-second, number-at, slots-at}
+use Rattle.state.proofs.BlockRight.{laneWith, node-right, lane-right}
+
+-- ---- written at an offset
+
+-- The bytes at an offset are those that a value is written as.
+abbrev WrittenAt : {A : Type 0} → Layout A → A → ℕ → List ℕ → Type 0
+WrittenAt l x a s = l .write x ≡ take (l .size) (drop a s)
+
+same-part : (b : List ℕ) {u v : List ℕ} → u ≡ v → (b ≡ u) ↔ (b ≡ v)
+same-part b e = (λ q. q ∙ e, λ q. q ∙ sym e)
+
+zeros-part : (n a : ℕ) (s : List ℕ) → a + n ≤ length s → (replicate n 0 ≡ take n (drop a s)) ↔ ZerosAt a n s
+zeros-part n a s h = zeros-same n (take n (drop a s)) (part-long a n s h)
+
+module _ {A : Type 0} {l : Layout A} {Fits : A → Type 0} (inner : Sound l Fits) (x : A) (a : ℕ) (s : List ℕ) where
+  pair-written : {B : Type 0} (k : Layout B) (y : B) → WrittenAt (pair l k) (x, y) a s ↔ (WrittenAt l x a s × WrittenAt k y (a + l .size) s)
+  unfolding pair
+  pair-written k y =
+      Iff·trans (append-cut (l .write x) (k .write y) (take (l .size + k .size) (drop a s)) (l .size) (inner .sized x))
+      (Iff·and (same-part (l .write x) (part-first a (l .size) (k .size) s)) (same-part (k .write y) (part-second a (l .size) (k .size) s)))
+
+  padded-written : (n : ℕ) → a + (l .size + n) ≤ length s → WrittenAt (padded n l) x a s ↔ (WrittenAt l x a s × ZerosAt (a + l .size) n s)
+  unfolding padded
+  padded-written n h =
+      Iff·trans (append-cut (l .write x) (replicate n 0) (take (l .size + n) (drop a s)) (l .size) (inner .sized x))
+      (Iff·and (same-part (l .write x) (part-first a (l .size) n s)) (Iff·trans (same-part (replicate n 0) (part-second a (l .size) n s)) (zeros-part n (a + l .size) s (omega arith))))
+
+-- ---- the lanes
+
+-- What holds of each number below one more.
+below-more : (Q : ℕ → Type 0) (m : ℕ) → ((b : ℕ) → b < suc m → Q b) ↔ (Q zero × ((b : ℕ) → b < m → Q (suc b)))
+below-more Q m = (λ f. (f zero (omega arith), λ b h. f (suc b) (omega arith)), λ r. all r)
+  where
+    all : Q zero × ((b : ℕ) → b < m → Q (suc b)) → (b : ℕ) → b < suc m → Q b
+    all r zero h = r .0
+    all r (suc b) h = r .1 b (omega arith)
+
+-- The right lanes that a part of the channels asks for.
+abbrev LanesRight : Plan → List Channel → ℕ → ℕ → List ℕ → Type 0
+LanesRight p cs m a s = (b : ℕ) → b < m → RightAt (laneWith (heardCount p (getD cs b noChannel))) (a + blockSize * b) s
+
+lanes-more : (p : Plan) (c : Channel) (cs : List Channel) (m a : ℕ) (s : List ℕ)
+    → (RightAt (laneWith (heardCount p c)) a s × LanesRight p cs m (a + blockSize) s) ↔ LanesRight p (c ∷ cs) (suc m) a s
+lanes-more p c cs m a s =
+    let Q : ℕ → Type 0 = λ b. RightAt (laneWith (heardCount p (getD (c ∷ cs) b noChannel))) (a + blockSize * b) s in
+    let more = below-more Q m in
+    let here : a + blockSize * 0 ≡ a = omega arith in
+    let next : (b : ℕ) → a + blockSize + blockSize * b ≡ a + blockSize * suc b = λ b. omega arith in
+    let move : (count i j : ℕ) → i ≡ j → RightAt (laneWith count) i s → RightAt (laneWith count) j s = λ count i j e r. subst (λ (o : ℕ). RightAt (laneWith count) o s) e r in (
+      λ r.
+          more .1 (
+            move (heardCount p c) a (a + blockSize * 0) (sym here) (r .0),
+            λ b h. move (heardCount p (getD cs b noChannel)) (a + blockSize + blockSize * b) (a + blockSize * suc b) (next b) (r .1 b h),
+          ),
+      λ f. (
+        move (heardCount p c) (a + blockSize * 0) a here (more .0 f .0),
+        λ b h. move (heardCount p (getD cs b noChannel)) (a + blockSize * suc b) (a + blockSize + blockSize * b) (sym (next b)) (more .0 f .1 b h),
+      ),
+    )
+
+abbrev lanesOf : Plan → List Channel → ℕ → List ℕ → List Lane
+lanesOf p cs m s = map padHeard (cutLanes p cs (readSlots laneLayout m s))
+
+lanes-written : (p : Plan) (cs : List Channel) (m : ℕ) → length cs ≡ m → (a : ℕ) (s : List ℕ) → WrittenAt (slots m laneLayout) (lanesOf p cs m (drop a s)) a s ↔ LanesRight p cs m a s
+unfolding slots laneLayout laneWith
+lanes-written p [] zero e a s = (λ q b h. (let no : ⊥ = omega arith in absurd no), λ f. refl)
+lanes-written p [] (suc m) e a s = let no : ⊥ = omega arith in absurd no
+lanes-written p (c ∷ cs) zero e a s = let no : ⊥ = omega arith in absurd no
+lanes-written p (c ∷ cs) (suc m) e a s =
+    let first = laneLayout .write (padHeard (cutHeard (heardCount p c) (laneLayout .read (take blockSize (drop a s))))) in
+    let behind = writeSlots laneLayout m (lanesOf p cs m (drop (a + blockSize) s)) in
+    let split : suc m * blockSize ≡ blockSize + m * blockSize = suc-mul m blockSize ∙ add-comm (m * blockSize) blockSize in
+    let rest = lanes-written p cs m (omega arith) (a + blockSize) s in
+    let cut = append-cut first behind (take (blockSize + m * blockSize) (drop a s)) blockSize (lane-sound .sized (padHeard (cutHeard (heardCount p c) (laneLayout .read (take blockSize (drop a s)))))) in
+    let parts = Iff·trans cut (Iff·and (same-part first (part-first a blockSize (m * blockSize) s)) (Iff·trans (same-part behind (part-second a blockSize (m * blockSize) s)) rest)) in
+    let whole : first ++ writeSlots laneLayout m (lanesOf p cs m (drop blockSize (drop a s))) ≡ first ++ behind = ap (λ (u : List ℕ). first ++ writeSlots laneLayout m (lanesOf p cs m u)) (drop-drop blockSize a s) in
+    let back = lanes-more p c cs m a s in (
+      λ q. back .0 (parts .0 (sym whole ∙ q ∙ ap (λ (k : ℕ). take k (drop a s)) split)),
+      λ f. whole ∙ parts .1 (back .1 f) ∙ ap (λ (k : ℕ). take k (drop a s)) (sym split),
+    )
