@@ -107,3 +107,76 @@ lanes-written p (c ∷ cs) (suc m) e a s =
       λ q. back .0 (parts .0 (sym whole ∙ q ∙ ap (λ (k : ℕ). take k (drop a s)) split)),
       λ f. whole ∙ parts .1 (back .1 f) ∙ ap (λ (k : ℕ). take k (drop a s)) (sym split),
     )
+
+-- ---- the parts
+
+zeros-moved : (s : List ℕ) (a b n m : ℕ) → a ≡ b → n ≡ m → ZerosAt a n s ↔ ZerosAt b m s
+zeros-moved s a b n m e f = (subst₂ (λ (i j : ℕ). ZerosAt i j s) e f, subst₂ (λ (i j : ℕ). ZerosAt i j s) (sym e) (sym f))
+
+written-moved : {A : Type 0} (l : Layout A) (x : A) (s : List ℕ) (a b : ℕ) → a ≡ b → WrittenAt l x a s ↔ WrittenAt l x b s
+written-moved l x s a b e = (subst (λ (i : ℕ). WrittenAt l x i s) e, subst (λ (i : ℕ). WrittenAt l x i s) (sym e))
+
+module _ (s : List ℕ) (long : length s ≡ stateSize) (k : Bytes s) (few : Counted s) where
+  abbrev n : ℕ
+  n = planNodes s
+
+  abbrev m : ℕ
+  m = planChannels s
+
+  abbrev p : Plan
+  p = planOf s
+
+  plan-spelled : planBytes p ≡ planLayout n m .write (headNumbers p, p)
+  unfolding planBytes
+  plan-spelled = ap₂ (λ (i j : ℕ). planLayout i j .write (headNumbers p, p)) (node-count s) (channel-count s)
+
+  plan-part : WrittenAt (planPart n m) (headNumbers p, p) 0 s ↔ ((planBytes p ≡ take (planSize n m) s) × ZerosAt (planSize n m) (planArea - planSize n m) s)
+  unfolding planPart
+  plan-part =
+      let rest = planArea - planSize n m in
+      let fits : 0 + (planLayout n m .size + rest) ≤ length s = omega (arith, few .nodes, few .channels) in
+      Iff·trans (padded-written (plan-sound n m) (headNumbers p, p) 0 s rest fits)
+      (Iff·and (λ q. plan-spelled ∙ q, λ q. sym plan-spelled ∙ q) (zeros-moved s (0 + planSize n m) (planSize n m) rest rest (zero-add (planSize n m)) refl))
+
+  steps-part : WrittenAt stepsPart (wordAt stepsAt s) stepsAt s ↔ ZerosAt (stepsAt + countSize) stepsRest s
+  unfolding stepsPart
+  steps-part =
+      let whole = padded-written (number-sound countSize) (wordAt stepsAt s) stepsAt s stepsRest (omega arith) in
+      let word : WrittenAt (number countSize) (wordAt stepsAt s) stepsAt s =
+          ap (λ (t : List ℕ). bytesOf 4 (spelled 0 t)) (sym (take-take 4 4 (drop stepsAt s) (lit≤ tt))) ∙ number-at countSize stepsAt s (omega arith) k
+      in
+      (λ q. whole .0 q .1, λ z. whole .1 (word, z))
+
+  nodes-part : WrittenAt (nodesPart n) (readSlots nodeLayout n (drop pageSize s)) pageSize s ↔ (((i : ℕ) → i < n → NodeRight (pageAt i) s) × ZerosAt (pageAt n) (pageSize * (nodePages - n)) s)
+  unfolding nodesPart
+  nodes-part =
+      let rest = (nodePages - n) * pageSize in
+      let whole = padded-written (slots-sound node-sound n) (readSlots nodeLayout n (drop pageSize s)) pageSize s rest (omega (arith, few .nodes)) in
+      let front : writeSlots nodeLayout n (readSlots nodeLayout n (take (n * pageSize) (drop pageSize s))) ≡ writeSlots nodeLayout n (readSlots nodeLayout n (drop pageSize s)) =
+          ap (writeSlots nodeLayout n) (slots-front nodeLayout n (drop pageSize s))
+      in
+      let each = slots-at node-sound n pageSize s (omega (arith, few .nodes)) in
+      let one : (i : ℕ) → i < n → RightAt nodeLayout (pageSize + pageSize * i) s ↔ NodeRight (pageAt i) s =
+          λ i h.
+              let at : pageSize + pageSize * i ≡ pageAt i = omega arith in
+              Iff·trans (node-right s k (pageSize + pageSize * i) (omega (arith, few .nodes))) (subst (λ (j : ℕ). NodeRight j s) at, subst (λ (j : ℕ). NodeRight j s) (sym at))
+      in
+      Iff·trans whole
+      (Iff·and
+      (λ q i h. one i h .0 (each .0 (front ∙ q) i h), λ f. sym front ∙ each .1 (λ i h. one i h .1 (f i h)))
+      (zeros-moved s (pageSize + n * pageSize) (pageAt n) rest (pageSize * (nodePages - n)) (omega arith) (omega arith)))
+
+  lanes-part : WrittenAt (lanesPart m) (lanesOf p (p .channels) m (drop blocksAt s)) blocksAt s
+      ↔ (((b : ℕ) → b < m → LaneRight (heardCount p (channelAt p b)) (blockAt b) s) × ZerosAt (blockAt m) (blockSize * (laneBlocks - m)) s)
+  unfolding lanesPart
+  lanes-part =
+      let rest = (laneBlocks - m) * blockSize in
+      let whole = padded-written (slots-sound lane-sound m) (lanesOf p (p .channels) m (drop blocksAt s)) blocksAt s rest (omega (arith, few .channels)) in
+      let each = lanes-written p (p .channels) m (channel-count s) blocksAt s in
+      let one : (b : ℕ) → b < m → RightAt (laneWith (heardCount p (channelAt p b))) (blockAt b) s ↔ LaneRight (heardCount p (channelAt p b)) (blockAt b) s =
+          λ b h. lane-right s k (blockAt b) (omega (arith, few .channels)) (heardCount p (channelAt p b))
+      in
+      Iff·trans whole
+      (Iff·and
+      (λ q b h. one b h .0 (each .0 q b h), λ f. each .1 (λ b h. one b h .1 (f b h)))
+      (zeros-moved s (blocksAt + m * blockSize) (blockAt m) rest (blockSize * (laneBlocks - m)) (omega arith) (omega arith)))
