@@ -1,7 +1,7 @@
 -- A state is what its line is written as exactly where its parts are right.
 use Prim.Native.Nat.{ℕ, zero, suc, _+_, _*_, _-_, _≤_, _<_}
 use mathlib.Core.Path.{_≡_, refl, sym, ap, ap₂, subst, subst₂, _∙_}
-use mathlib.Core.Logic.{_↔_, Iff·trans, Iff·and, Iff·symm}
+use mathlib.Core.Logic.{_↔_, Iff·trans, Iff·and, Iff·rfl}
 use mathlib.Core.List.{List, [], _∷_, _++_, map}
 use native.Mathlib.Nat.{suc-mul, mul-suc, mul-comm, add-comm, zero-add}
 use native.Mathlib.Omega.{arith}
@@ -19,11 +19,11 @@ use Rattle.state.specs.Sound.{Right, Sound}
 use Rattle.state.specs.Sizes.{stateSize, pageSize, planArea, stepsAt, countSize, stepsRest, nodePages, pageAt, laneBlocks, blockSize, blocksAt, blockAt, tailAt, tailSize}
 use Rattle.state.specs.Node.{nodeLayout}
 use Rattle.state.specs.Lane.{laneLayout, padHeard, cutHeard, heardCount, cutLanes}
-use Rattle.state.specs.State.{StateParts, planPart, stepsPart, nodesPart, lanesPart, stateParts, lineSeen, lineBytes, lineOf}
+use Rattle.state.specs.State.{StateParts, planPart, stepsPart, nodesPart, lanesPart, stateParts, stateLayout, lineBytes, lineOf}
 use Rattle.state.specs.Right.{ZerosAt, wordAt, NodeRight, LaneRight, StateRight}
 use Rattle.state.proofs.SoundLaws.{number-sound, pair-sound, slots-sound}
 use Rattle.state.proofs.BlockLaws.{node-sound, lane-sound}
-use Rattle.state.proofs.LineLaws.{plan-sound, plan-part-sound, steps-part-sound, nodes-part-sound, lanes-part-sound, parts-sound}
+use Rattle.state.proofs.LineLaws.{plan-sound, plan-part-sound, steps-part-sound, nodes-part-sound, lanes-part-sound, state-size}
 use Rattle.state.proofs.InPlace.{Counted, line-plan, line-steps, line-nodes, line-lanes, plan-long, steps-end, nodes-long, nodes-end}
 use Rattle.state.proofs.RightLaws.{append-cut, zeros-same}
 use Rattle.state.proofs.RightAt.{RightAt, iff-at, part-long, part-first, part-second, number-at, slots-at}
@@ -116,6 +116,23 @@ zeros-moved s a b n m e f = (subst₂ (λ (i j : ℕ). ZerosAt i j s) e f, subst
 written-moved : {A : Type 0} (l : Layout A) (x : A) (s : List ℕ) (a b : ℕ) → a ≡ b → WrittenAt l x a s ↔ WrittenAt l x b s
 written-moved l x s a b e = (subst (λ (i : ℕ). WrittenAt l x i s) e, subst (λ (i : ℕ). WrittenAt l x i s) (sym e))
 
+module _ {A B C D : Type 0} {a : Layout A} {b : Layout B} {c : Layout C} {d : Layout D} {FA : A → Type 0} {FB : B → Type 0} {FC : C → Type 0} {FD : D → Type 0}
+    (sa : Sound a FA) (sb : Sound b FB) (sc : Sound c FC) (sd : Sound d FD) (w : A) (x : B) (y : C) (z : D) where
+  four-written : (t : ℕ) (s : List ℕ) (i j k e : ℕ) → a .size ≡ i → a .size + b .size ≡ j → a .size + b .size + c .size ≡ k → a .size + b .size + c .size + d .size ≡ e → e + t ≤ length s
+      → WrittenAt (padded t (pair a (pair b (pair c d)))) (w, (x, (y, z))) 0 s
+      ↔ ((WrittenAt a w 0 s × (WrittenAt b x i s × (WrittenAt c y j s × WrittenAt d z k s))) × ZerosAt e t s)
+  unfolding pair
+  four-written t s i j k e ei ej ek ee h =
+      Iff·trans (padded-written (pair-sound sa (pair-sound sb (pair-sound sc sd))) (w, (x, (y, z))) 0 s t (omega arith))
+      (Iff·and
+      (Iff·trans (pair-written sa w 0 s (pair b (pair c d)) (x, (y, z)))
+      (Iff·and Iff·rfl
+      (Iff·trans (pair-written sb x (0 + a .size) s (pair c d) (y, z))
+      (Iff·and (written-moved b x s (0 + a .size) i (omega arith))
+      (Iff·trans (pair-written sc y (0 + a .size + b .size) s d z)
+      (Iff·and (written-moved c y s (0 + a .size + b .size) j (omega arith)) (written-moved d z s (0 + a .size + b .size + c .size) k (omega arith))))))))
+      (zeros-moved s (0 + (a .size + (b .size + (c .size + d .size)))) e t t (omega arith) refl))
+
 module _ (s : List ℕ) (long : length s ≡ stateSize) (k : Bytes s) (few : Counted s) where
   abbrev n : ℕ
   n = planNodes s
@@ -180,3 +197,66 @@ module _ (s : List ℕ) (long : length s ≡ stateSize) (k : Bytes s) (few : Cou
       (Iff·and
       (λ q b h. one b h .0 (each .0 q b h), λ f. each .1 (λ b h. one b h .1 (f b h)))
       (zeros-moved s (blocksAt + m * blockSize) (blockAt m) rest (blockSize * (laneBlocks - m)) (omega arith) (omega arith)))
+
+  -- ---- the whole
+
+  abbrev found : Line
+  found = record { plan = p; steps = wordAt stepsAt s; nodes = readSlots nodeLayout n (drop pageSize s); lanes = cutLanes p (p .channels) (readSlots laneLayout m (drop blocksAt s)) }
+
+  line-found : lineOf s ≡ found
+  line-found = λ i. record { plan = line-plan s i; steps = line-steps s few i; nodes = line-nodes s few i; lanes = line-lanes s few i }
+
+  abbrev seen : StateParts
+  seen = ((headNumbers p, p), (wordAt stepsAt s, (readSlots nodeLayout n (drop pageSize s), lanesOf p (p .channels) m (drop blocksAt s))))
+
+  found-bytes : lineBytes found ≡ stateParts n m .write seen
+  unfolding lineBytes
+  found-bytes = ap₂ (λ (i j : ℕ). stateParts i j .write seen) (node-count s) (channel-count s)
+
+  whole-size : stateParts n m .size ≡ stateSize
+  unfolding stateLayout
+  whole-size = state-size n m (few .nodes) (few .channels)
+
+  whole-part : take (stateParts n m .size) (drop 0 s) ≡ s
+  whole-part = take-all (stateParts n m .size) s (omega (arith, whole-size))
+
+  whole-written : (lineBytes (lineOf s) ≡ s) ↔ WrittenAt (stateParts n m) seen 0 s
+  whole-written =
+      let bytes = ap lineBytes line-found ∙ found-bytes in
+      (λ q. sym bytes ∙ q ∙ sym whole-part, λ q. bytes ∙ q ∙ whole-part)
+
+  lanes-end : planPart n m .size + stepsPart .size + nodesPart n .size + lanesPart m .size ≡ tailAt
+  unfolding lanesPart
+  lanes-end = omega (arith, nodes-end n m (few .nodes) (few .channels), few .channels)
+
+  parts-written : WrittenAt (stateParts n m) seen 0 s
+      ↔ ((WrittenAt (planPart n m) (headNumbers p, p) 0 s
+      × (WrittenAt stepsPart (wordAt stepsAt s) stepsAt s
+      × (WrittenAt (nodesPart n) (readSlots nodeLayout n (drop pageSize s)) pageSize s × WrittenAt (lanesPart m) (lanesOf p (p .channels) m (drop blocksAt s)) blocksAt s)))
+      × ZerosAt tailAt tailSize s)
+  unfolding stateParts
+  parts-written =
+      four-written (plan-part-sound n m) steps-part-sound (nodes-part-sound n) (lanes-part-sound m) (headNumbers p, p) (wordAt stepsAt s) (readSlots nodeLayout n (drop pageSize s)) (lanesOf p (p .channels) m (drop blocksAt s))
+      tailSize s stepsAt pageSize blocksAt tailAt (plan-long n m (few .nodes) (few .channels)) (steps-end n m (few .nodes) (few .channels)) (nodes-end n m (few .nodes) (few .channels)) lanes-end (omega arith)
+
+  -- The canonical form, taken apart.
+  pub state-right : (lineBytes (lineOf s) ≡ s) ↔ StateRight s
+  state-right =
+      let apart = Iff·trans whole-written parts-written in (
+        λ q.
+            let r = apart .0 q in
+            let plan = plan-part .0 (r .0 .0) in
+            let nodes = nodes-part .0 (r .0 .1 .1 .0) in
+            let lanes = lanes-part .0 (r .0 .1 .1 .1) in
+            record {
+              plan = plan .0;
+              planRest = plan .1;
+              stepsRest = steps-part .0 (r .0 .1 .0);
+              node = nodes .0;
+              nodesRest = nodes .1;
+              lane = lanes .0;
+              lanesRest = lanes .1;
+              tail = r .1;
+            },
+        λ r. apart .1 ((plan-part .1 (r .plan, r .planRest), (steps-part .1 (r .stepsRest), (nodes-part .1 (r .node, r .nodesRest), lanes-part .1 (r .lane, r .lanesRest)))), r .tail),
+      )
