@@ -15,3 +15,4 @@ pub mod RightAt
 pub mod PieceRight
 pub mod BlockRight
 pub mod WholeRight
+pub mod StoredPlan
