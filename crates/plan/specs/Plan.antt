@@ -60,7 +60,7 @@ unfoldable pub isSink : Plan → ℕ → Bool
 unfolding leaving
 isSink p n = isNone (leaving p n)
 
--- "A plan, big-endian: length of the whole plan (2 bytes), version 1, node count N, belt count M; then N rules of 4 bytes, then M belts of 6."
+-- "A plan, big-endian: length of the whole plan (2 bytes), version 1, node count N 2..12, belt count M 1..24; then N rules of 4 bytes, then M belts of 6."
 abbrev pub headWidths : List ℕ
 headWidths = 2 ∷ 1 ∷ 1 ∷ 1 ∷ []
 

@@ -9,13 +9,13 @@ use Rattle.plan.specs.declared.Rule.{Rule}
 use Rattle.plan.specs.declared.Rule.the-variants.{Keep, Relabel, Cap}
 use Rattle.plan.specs.Layout.{Layout, fields, via}
 
--- "Relabel: material p becomes q. Cap: a mass above q becomes q."
+-- "Relabel is kind 1: material p becomes q"; cap: "a mass above q becomes q".
 abbrev pub applied : Rule → Record → Record
 applied Keep r = r
 applied (Relabel p q) r = record { piece = r .piece; material = cond (eqb (r .material) p) q (r .material); mass = r .mass }
 applied (Cap q) r = record { piece = r .piece; material = r .material; mass = cond (ltb q (r .mass)) q (r .mass) }
 
--- "Rule bytes: kind, p, q (2 bytes). Keep is kind 0, p = q = 0. Relabel is kind 1 .. Cap is kind 2, p = 0"
+-- "Rule bytes: kind, p, q (2 bytes). Keep is kind 0, p = q = 0. Relabel is kind 1", "Cap is kind 2, p = 0"
 abbrev pub ruleNumbers : Rule → List ℕ
 ruleNumbers Keep = 0 ∷ 0 ∷ 0 ∷ []
 ruleNumbers (Relabel p q) = 1 ∷ p ∷ q ∷ []

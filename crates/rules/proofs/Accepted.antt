@@ -9,11 +9,11 @@ use native.Mathlib.Omega.{arith}
 use borrow.Author.Tests.{leb-false, eq-eqb, ne-eqb, not-false}
 use Rattle.basics.specs.Bools.{neither-true}
 use Rattle.plan.specs.Plan.{nodeCount, channelCount, channelAt, isSource, isSink, entering, leaving}
-use Rattle.rules.specs.Lists.{anyOf}
+use Rattle.rules.specs.Lists.{anyOf, isEmpty}
 use Rattle.rules.specs.Line.{stepLimit, Message, Entry, Status, up, down, replay, Line, nodeAt, laneAt, isDown, isReplay}
 use Rattle.rules.specs.Frame.{Frame, feed, send, take, crash, recover, frameOf, badFrameLength, badFrameVersion, badKind}
 use Rattle.rules.specs.Recover.{rowGoal, rowComplete}
-use Rattle.rules.specs.Step.{noStepsLeft, noSuch, wrongNode, nodeDown, endDown, wrongStatus, neighbourCrashed, besideCrashed, badRecord, sendable, isNothing, noMessages, nothingThere, queueFull, rowDone, noSpace, effect, noPlacing, lineRefusal, refusal, accepted, step}
+use Rattle.rules.specs.Step.{noStepsLeft, noSuch, wrongNode, nodeDown, endDown, wrongStatus, neighbourCrashed, besideCrashed, badRecord, sendable, isNothing, nothingThere, queueFull, rowDone, noSpace, effect, noPlacing, lineRefusal, refusal, accepted, step}
 use Rattle.rules.proofs.Members.{In, here, there}
 use Rattle.rules.proofs.Inv.{Enters, Leaves}
 use Rattle.rules.proofs.Joins.{in-entering, in-leaving}
@@ -86,7 +86,7 @@ is-down up e = absurd (true≢false (sym e))
 is-down down e = refl
 is-down replay e = absurd (true≢false (sym e))
 
-some-message : (q : List Message) → noMessages q ≡ false → (m : Message) × (rest : List Message) × (q ≡ m ∷ rest)
+some-message : (q : List Message) → isEmpty q ≡ false → (m : Message) × (rest : List Message) × (q ≡ m ∷ rest)
 some-message [] e = absurd (true≢false e)
 some-message (m ∷ rest) e = (m, rest, refl)
 

@@ -25,13 +25,6 @@ use Rattle.rules.proofs.MarkedLaws.{at-ends, sender-other, receiver-oth
 use Rattle.rules.proofs.Stays.{moved, channel-stays, ends-stay, events-stay, replays-stay, row-stays}
 use Rattle.rules.proofs.Swept.{swept, swept-line, swept-long, swept-enters, swept-leaves, swept-else}
 
--- The log of a node that never crashed holds all that it put on a channel.
-pub log-whole : {l : Line} {g : Ghost} {fed : List Act} {receipts : List Receipt} → Nodes l g fed receipts → (b : ℕ) → nodeAt l (channelAt (l .plan) b .sender) .crashed ≡ false → logPut l b ≡ put (l .plan) g b
-unfolding logPut put
-log-whole {l} {g} nodes b e =
-    let n = channelAt (l .plan) b .sender in
-    ap (λ (x : List Entry). keep (takesMessage (l .plan) b) (map messageOf x)) (nodes .logged n e) ∙ ap (keep (takesMessage (l .plan) b)) (map-map (entryOf (l .plan) n) messageOf (g n))
-
 -- Names joined to a list.
 pub named-left : (n : ℕ) (ns ms : List ℕ) → named n (ns ++ ms) ≡ false → (named n ns ≡ false) × (named n ms ≡ false)
 named-left n [] ms e = (refl, e)
@@ -98,7 +91,6 @@ module _ (l : Line) (g : Ghost) (cut base : ℕ → ℕ) (fed : List Act) (recei
       let s = old .sender-up (parent-up c (h, q)) in
       let d = sender-other inv n c (h, q) in
       let node = node-other (channelAt (l .plan) c .sender) d in
-      let logs : logPut after c ≡ put (l .plan) g c = ap (λ (x : Node). keep (takesMessage (l .plan) c) (map messageOf (x .log))) node ∙ log-whole (inv .nodes) c (parents c (h, q)) in
       let gone : nodeAt after (channelAt (l .plan) c .receiver) .status ≡ down = ap (λ (x : ℕ). nodeAt after x .status) q ∙ ap (λ (x : Node). x .status) node-now in
       let empty = ap (λ (x : Lane). x .taken) (lane-enters c (h, q)) in
       record {
@@ -110,7 +102,7 @@ module _ (l : Line) (g : Ghost) (cut base : ℕ → ℕ) (fed : List Act) (recei
               within = subst (λ (x : Node). Within timeOf (x .time) (put (l .plan) g c)) (sym node) (s .within);
               cut-within = rw node (s .cut-within);
               taken-within = omega (arith, empty);
-              to-come = ap (past timeOf (laneAt after c .taken)) logs;
+              to-come = λ r. absurd (r gone);
               queue = λ r. absurd (r gone);
             };
       }

@@ -45,7 +45,7 @@ sender-grows t m {time} {lane} {log} {puts} late s =
       within = within-more t m (s .within) late;
       cut-within = omega (arith, s .cut-within);
       taken-within = omega (arith, s .taken-within);
-      to-come = past-more t m log (lane .taken) (omega (arith, s .taken-within)) ∙ ap (λ (x : List Message). x ++ keepOne t m []) (s .to-come) ∙ sym (past-more t m puts (lane .taken) (omega (arith, s .taken-within)));
+      to-come = λ r. past-more t m log (lane .taken) (omega (arith, s .taken-within)) ∙ ap (λ (x : List Message). x ++ keepOne t m []) (s .to-come r) ∙ sym (past-more t m puts (lane .taken) (omega (arith, s .taken-within)));
       queue = λ r.
           (let (a, b, c) = s .queue r in (
             a,
@@ -63,19 +63,19 @@ sender-taken {time} {lane} {log} {puts} {cut} m rest heard r rises q at s =
     let k : ℕ = lane .mark in
     let (low, high, is) = s .queue r in
     let P : List Message = past timeOf t puts in
-    let first : until timeOf k P ≡ m ∷ rest = ap (until timeOf k) (sym (s .to-come)) ∙ sym is ∙ q in
+    let first : until timeOf k P ≡ m ∷ rest = ap (until timeOf k) (sym (s .to-come r)) ∙ sym is ∙ q in
     let rises-on : Rises timeOf t P = rises-past timeOf t rises in
     let next : P ≡ m ∷ (rest ++ past timeOf k P) = cut-at timeOf k rises-on ∙ ap (λ (x : List Message). x ++ past timeOf k P) first in
     let (upper, rest-in) = within-first timeOf (rw first at (within-until timeOf k P)) in
     let above : t < m .time = next-rises timeOf t m (rest ++ past timeOf k P) rises next .0 in
     let forget : past timeOf (m .time) log ≡ past timeOf (m .time) puts =
-    sym (past-past timeOf t (m .time) (omega arith) log) ∙ ap (past timeOf (m .time)) (s .to-come) ∙ past-past timeOf t (m .time) (omega arith) puts in
+    sym (past-past timeOf t (m .time) (omega arith) log) ∙ ap (past timeOf (m .time)) (s .to-come r) ∙ past-past timeOf t (m .time) (omega arith) puts in
     let left : past timeOf (m .time) log ≡ rest ++ past timeOf k P = forget ∙ next-past timeOf t m (rest ++ past timeOf k P) rises next in (
       record {
         within = s .within;
         cut-within = omega arith;
         taken-within = omega arith;
-        to-come = forget;
+        to-come = λ _. forget;
         queue = λ _. (
           upper,
           high,
@@ -97,10 +97,10 @@ sender-sends {time} {lane} {log} {puts} {cut} m rest r rises e s =
     let k : ℕ = lane .mark in
     let (low, high, is) = s .queue r in
     let P : List Message = past timeOf t log in
-    let rises-on : Rises timeOf t P = subst (λ (x : List Message). Rises timeOf t x) (sym (s .to-come)) (rises-past timeOf t rises) in
+    let rises-on : Rises timeOf t P = subst (λ (x : List Message). Rises timeOf t x) (sym (s .to-come r)) (rises-past timeOf t rises) in
     let next : past timeOf k P ≡ m ∷ rest = past-past timeOf t k low log ∙ e in
     let above : k < m .time = next-rises timeOf k m rest rises-on next .0 in
-    let upper : m .time ≤ time = within-first timeOf (rw next at (within-past timeOf k (subst (λ (x : List Message). Within timeOf time x) (sym (s .to-come)) (within-past timeOf t (s .within))))) .0 in
+    let upper : m .time ≤ time = within-first timeOf (rw next at (within-past timeOf k (subst (λ (x : List Message). Within timeOf time x) (sym (s .to-come r)) (within-past timeOf t (s .within))))) .0 in
     record {
       within = s .within;
       cut-within = s .cut-within;
@@ -111,7 +111,7 @@ sender-sends {time} {lane} {log} {puts} {cut} m rest r rises e s =
 
 -- Whether the receiver is not down, said in another way.
 pub sender-receiving : {time : ℕ} {lane : Lane} {log puts : List Message} {cut : ℕ} {old new : Type 0} → (new → old) → SenderUp time lane log puts cut old → SenderUp time lane log puts cut new
-sender-receiving f s = record { within = s .within; cut-within = s .cut-within; taken-within = s .taken-within; to-come = s .to-come; queue = λ r. s .queue (f r) }
+sender-receiving f s = record { within = s .within; cut-within = s .cut-within; taken-within = s .taken-within; to-come = λ r. s .to-come (f r); queue = λ r. s .queue (f r) }
 
 -- Another cut.
 pub sender-cut : {time : ℕ} {lane : Lane} {log puts : List Message} {cut cut′ : ℕ} {receiving : Type 0} → cut′ ≤ time → SenderUp time lane log puts cut receiving → SenderUp time lane log puts cut′ receiving

@@ -52,12 +52,12 @@ pub record Nodes (l : Line) (g : Ghost) (fed : List Act) (receipts : List Receip
   pub logged : (n : ℕ) → nodeAt l n .crashed ≡ false → nodeAt l n .log ≡ map (entryOf (l .plan) n) (g n)
 
 -- A channel whose sender is up, by the sender's time, the lane, the messages of the log that it takes, those put on it, the cut and whether the receiver is not down:
--- no time on it is past the sender's, the log holds all that is still to come, and the queue what lies between the receiver's entry and the mark.
+-- no time on it is past the sender's; while the receiver is not down, the log holds all that is still to come, and the queue what lies between the receiver's entry and the mark.
 pub record SenderUp (time : ℕ) (lane : Lane) (log puts : List Message) (cut : ℕ) (receiving : Type 0) : Type 0 where
   pub within : Within timeOf time puts
   pub cut-within : cut ≤ time
   pub taken-within : lane .taken ≤ time
-  pub to-come : past timeOf (lane .taken) log ≡ past timeOf (lane .taken) puts
+  pub to-come : receiving → past timeOf (lane .taken) log ≡ past timeOf (lane .taken) puts
   pub queue : receiving → (lane .taken ≤ lane .mark) × (lane .mark ≤ time) × (lane .queue ≡ until timeOf (lane .mark) (past timeOf (lane .taken) log))
 
 -- A channel: what was put on it rises; what was got of it is what lies up to a time, the receiver's clock entry while the receiver is up.

@@ -93,7 +93,7 @@ module _ (p : Plan) where
               within = none-in;
               cut-within = omega arith;
               taken-within = omega (arith, taken);
-              to-come = ap (past timeOf (laneAt l b .taken)) logs;
+              to-come = λ _. ap (past timeOf (laneAt l b .taken)) logs;
               queue = λ r. rw (lane, logs) (omega arith, omega arith, refl);
             };
       }

@@ -6,12 +6,12 @@ use mathlib.Core.List.{List, [], _∷_}
 use mathlib.Core.Option.{Option, none, some}
 use native.Mathlib.Decide.{ℕ-discrete}
 use Rattle.plan.specs.Plan.{Plan, entering, leaving}
-use Rattle.rules.specs.Lists.{allOf, joined}
-use Rattle.rules.specs.Line.{Message, Entry, Held, Line, nodeAt, laneAt, counted}
+use Rattle.rules.specs.Lists.{allOf, joined, isEmpty}
+use Rattle.rules.specs.Line.{Message, Entry, Held, Line, nodeAt, laneAt, counted, receiverOf}
 use Rattle.rules.specs.Frame.{Frame, feed, send, take, crash, recover, frameOf}
-use Rattle.rules.specs.Recover.{targetsOf, conflict, noTargets, rowsComplete, highOf, recovered}
+use Rattle.rules.specs.Recover.{targetsOf, conflict, rowsComplete, highOf, recovered}
 use Rattle.rules.specs.Replay.{passedOn, isHeld, heldByRow, itemsByRow, placing, nodePlaced, replayEnd, endedIfComplete}
-use Rattle.rules.specs.Step.{sendable, replaying, receiverOf, madeBy, fedLine, sentLine, takenUp, takenReplaying, takenLane, takenFirst, takenLine, crashedLine, recoveredLine, effect, accepted, refusal, step}
+use Rattle.rules.specs.Step.{sendable, replaying, madeBy, fedLine, sentLine, takenUp, takenReplaying, takenLane, takenFirst, takenLine, crashedLine, recoveredLine, effect, accepted, refusal, step}
 use Rattle.rules.specs.Clock.{sentOn}
 use Rattle.rules.proofs.Accepted.{step-accepted, step-refused}
 use Rattle.rules.proofs.LineLaws.{plan-kept, plan-same}
@@ -92,9 +92,9 @@ restored-plan n l = lanes-plan _ (entering (l .plan) n) _ ∙ lanes-plan _ (leav
 
 recovered-plan : (n : ℕ) (l : Line) → Has (l .plan) (recoveredLine n l)
 unfolding recoveredLine
-recovered-plan n l = one (conflict (targetsOf l n)) refl (noTargets (targetsOf l n)) refl
+recovered-plan n l = one (conflict (targetsOf l n)) refl (isEmpty (targetsOf l n)) refl
   where
-    one : (t : Bool) → conflict (targetsOf l n) ≡ t → (s : Bool) → noTargets (targetsOf l n) ≡ s → Has (l .plan) (recoveredLine n l)
+    one : (t : Bool) → conflict (targetsOf l n) ≡ t → (s : Bool) → isEmpty (targetsOf l n) ≡ s → Has (l .plan) (recoveredLine n l)
     one true e s q = rw (e, recoveredLine) tt
     one false e true q = rw (e, recoveredLine, q, recoveredLine) (restored-plan n l)
     one false e false q = rw (e, recoveredLine, q, recoveredLine) (subst (λ (p : Plan). Has p (endedIfComplete n (recovered n l))) (restored-plan n l) (ended-plan n (recovered n l)))

@@ -1,6 +1,7 @@
 -- A quiet line: nothing put on a channel is still to come, so the run of its history is at rest.
 use Prim.Native.Nat.{ℕ, zero, suc, _+_, _<_, _≤_}
 use mathlib.Core.Path.{_≡_, refl, sym, ap, subst, _∙_}
+use mathlib.Core.Logic.{_≢_}
 use mathlib.Core.Bool.{Bool, true, false, _&&_, true≢false}
 use mathlib.Core.List.{List, [], _∷_, _++_, map}
 use native.Mathlib.Omega.{arith}
@@ -12,10 +13,10 @@ use Rattle.plan.specs.declared.Record.{Record}
 use Rattle.plan.specs.declared.Channel.{Channel}
 use Rattle.plan.specs.Channel.{takes}
 use Rattle.plan.specs.Plan.{channelAt, nodeCount, channelCount}
-use Rattle.rules.specs.Lists.{keep, allOf, upTo}
+use Rattle.rules.specs.Lists.{keep, allOf, upTo, isEmpty}
 use Rattle.rules.specs.Line.{Message, Entry, Status, up, down, replay, Line, nodeAt, laneAt, isUp}
-use Rattle.rules.specs.Clock.{messageOf, firstTaken}
-use Rattle.rules.specs.Step.{sendable, isNothing, noMessages}
+use Rattle.rules.specs.Clock.{messageOf, nextToSend}
+use Rattle.rules.specs.Step.{sendable, isNothing}
 use Rattle.rules.specs.Plain.{Act, Receipt, plainRun, atRest}
 use Rattle.rules.specs.Claim.{quiet}
 use Rattle.rules.proofs.Rising.{until, past, cut-at, rises-past, past-past}
@@ -39,7 +40,7 @@ status-up up e = refl
 status-up down e = absurd (true≢false (sym e))
 status-up replay e = absurd (true≢false (sym e))
 
-no-messages : (q : List Message) → noMessages q ≡ true → q ≡ []
+no-messages : (q : List Message) → isEmpty q ≡ true → q ≡ []
 no-messages [] e = refl
 no-messages (m ∷ q) e = absurd (true≢false (sym e))
 
@@ -48,15 +49,15 @@ abbrev chosenPast : Channel → ℕ → List Entry → List Message
 chosenPast c mark log = past timeOf mark (keep (λ (m : Message). takes c (m .what)) (map messageOf log))
 
 -- Where nothing can be sent there are none.
-nothing-past : (c : Channel) (mark : ℕ) (log : List Entry) → isNothing (firstTaken c mark log) ≡ true → chosenPast c mark log ≡ []
+nothing-past : (c : Channel) (mark : ℕ) (log : List Entry) → isNothing (nextToSend c mark log) ≡ true → chosenPast c mark log ≡ []
 nothing-past c mark [] e = refl
 nothing-past c mark (d ∷ log) e = one (ltb mark (d .time)) (takes c (d .what)) refl refl (λ h. nothing-past c mark log h)
   where
-    one : (late fits : Bool) → ltb mark (d .time) ≡ late → takes c (d .what) ≡ fits → (isNothing (firstTaken c mark log) ≡ true → chosenPast c mark log ≡ []) → chosenPast c mark (d ∷ log) ≡ []
-    one true true a b rest = absurd (true≢false (sym (rw (a, b, firstTaken) at e)))
-    one true false a b rest = rw b (rest (rw (a, b, firstTaken) at e))
-    one false true a b rest = rw (b, a) (rest (rw (a, firstTaken) at e))
-    one false false a b rest = rw b (rest (rw (a, firstTaken) at e))
+    one : (late fits : Bool) → ltb mark (d .time) ≡ late → takes c (d .what) ≡ fits → (isNothing (nextToSend c mark log) ≡ true → chosenPast c mark log ≡ []) → chosenPast c mark (d ∷ log) ≡ []
+    one true true a b rest = absurd (true≢false (sym (rw (a, b, nextToSend) at e)))
+    one true false a b rest = rw b (rest (rw (a, b, nextToSend) at e))
+    one false true a b rest = rw (b, a) (rest (rw (a, nextToSend) at e))
+    one false false a b rest = rw b (rest (rw (a, nextToSend) at e))
 
 -- Every channel empty is rest.
 empty-rests : (qs : List (List Record)) → ((b : ℕ) → b < length qs → getD qs b [] ≡ []) → atRest qs ≡ true
@@ -66,7 +67,7 @@ empty-rests ((r ∷ rest) ∷ qs) f = let e = f 0 (omega arith) in let z : _≡_
 
 module _ (l : Line) (g : Ghost) (cut base : ℕ → ℕ) (fed : List Act) (receipts : List Receipt) (crashes : List ℕ) (inv : Inv l g cut base fed receipts crashes) (still : quiet l ≡ true) where
   abbrev idleChannel : ℕ → Bool
-  idleChannel b = isNothing (sendable l b) && noMessages (laneAt l b .queue)
+  idleChannel b = isNothing (sendable l b) && isEmpty (laneAt l b .queue)
 
   abbrev upNode : ℕ → Bool
   upNode n = isUp (nodeAt l n .status)
@@ -79,8 +80,8 @@ module _ (l : Line) (g : Ghost) (cut base : ℕ → ℕ) (fed : List Act) (recei
   all-up n h = status-up (nodeAt l n .status) (all-in upNode (both-still .1) (in-up-to 0 (nodeCount (l .plan)) n (omega arith) (omega arith)))
 
   module _ (b : ℕ) (h : b < channelCount (l .plan)) where
-    idle : (isNothing (sendable l b) ≡ true) × (noMessages (laneAt l b .queue) ≡ true)
-    idle = both-true (isNothing (sendable l b)) (noMessages (laneAt l b .queue)) (all-in idleChannel (both-still .0) (in-up-to 0 (channelCount (l .plan)) b (omega arith) (omega arith)))
+    idle : (isNothing (sendable l b) ≡ true) × (isEmpty (laneAt l b .queue) ≡ true)
+    idle = both-true (isNothing (sendable l b)) (isEmpty (laneAt l b .queue)) (all-in idleChannel (both-still .0) (in-up-to 0 (channelCount (l .plan)) b (omega arith) (omega arith)))
 
     receiver-up : nodeAt l (channelAt (l .plan) b .receiver) .status ≡ up
     receiver-up = all-up (channelAt (l .plan) b .receiver) (inv .ordered .inside b h)
@@ -100,9 +101,10 @@ module _ (l : Line) (g : Ghost) (cut base : ℕ → ℕ) (fed : List Act) (recei
         let mark = laneAt l b .mark in
         let taken = laneAt l b .taken in
         let puts = put (l .plan) g b in
-        let (ordered, late, queue) = s .queue (λ e. up-not-down (sym receiver-up ∙ e)) in
-        let before : until timeOf mark (past timeOf taken puts) ≡ [] = ap (until timeOf mark) (sym (s .to-come)) ∙ sym queue ∙ no-messages (laneAt l b .queue) (idle .1) in
-        let after : past timeOf mark (past timeOf taken puts) ≡ [] = ap (past timeOf mark) (sym (s .to-come)) ∙ past-past timeOf taken mark ordered (logPut l b) ∙ none-late in
+        let receiving : nodeAt l (channelAt (l .plan) b .receiver) .status ≢ down = λ e. up-not-down (sym receiver-up ∙ e) in
+        let (ordered, late, queue) = s .queue receiving in
+        let before : until timeOf mark (past timeOf taken puts) ≡ [] = ap (until timeOf mark) (sym (s .to-come receiving)) ∙ sym queue ∙ no-messages (laneAt l b .queue) (idle .1) in
+        let after : past timeOf mark (past timeOf taken puts) ≡ [] = ap (past timeOf mark) (sym (s .to-come receiving)) ∙ past-past timeOf taken mark ordered (logPut l b) ∙ none-late in
         ap (λ (t : ℕ). past timeOf t puts) (c .cut-up receiver-up) ∙ cut-at timeOf mark (rises-past timeOf taken (c .rises)) ∙ ap (λ (x : List Message). x ++ past timeOf mark (past timeOf taken puts)) before ∙ after
 
   pub quiet-rests : atRest (plainRun (l .plan) (run l g cut fed receipts crashes (inv .nodes) (inv .channels) .0) .queues) ≡ true

@@ -133,7 +133,7 @@ module _ (l : Line) (g : Ghost) (cut base : ℕ → ℕ) (fed : List Act) (recei
               within = subst (λ (x : ℕ). Within timeOf x (put (l .plan) ghostAfter c)) (sym time) (put-within l g cut base fed receipts crashes inv n replaying T fs r c h);
               cut-within = omega (arith, cuts, time, r .high c h);
               taken-within = omega (arith, time, r .high c h);
-              to-come = come;
+              to-come = λ _. come;
               queue = λ _. (
                 omega (arith, mark),
                 omega (arith, mark, time, r .high c h),

@@ -11,10 +11,10 @@ use lib.ListN.{length, length-set}
 use lib.Dec.{eqb, leb}
 use borrow.Author.Tests.{eq-eqb, ne-eqb, leb-true}
 use Rattle.plan.specs.Plan.{Plan, channelAt, nodeCount, channelCount, isSource, entering, leaving}
-use Rattle.rules.specs.Lists.{keep, greatestOf}
-use Rattle.rules.specs.Line.{Message, Held, Target, Status, up, down, replay, Node, Lane, Line, nodeAt, laneAt, withNode, withLane, withLanes, freshLane}
+use Rattle.rules.specs.Lists.{keep, greatestOf, isEmpty}
+use Rattle.rules.specs.Line.{Message, Entry, Held, Target, Status, up, down, replay, Node, Lane, Line, nodeAt, laneAt, withNode, withLane, withLanes, freshLane}
 use Rattle.rules.specs.Clock.{messageOf}
-use Rattle.rules.specs.Recover.{lowOf, targetsOf, restored, recovered, statusOf, rowGoal, conflict, noTargets}
+use Rattle.rules.specs.Recover.{lowOf, targetsOf, restored, recovered, statusOf, rowGoal, conflict}
 use Rattle.rules.specs.Replay.{endedIfComplete}
 use Rattle.rules.specs.Step.{recoveredLine}
 use Rattle.rules.specs.Plain.{Act, Receipt}
@@ -22,7 +22,7 @@ use Rattle.rules.proofs.Rising.{until, past, Rises, none, Within, none-
 use Rattle.rules.proofs.Members.{In, in-none, keep-in}
 use Rattle.rules.proofs.Witness.{Taken, none}
 use Rattle.rules.proofs.LineLaws.{node-there, node-else}
-use Rattle.rules.proofs.Ghost.{Event, tookAt, Ghost, inputOf, takesMessage, put, got, gotOf, logPut}
+use Rattle.rules.proofs.Ghost.{Event, tookAt, Ghost, inputOf, entryOf, takesMessage, put, got, gotOf, logPut, map-map}
 use Rattle.rules.proofs.Passing.{goesOn, heldOf}
 use Rattle.rules.proofs.Kept.{taken-in, in-got, cuts-at}
 use Rattle.rules.proofs.Carried.{took-enters}
@@ -34,10 +34,16 @@ use Rattle.rules.proofs.MarkedLaws.{at-ends, sender-other, receiver-oth
 use Rattle.rules.proofs.TakeKeeps.{no-source}
 use Rattle.rules.proofs.Stays.{moved, channel-stays, ends-stay, events-stay, replays-stay, row-stays}
 use Rattle.rules.proofs.Swept.{swept, swept-line, swept-long, swept-enters, swept-leaves, swept-else}
-use Rattle.rules.proofs.CrashInv.{log-whole}
 use Rattle.rules.proofs.RebuildEvents.{Rebuilding}
 use Rattle.rules.proofs.RebuildInv.{ghostAfter, cutAfter, rebuild-inv}
 use Rattle.rules.proofs.EndInv.{Goes, ended-inv, none-some, some-same}
+
+-- The log of a node that never crashed holds all that it put on a channel.
+pub log-whole : {l : Line} {g : Ghost} {fed : List Act} {receipts : List Receipt} → Nodes l g fed receipts → (b : ℕ) → nodeAt l (channelAt (l .plan) b .sender) .crashed ≡ false → logPut l b ≡ put (l .plan) g b
+unfolding logPut put
+log-whole {l} {g} nodes b e =
+    let n = channelAt (l .plan) b .sender in
+    ap (λ (x : List Entry). keep (takesMessage (l .plan) b) (map messageOf x)) (nodes .logged n e) ∙ ap (keep (takesMessage (l .plan) b)) (map-map (entryOf (l .plan) n) messageOf (g n))
 
 module _ (l : Line) (g : Ghost) (cut base : ℕ → ℕ) (fed : List Act) (receipts : List Receipt) (crashes : List ℕ) (inv : Inv l g cut base fed receipts crashes) (n : ℕ) (inside : n < nodeCount (l .plan)) (is-down : nodeAt l n .status ≡ down) where
   marked : nodeAt l n .crashed ≡ true
@@ -157,7 +163,7 @@ module _ (l : Line) (g : Ghost) (cut base : ℕ → ℕ) (fed : List Act) (recei
               within = subst (λ (x : ℕ). Within timeOf x (put (l .plan) g b)) (sym time) (s .within);
               cut-within = omega (arith, time, s .cut-within);
               taken-within = omega (arith, time, entry, restored-got b h, s .cut-within);
-              to-come = ap (past timeOf (laneAt r b .taken)) logs;
+              to-come = λ _. ap (past timeOf (laneAt r b .taken)) logs;
               queue = λ _. (
                 omega (arith, entry, mark),
                 omega (arith, mark, time, restored-got b h, s .cut-within),
@@ -354,7 +360,7 @@ module _ (l : Line) (g : Ghost) (cut base : ℕ → ℕ) (fed : List Act) (recei
   unfolding recoveredLine
   recover-inv k = go (conflict (targetsOf l n)) (targetsOf l n) refl
     where
-      go : (clash : Bool) (ts : List Target) → targetsOf l n ≡ ts → (elim clash [ true ↦ none | false ↦ elim (noTargets ts) [ true ↦ some (recovered n l) | false ↦ endedIfComplete n (recovered n l) ] ]) ≡ some k → Goes-on k
+      go : (clash : Bool) (ts : List Target) → targetsOf l n ≡ ts → (elim clash [ true ↦ none | false ↦ elim (isEmpty ts) [ true ↦ some (recovered n l) | false ↦ endedIfComplete n (recovered n l) ] ]) ≡ some k → Goes-on k
       go true ts q e = none-some e
       go false [] q e =
           let (g′, cut′, i) = up-inv q in

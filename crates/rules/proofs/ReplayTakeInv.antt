@@ -6,11 +6,11 @@ use mathlib.Core.List.{List, [], _∷_, _++_}
 use mathlib.Core.Option.{Option, some}
 use lib.ListN.{length}
 use Rattle.plan.specs.Plan.{Plan, channelAt, nodeCount, channelCount}
-use Rattle.rules.specs.Line.{Message, Status, replay, Node, Lane, Line, nodeAt, laneAt, withNode, withLane, parents}
+use Rattle.rules.specs.Line.{Message, Status, replay, Node, Lane, Line, nodeAt, laneAt, withNode, withLane, parents, senderOf}
 use Rattle.rules.specs.Clock.{raiseHeard, takenFrom}
 use Rattle.rules.specs.Recover.{rowGoal}
 use Rattle.rules.specs.Replay.{holding, endedIfComplete}
-use Rattle.rules.specs.Step.{senderOf, takenLane, takenReplaying}
+use Rattle.rules.specs.Step.{takenLane, takenReplaying}
 use Rattle.rules.specs.Plain.{Act, Receipt}
 use Rattle.rules.proofs.LineLaws.{node-there}
 use Rattle.rules.proofs.Ghost.{Ghost}

@@ -14,7 +14,7 @@ use Rattle.plan.specs.Channel.{takes}
 use Rattle.plan.specs.Plan.{Plan, channelAt, channelCount}
 use Rattle.rules.specs.Lists.{keep, keepOne}
 use Rattle.rules.specs.Line.{Message, Entry, Status, up, down, Node, Lane, Line, nodeAt, laneAt, withLane}
-use Rattle.rules.specs.Clock.{firstTaken, sentOn, messageOf}
+use Rattle.rules.specs.Clock.{nextToSend, sentOn, messageOf}
 use Rattle.rules.specs.Step.{sendable}
 use Rattle.rules.proofs.Rising.{until, past, Rises, Within}
 use Rattle.rules.proofs.LineLaws.{lane-there, lane-else}
@@ -28,11 +28,11 @@ chosenFrom c mark log = past timeOf mark (keep (λ (m : Message). takes c (m .wh
 some-same : {x y : Entry} → some x ≡ some y → x ≡ y
 some-same e = cc
 
-first-here : (c : Channel) (mark : ℕ) (d : Entry) (log : List Entry) → (ltb mark (d .time) && takes c (d .what)) ≡ true → firstTaken c mark (d ∷ log) ≡ some d
-first-here c mark d log t = rw (t, firstTaken)
+first-here : (c : Channel) (mark : ℕ) (d : Entry) (log : List Entry) → (ltb mark (d .time) && takes c (d .what)) ≡ true → nextToSend c mark (d ∷ log) ≡ some d
+first-here c mark d log t = rw (t, nextToSend)
 
-first-skip : (c : Channel) (mark : ℕ) (d : Entry) (log : List Entry) → (ltb mark (d .time) && takes c (d .what)) ≡ false → firstTaken c mark (d ∷ log) ≡ firstTaken c mark log
-first-skip c mark d log t = rw (t, firstTaken)
+first-skip : (c : Channel) (mark : ℕ) (d : Entry) (log : List Entry) → (ltb mark (d .time) && takes c (d .what)) ≡ false → nextToSend c mark (d ∷ log) ≡ nextToSend c mark log
+first-skip c mark d log t = rw (t, nextToSend)
 
 Found : Channel → ℕ → List Entry → Entry → Type 0
 Found c mark log e = (rest : List Message) × (chosenFrom c mark log ≡ messageOf e ∷ rest)
@@ -46,7 +46,7 @@ found-step c mark d log e false true a b same ih = rw (b, a) (ih refl)
 found-step c mark d log e false false a b same ih = rw b (ih refl)
 
 -- What is sent is the first message past the mark that the channel takes.
-first-past : (c : Channel) (mark : ℕ) (log : List Entry) (e : Entry) → firstTaken c mark log ≡ some e → Found c mark log e
+first-past : (c : Channel) (mark : ℕ) (log : List Entry) (e : Entry) → nextToSend c mark log ≡ some e → Found c mark log e
 first-past c mark [] e q = let z : _≡_ {A = ℕ} 0 1 = cc in let no : ⊥ = omega arith in absurd no
 first-past c mark (d ∷ log) e q =
     found-step c mark d log e (ltb mark (d .time)) (takes c (d .what)) refl refl (λ t. some-same (sym (first-here c mark d log t) ∙ q)) (λ t. first-past c mark log e (sym (first-skip c mark d log t) ∙ q))

@@ -9,11 +9,11 @@ use native.Mathlib.Omega.{arith}
 use Rattle.basics.specs.Update.{changed}
 use Rattle.plan.specs.Record.{recordLayout}
 use Rattle.plan.specs.Plan.{channelAt, nodeCount, channelCount, isSource, isSink}
-use Rattle.rules.specs.Line.{Message, Entry, Status, up, down, replay, Line, nodeAt, laneAt, parents, isReplay}
+use Rattle.rules.specs.Line.{Message, Entry, Status, up, down, replay, Line, nodeAt, laneAt, parents, isReplay, senderOf, receiverOf}
 use Rattle.rules.specs.Frame.{Frame, feed, send, take, crash, recover, frameOf}
-use Rattle.rules.specs.Clock.{firstTaken, raiseHeard}
+use Rattle.rules.specs.Clock.{nextToSend, raiseHeard}
 use Rattle.rules.specs.Replay.{endedIfComplete}
-use Rattle.rules.specs.Step.{sendable, senderOf, receiverOf, replaying, fedLine, sentLine, takenUp, takenLane, takenReplaying, takenFirst, takenLine, recoveredLine, effect, refusal, accepted, step}
+use Rattle.rules.specs.Step.{sendable, replaying, fedLine, sentLine, takenUp, takenLane, takenReplaying, takenFirst, takenLine, recoveredLine, effect, refusal, accepted, step}
 use Rattle.rules.specs.Plain.{Act, feeds, Receipt}
 use Rattle.rules.specs.Claim.{firstReceipt, receiptOf, feedOf, crashOf}
 use Rattle.rules.proofs.ListLaws.{nil-right}
@@ -74,7 +74,7 @@ module _ (l : Line) (g : Ghost) (cut base : ℕ → ℕ) (fed : List Act) (recei
   unfolding sendable
   sender-sends b e first d = elim (up-or-replay (nodeAt l (channelAt (l .plan) b .sender) .status) d) [
     | inl q ↦ q
-    | inr q ↦ absurd (none-some (sym (ap (firstTaken (channelAt (l .plan) b) (laneAt l b .mark)) (inv .replays (channelAt (l .plan) b .sender) q .log-none)) ∙ first))
+    | inr q ↦ absurd (none-some (sym (ap (nextToSend (channelAt (l .plan) b) (laneAt l b .mark)) (inv .replays (channelAt (l .plan) b .sender) q .log-none)) ∙ first))
   ]
 
   pub send-step : (b : ℕ) → CanSend l b → (k : Line) → effect l (send b) ≡ some k → Inv k g cut base fed receipts crashes

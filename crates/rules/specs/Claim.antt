@@ -1,22 +1,19 @@
 -- What a list of frames did to a line: the words that the order claim is made of (document 00, demand 3; document 01, "The plain line").
 use Prim.Native.Nat.{ℕ}
-use mathlib.Core.Bool.{Bool, true, false, not, _&&_}
-use mathlib.Core.List.{List, [], _∷_, _++_, map}
+use mathlib.Core.Bool.{Bool, true, false, _&&_}
+use mathlib.Core.List.{List, [], _∷_, _++_}
 use lib.Dec.{eqb}
-use Rattle.plan.specs.declared.Record.{Record}
-use Rattle.plan.specs.Layout.{Layout}
 use Rattle.plan.specs.Record.{recordLayout}
-use Rattle.plan.specs.Plan.{channelCount, nodeCount, channelAt}
-use Rattle.rules.specs.Lists.{keep, allOf, anyOf, upTo}
-use Rattle.rules.specs.Line.{Message, Line, nodeAt, laneAt, isUp}
+use Rattle.rules.specs.Lists.{isEmpty, keep, allOf, anyOf}
+use Rattle.rules.specs.Line.{Message, Line, nodeAt, laneAt, nodeNumbers, channelNumbersOf, senderOf, receiverOf, isUp}
 use Rattle.rules.specs.Frame.{Frame, feed, send, take, crash, recover, frameOf}
-use Rattle.rules.specs.Step.{Answer, step, sendable, isNothing, noMessages}
+use Rattle.rules.specs.Step.{step, sendable, isNothing}
 use Rattle.rules.specs.Plain.{Act, feeds, Receipt}
 
 -- "each Take answered 0 gives the receiver the first record on the belt in the state passed, with the belt's sender"
 abbrev pub firstReceipt : Line → ℕ → List Message → List Receipt
 firstReceipt l b [] = []
-firstReceipt l b (m ∷ rest) = record { receiver = channelAt (l .plan) b .receiver; what = m .what; sender = channelAt (l .plan) b .sender } ∷ []
+firstReceipt l b (m ∷ rest) = record { receiver = receiverOf l b; what = m .what; sender = senderOf l b } ∷ []
 
 abbrev pub receiptOf : Line → Frame → List Receipt
 receiptOf l (feed n r) = []
@@ -82,5 +79,5 @@ receivedBy n rs = keep (λ (r : Receipt). eqb (r .receiver) n) rs
 unfoldable pub quiet : Line → Bool
 unfolding sendable
 quiet l =
-    allOf (λ (b : ℕ). isNothing (sendable l b) && noMessages (laneAt l b .queue)) (upTo 0 (channelCount (l .plan)))
-    && allOf (λ (n : ℕ). isUp (nodeAt l n .status)) (upTo 0 (nodeCount (l .plan)))
+    allOf (λ (b : ℕ). isNothing (sendable l b) && isEmpty (laneAt l b .queue)) (channelNumbersOf l)
+    && allOf (λ (n : ℕ). isUp (nodeAt l n .status)) (nodeNumbers l)

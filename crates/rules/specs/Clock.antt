@@ -1,6 +1,6 @@
 -- Logging and clocks (document 01, "Clocks and steps").
 use Prim.Native.Nat.{ℕ, suc, max}
-use mathlib.Core.Bool.{Bool, true, false, cond, not, _&&_}
+use mathlib.Core.Bool.{true, false, cond, _&&_}
 use mathlib.Core.List.{List, [], _∷_, _++_}
 use mathlib.Core.Option.{Option, none, some}
 use lib.Dec.{ltb, eqb}
@@ -26,9 +26,9 @@ abbrev pub messageOf : Entry → Message
 messageOf e = record { what = e .what; time = e .time; origin = e .origin }
 
 -- "the first logged message later than the belt's mark that the belt takes"
-abbrev pub firstTaken : Channel → ℕ → List Entry → Option Entry
-firstTaken c mark [] = none
-firstTaken c mark (e ∷ log) = elim (ltb mark (e .time) && takes c (e .what)) [ true ↦ some e | false ↦ firstTaken c mark log ]
+abbrev pub nextToSend : Channel → ℕ → List Entry → Option Entry
+nextToSend c mark [] = none
+nextToSend c mark (e ∷ log) = elim (ltb mark (e .time) && takes c (e .what)) [ true ↦ some e | false ↦ nextToSend c mark log ]
 
 -- A message goes on the channel, and "the mark becomes its time".
 unfoldable pub sentOn : Entry → Lane → Lane
@@ -41,6 +41,6 @@ raiseHeard [] (h ∷ hs) o = h ∷ hs
 raiseHeard (p ∷ ps) (h ∷ hs) fed = h ∷ hs
 raiseHeard (p ∷ ps) (h ∷ hs) (made s t) = cond (eqb p s) (max h t) h ∷ raiseHeard ps hs (made s t)
 
--- "The receiver removes the belt's first message, raises its clock by it": for the sender its time, for the sender's parents what the message was made from. The rest of the queue stays.
+-- "the receiver removes the belt's first message, raises its clock by it": for the sender its time, for the sender's parents what the message was made from. The rest of the queue stays.
 unfoldable pub takenFrom : List ℕ → Message → List Message → Lane → Lane
 takenFrom senderParents m rest s = record { mark = s .mark; taken = max (s .taken) (m .time); heard = raiseHeard senderParents (s .heard) (m .origin); queue = rest }

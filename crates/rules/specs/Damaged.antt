@@ -1,25 +1,19 @@
--- What makes a line damaged (document 01, "Damaged"), each condition by itself. What a line cannot spell is the layout's matter: unused bytes, and in the stored plan its version, its length and rule bytes that no rule has.
-use Prim.Native.Nat.{ℕ, zero, suc, _^_}
+-- What makes a line damaged (document 01, "Damaged"): conditions of the line, of a node n and of a channel b, each by itself. What a line cannot spell is the layout's matter: unused bytes, and in the stored plan its version, its length and rule bytes that no rule has.
+use Prim.Native.Nat.{ℕ, _^_}
 use mathlib.Core.Bool.{Bool, true, false, not, _&&_, _||_}
 use mathlib.Core.List.{List, [], _∷_, _++_, map}
+use mathlib.Core.Option.{Option, none, some}
 use lib.ListN.{length}
 use lib.Dec.{leb, ltb, eqb}
 use Rattle.plan.specs.declared.Record.{Record}
-use Rattle.plan.specs.declared.Channel.{Channel}
 use Rattle.plan.specs.Record.{materialFits}
-use Rattle.plan.specs.Plan.{Plan, nodeCount, channelCount, channelAt, entering, leaving, isSource, isSink}
+use Rattle.plan.specs.Plan.{Plan, nodeCount, channelCount, channelAt, entering, isSource, isSink}
 use Rattle.plan.specs.Check.{planFits}
-use Rattle.rules.specs.Lists.{keep, allOf, anyOf, joined, greatestOf, upTo}
-use Rattle.rules.specs.Line.{logLimit, queueLimit, heldLimit, targetLimit, stepLimit, Origin, fed, made, Message, Entry, Held, Target, Status, up, down, replay, Node, Lane, Line, nodeAt, laneAt, parents, isUp, isDown, isReplay}
-use Rattle.rules.specs.Recover.{lowOf, targetsOf, sameTarget, conflict, noTargets, recovered, rowsComplete}
-use Rattle.rules.specs.Replay.{passedOn}
-use Rattle.rules.specs.Step.{endDown, noMessages}
-
-abbrev pub nodeNumbers : Line → List ℕ
-nodeNumbers l = upTo 0 (nodeCount (l .plan))
-
-abbrev pub channelNumbersOf : Line → List ℕ
-channelNumbersOf l = upTo 0 (channelCount (l .plan))
+use Rattle.rules.specs.Lists.{isEmpty, allOf, anyOf, joined}
+use Rattle.rules.specs.Line.{logLimit, queueLimit, heldLimit, targetLimit, stepLimit, Origin, fed, made, Message, Entry, Held, Target, Status, up, down, replay, Node, Lane, Line, nodeAt, laneAt, nodeNumbers, channelNumbersOf, senderOf, receiverOf, parents, isUp, isReplay}
+use Rattle.rules.specs.Recover.{sameTarget}
+use Rattle.rules.specs.Replay.{passedOn, entryAt, heldByRow}
+use Rattle.rules.specs.Step.{endDown, nodeDown, replaying, recoverGives}
 
 -- Something holds of a node, or of a channel.
 abbrev pub someNode : Line → (ℕ → Bool) → Bool
@@ -39,20 +33,28 @@ unfolding parents
 misshapen l =
     not (eqb (length (l .nodes)) (nodeCount (l .plan)))
     || not (eqb (length (l .lanes)) (channelCount (l .plan)))
-    || someChannel l (λ (b : ℕ). not (eqb (length (laneAt l b .heard)) (length (parents (l .plan) (channelAt (l .plan) b .sender)))))
+    || someChannel l (λ (b : ℕ). not (eqb (length (laneAt l b .heard)) (length (parents (l .plan) (senderOf l b)))))
 
--- "a number is outside its limits": the counts, the steps, and the records.
-abbrev pub recordPast : Record → Bool
-recordPast r = not (materialFits (r .material) && ltb (r .piece) (2 ^ 32) && ltb (r .mass) (2 ^ 16))
+-- What a node has worked on: its log, and its held records as the entries that they are to become.
+abbrev pub workedOn : Node → List Entry
+workedOn x = x .log ++ map (entryAt 0) (x .held)
 
-unfoldable pub pastLimits : Line → Bool
-pastLimits l =
-    ltb stepLimit (l .steps)
-    || someNode l (λ (n : ℕ). ltb logLimit (length (nodeAt l n .log)) || ltb heldLimit (length (nodeAt l n .held)) || ltb targetLimit (length (nodeAt l n .targets)))
-    || someNode l (λ (n : ℕ). anyOf (λ (e : Entry). recordPast (e .what)) (nodeAt l n .log) || anyOf (λ (h : Held). recordPast (h .what)) (nodeAt l n .held))
-    || someChannel l (λ (b : ℕ). ltb queueLimit (length (laneAt l b .queue)) || anyOf (λ (m : Message). recordPast (m .what)) (laneAt l b .queue))
+-- "a number is outside its limits": the steps, the counts and the records.
+unfoldable pub stepsPast : Line → Bool
+stepsPast l = ltb stepLimit (l .steps)
 
--- "or names a node that is not the right parent"
+abbrev pub recordPastLimits : Record → Bool
+recordPastLimits r = not (materialFits (r .material) && ltb (r .piece) (2 ^ 32) && ltb (r .mass) (2 ^ 16))
+
+unfoldable pub nodePastLimits : Node → Bool
+nodePastLimits x =
+    ltb logLimit (length (x .log)) || ltb heldLimit (length (x .held)) || ltb targetLimit (length (x .targets))
+    || anyOf (λ (e : Entry). recordPastLimits (e .what)) (workedOn x)
+
+unfoldable pub channelPastLimits : Lane → Bool
+channelPastLimits s = ltb queueLimit (length (s .queue)) || anyOf (λ (m : Message). recordPastLimits (m .what)) (s .queue)
+
+-- "or names a node that is not the right parent": of what node n made, and of what its input was made from.
 abbrev pub isParent : Plan → ℕ → ℕ → Bool
 isParent p n s = anyOf (λ (q : ℕ). eqb q s) (parents p n)
 
@@ -64,38 +66,46 @@ abbrev pub beforeNotParent : Plan → Origin → Origin → Bool
 beforeNotParent p fed before = false
 beforeNotParent p (made s t) before = notParent p s before
 
-unfoldable pub wrongParent : Line → Bool
+unfoldable pub nodeWrongParent : Plan → ℕ → Node → Bool
 unfolding parents
-wrongParent l =
-    someNode l (λ (n : ℕ). anyOf (λ (e : Entry). notParent (l .plan) n (e .origin) || beforeNotParent (l .plan) (e .origin) (e .before)) (nodeAt l n .log))
-    || someNode l (λ (n : ℕ). anyOf (λ (h : Held). not (isParent (l .plan) n (h .sender)) || notParent (l .plan) (h .sender) (h .before)) (nodeAt l n .held))
-    || someNode l (λ (n : ℕ). anyOf (λ (t : Target). not (isParent (l .plan) n (t .parent))) (nodeAt l n .targets))
-    || someChannel l (λ (b : ℕ). anyOf (λ (m : Message). notParent (l .plan) (channelAt (l .plan) b .sender) (m .origin)) (laneAt l b .queue))
+nodeWrongParent p n x =
+    anyOf (λ (e : Entry). notParent p n (e .origin) || beforeNotParent p (e .origin) (e .before)) (workedOn x)
+    || anyOf (λ (t : Target). not (isParent p n (t .parent))) (x .targets)
 
--- Every time that stands in the state.
+unfoldable pub channelWrongParent : Plan → ℕ → Lane → Bool
+unfolding parents
+channelWrongParent p b s = anyOf (λ (m : Message). notParent p (channelAt p b .sender) (m .origin)) (s .queue)
+
+-- The times of messages, held records and named senders, and the others that stand in the state.
 abbrev pub originTimes : Origin → List ℕ
 originTimes fed = []
 originTimes (made s t) = t ∷ []
 
-abbrev pub namedTimes : Line → List ℕ
-namedTimes l =
-    joined (map (λ (n : ℕ).
-    joined (map (λ (e : Entry). e .time ∷ originTimes (e .origin) ++ originTimes (e .before)) (nodeAt l n .log))
-    ++ joined (map (λ (h : Held). h .time ∷ originTimes (h .before)) (nodeAt l n .held))) (nodeNumbers l))
-    ++ joined (map (λ (b : ℕ). joined (map (λ (m : Message). m .time ∷ originTimes (m .origin)) (laneAt l b .queue))) (channelNumbersOf l))
+abbrev pub nodeNamedTimes : Node → List ℕ
+nodeNamedTimes x = map (λ (e : Entry). e .time) (x .log) ++ joined (map (λ (e : Entry). originTimes (e .origin) ++ originTimes (e .before)) (workedOn x))
 
-abbrev pub otherTimes : Line → List ℕ
-otherTimes l =
-    joined (map (λ (n : ℕ). nodeAt l n .time ∷ joined (map (λ (t : Target). t .time ∷ t .parentTime ∷ []) (nodeAt l n .targets))) (nodeNumbers l))
-    ++ joined (map (λ (b : ℕ). laneAt l b .mark ∷ laneAt l b .taken ∷ laneAt l b .heard) (channelNumbersOf l))
+abbrev pub nodeOtherTimes : Node → List ℕ
+nodeOtherTimes x = x .time ∷ joined (map (λ (t : Target). t .time ∷ t .parentTime ∷ []) (x .targets))
+
+abbrev pub channelNamedTimes : Lane → List ℕ
+channelNamedTimes s = joined (map (λ (m : Message). m .time ∷ originTimes (m .origin)) (s .queue))
+
+abbrev pub channelOtherTimes : Lane → List ℕ
+channelOtherTimes s = s .mark ∷ s .taken ∷ s .heard
 
 -- "a time exceeds the accepted steps"
-unfoldable pub timePastSteps : Line → Bool
-timePastSteps l = anyOf (ltb (l .steps)) (namedTimes l ++ otherTimes l)
+unfoldable pub nodeTimePast : ℕ → Node → Bool
+nodeTimePast steps x = anyOf (ltb steps) (nodeNamedTimes x ++ nodeOtherTimes x)
+
+unfoldable pub channelTimePast : ℕ → Lane → Bool
+channelTimePast steps s = anyOf (ltb steps) (channelNamedTimes s ++ channelOtherTimes s)
 
 -- "a message's, a held record's or a named sender's time is 0"
-unfoldable pub timeZero : Line → Bool
-timeZero l = anyOf (eqb 0) (namedTimes l)
+unfoldable pub nodeTimeZero : Node → Bool
+nodeTimeZero x = anyOf (eqb 0) (nodeNamedTimes x)
+
+unfoldable pub channelTimeZero : Lane → Bool
+channelTimeZero s = anyOf (eqb 0) (channelNamedTimes s)
 
 -- "a made-from sender is missing where the maker is no infeed, or present where it is one"
 abbrev pub originWrong : Plan → ℕ → Origin → Bool
@@ -110,73 +120,71 @@ abbrev pub beforeWrong : Plan → Origin → Origin → Bool
 beforeWrong p fed before = not (isFed before)
 beforeWrong p (made s t) before = originWrong p s before
 
-unfoldable pub makerWrong : Line → Bool
+unfoldable pub nodeMakerWrong : Plan → ℕ → Node → Bool
 unfolding isSource
-makerWrong l =
-    someNode l (λ (n : ℕ). anyOf (λ (e : Entry). originWrong (l .plan) n (e .origin) || beforeWrong (l .plan) (e .origin) (e .before)) (nodeAt l n .log))
-    || someNode l (λ (n : ℕ). anyOf (λ (h : Held). originWrong (l .plan) (h .sender) (h .before)) (nodeAt l n .held))
-    || someChannel l (λ (b : ℕ). anyOf (λ (m : Message). originWrong (l .plan) (channelAt (l .plan) b .sender) (m .origin)) (laneAt l b .queue))
+nodeMakerWrong p n x = anyOf (λ (e : Entry). originWrong p n (e .origin) || beforeWrong p (e .origin) (e .before)) (workedOn x)
 
--- Numbers that rise strictly from above one bound to another.
+unfoldable pub channelMakerWrong : Plan → ℕ → Lane → Bool
+unfolding isSource
+channelMakerWrong p b s = anyOf (λ (m : Message). originWrong p (channelAt p b .sender) (m .origin)) (s .queue)
+
+-- Numbers that rise strictly from above a bound, and to another.
+abbrev pub rises : ℕ → List ℕ → Bool
+rises above [] = true
+rises above (t ∷ ts) = ltb above t && rises t ts
+
 abbrev pub risesTo : ℕ → ℕ → List ℕ → Bool
-risesTo above last [] = true
-risesTo above last (t ∷ ts) = ltb above t && leb t last && risesTo t last ts
+risesTo above last ts = rises above ts && allOf (λ (t : ℕ). leb t last) ts
 
 -- "log times don't rise strictly or pass the node's time"
-unfoldable pub logWrong : Line → Bool
-logWrong l = someNode l (λ (n : ℕ). not (risesTo 0 (nodeAt l n .time) (map (λ (e : Entry). e .time) (nodeAt l n .log))))
+unfoldable pub logWrong : Node → Bool
+logWrong x = not (risesTo 0 (x .time) (map (λ (e : Entry). e .time) (x .log)))
 
--- A node's clock entries for a parent, and through it for the parent's parent.
-unfoldable pub clockFor : Line → ℕ → ℕ → ℕ
-unfolding entering
-clockFor l n s = greatestOf (map (λ (b : ℕ). laneAt l b .taken) (keep (λ (b : ℕ). eqb (channelAt (l .plan) b .sender) s) (entering (l .plan) n)))
+-- What an input was made from passes the entry heard for that parent of the sender.
+abbrev pub pastHeard : List ℕ → List ℕ → Origin → Bool
+pastHeard ps [] o = false
+pastHeard [] (h ∷ hs) o = false
+pastHeard (p ∷ ps) (h ∷ hs) fed = false
+pastHeard (p ∷ ps) (h ∷ hs) (made q u) = (eqb p q && ltb h u) || pastHeard ps hs (made q u)
 
-abbrev pub heardFor : List ℕ → List ℕ → ℕ → ℕ
-heardFor ps [] q = 0
-heardFor [] (h ∷ hs) q = 0
-heardFor (p ∷ ps) (h ∷ hs) q = elim (eqb p q) [ true ↦ h | false ↦ heardFor ps hs q ]
-
-unfoldable pub clockThrough : Line → ℕ → ℕ → ℕ → ℕ
-unfolding entering parents
-clockThrough l n s q = greatestOf (map (λ (b : ℕ). heardFor (parents (l .plan) s) (laneAt l b .heard) q) (keep (λ (b : ℕ). eqb (channelAt (l .plan) b .sender) s) (entering (l .plan) n)))
-
-abbrev pub beforePast : Line → ℕ → ℕ → Origin → Bool
-beforePast l n s fed = false
-beforePast l n s (made q u) = ltb (clockThrough l n s q) u
-
-abbrev pub originPast : Line → ℕ → Origin → Origin → Bool
-originPast l n fed before = false
-originPast l n (made s t) before = ltb (clockFor l n s) t || beforePast l n s before
+-- An input that came on channel b passes the receiver's clock, which stands there.
+abbrev pub pastLane : Line → ℕ → Origin → Origin → Bool
+pastLane l b fed before = false
+pastLane l b (made s t) before = eqb (senderOf l b) s && (ltb (laneAt l b .taken) t || pastHeard (parents (l .plan) s) (laneAt l b .heard) before)
 
 -- "an entry's or held record's other times pass the node's clock"
-unfoldable pub pastClock : Line → Bool
-unfolding clockFor clockThrough
-pastClock l =
-    someNode l (λ (n : ℕ). anyOf (λ (e : Entry). originPast l n (e .origin) (e .before)) (nodeAt l n .log) || anyOf (λ (h : Held). originPast l n (made (h .sender) (h .time)) (h .before)) (nodeAt l n .held))
+unfoldable pub pastClock : Line → ℕ → Bool
+unfolding entering parents
+pastClock l n = anyOf (λ (e : Entry). anyOf (λ (b : ℕ). pastLane l b (e .origin) (e .before)) (entering (l .plan) n)) (workedOn (nodeAt l n))
 
 -- "held times of a row don't rise strictly"
-unfoldable pub heldWrong : Line → Bool
-unfolding parents
-heldWrong l =
-    someNode l (λ (n : ℕ). anyOf (λ (s : ℕ). (let ts = map (λ (h : Held). h .time) (keep (λ (h : Held). eqb (h .sender) s) (nodeAt l n .held)) in not (risesTo 0 (greatestOf ts) ts))) (parents (l .plan) n))
+unfoldable pub heldWrong : Line → ℕ → Bool
+unfolding entering
+heldWrong l n = anyOf (λ (hs : List Held). not (rises 0 (map (λ (h : Held). h .time) hs))) (heldByRow (nodeAt l n .held) l (entering (l .plan) n))
 
 -- "a held record is one that no leaving belt takes"
-unfoldable pub heldNotPassed : Line → Bool
+unfoldable pub heldNotPassed : Plan → ℕ → Node → Bool
 unfolding passedOn
-heldNotPassed l = someNode l (λ (n : ℕ). anyOf (λ (h : Held). not (passedOn (l .plan) n (h .what))) (nodeAt l n .held))
+heldNotPassed p n x = anyOf (λ (h : Held). not (passedOn p n (h .what))) (x .held)
 
 -- "with no end down, a belt's mark is below the receiver's entry, or message times don't rise strictly from above that entry to the mark"
-unfoldable pub laneWrong : Line → Bool
-laneWrong l =
-    someChannel l (λ (b : ℕ). not (endDown l b) && (ltb (laneAt l b .mark) (laneAt l b .taken) || not (risesTo (laneAt l b .taken) (laneAt l b .mark) (map (λ (m : Message). m .time) (laneAt l b .queue)))))
+unfoldable pub queueWrong : Line → ℕ → Bool
+queueWrong l b =
+    let s = laneAt l b in
+    not (endDown l b) && (ltb (s .mark) (s .taken) || not (risesTo (s .taken) (s .mark) (map (λ (m : Message). m .time) (s .queue))))
 
--- "a down or replaying node lacks a crash mark, an infeed or outfeed bears one, or two joined nodes do"
-unfoldable pub marksWrong : Line → Bool
+-- "a down or replaying node lacks a crash mark"
+unfoldable pub markMissing : Node → Bool
+markMissing x = not (isUp (x .status)) && not (x .crashed)
+
+-- "an infeed or outfeed bears one"
+unfoldable pub markOnEnd : Plan → ℕ → Node → Bool
 unfolding isSource isSink
-marksWrong l =
-    someNode l (λ (n : ℕ). not (isUp (nodeAt l n .status)) && not (nodeAt l n .crashed))
-    || someNode l (λ (n : ℕ). nodeAt l n .crashed && (isSource (l .plan) n || isSink (l .plan) n))
-    || someChannel l (λ (b : ℕ). nodeAt l (channelAt (l .plan) b .sender) .crashed && nodeAt l (channelAt (l .plan) b .receiver) .crashed)
+markOnEnd p n x = x .crashed && (isSource p n || isSink p n)
+
+-- "or two joined nodes do"
+unfoldable pub marksJoined : Line → ℕ → Bool
+marksJoined l b = nodeAt l (senderOf l b) .crashed && nodeAt l (receiverOf l b) .crashed
 
 abbrev pub sameTargets : List Target → List Target → Bool
 sameTargets [] [] = true
@@ -184,53 +192,48 @@ sameTargets [] (u ∷ us) = false
 sameTargets (t ∷ ts) [] = false
 sameTargets (t ∷ ts) (u ∷ us) = sameTarget t u && sameTargets ts us
 
--- Recover, were the node down, would be accepted (12 aside) and leave it replaying.
-unfoldable pub wouldReplay : Line → ℕ → Bool
-unfolding targetsOf recovered rowsComplete
-wouldReplay l n = leb (length (targetsOf l n)) targetLimit && not (conflict (targetsOf l n)) && not (noTargets (targetsOf l n)) && not (rowsComplete (recovered n l) n)
+-- Whether node n replays in a line that Recover gives, with the time and the targets of a node.
+abbrev pub replaysAs : ℕ → Node → Option Line → Bool
+replaysAs n x none = false
+replaysAs n x (some k) = isReplay (nodeAt k n .status) && eqb (x .time) (nodeAt k n .time) && sameTargets (x .targets) (nodeAt k n .targets)
 
 -- "a replaying node's time or targets are not what Recover would give"
-unfoldable pub replayWrong : Line → Bool
-unfolding wouldReplay lowOf targetsOf
-replayWrong l =
-    someNode l (λ (n : ℕ). isReplay (nodeAt l n .status) && not (wouldReplay l n && eqb (nodeAt l n .time) (lowOf l n) && sameTargets (nodeAt l n .targets) (targetsOf l n)))
+unfoldable pub replayWrong : Line → ℕ → Bool
+unfolding recoverGives
+replayWrong l n = replaying l n && not (replaysAs n (nodeAt l n) (recoverGives l n))
 
-abbrev pub isEmpty : {A : Type 0} → List A → Bool
-isEmpty [] = true
-isEmpty (x ∷ xs) = false
+-- "a down node's belts or emptied parts, an up node's targets or held list, a replaying node's log or leaving belts hold anything": what stands at the node, and what on its channels. A down node's clock is on those that enter it.
+abbrev pub holdsByStatus : Status → Node → Bool
+holdsByStatus up x = not (isEmpty (x .held) && isEmpty (x .targets))
+holdsByStatus down x = not (eqb (x .time) 0 && isEmpty (x .log) && isEmpty (x .held) && isEmpty (x .targets))
+holdsByStatus replay x = not (isEmpty (x .log))
 
--- A lane with nothing of a down node: no mark, no message, and on its entering channels no clock.
-abbrev pub leavingHolds : Lane → Bool
-leavingHolds s = not (eqb (s .mark) 0 && noMessages (s .queue))
+unfoldable pub nodeHolds : Node → Bool
+nodeHolds x = holdsByStatus (x .status) x
 
-abbrev pub enteringHolds : Lane → Bool
-enteringHolds s = leavingHolds s || not (eqb (s .taken) 0) || anyOf (ltb 0) (s .heard)
+unfoldable pub channelHolds : Line → ℕ → Bool
+channelHolds l b =
+    let s = laneAt l b in
+    (endDown l b && not (eqb (s .mark) 0 && isEmpty (s .queue)))
+    || (nodeDown l (receiverOf l b) && anyOf (ltb 0) (s .taken ∷ s .heard))
+    || (replaying l (senderOf l b) && not (isEmpty (s .queue)))
 
-abbrev pub downHolds : Line → ℕ → Bool
-downHolds l n =
-    not (eqb (nodeAt l n .time) 0 && isEmpty (nodeAt l n .log) && isEmpty (nodeAt l n .held) && isEmpty (nodeAt l n .targets))
-    || anyOf (λ (b : ℕ). enteringHolds (laneAt l b)) (entering (l .plan) n)
-    || anyOf (λ (b : ℕ). leavingHolds (laneAt l b)) (leaving (l .plan) n)
+-- All the conditions of a node, and of a channel.
+unfoldable pub nodeDamaged : Line → ℕ → Bool
+unfolding nodePastLimits nodeWrongParent nodeTimePast nodeTimeZero nodeMakerWrong logWrong pastClock heldWrong heldNotPassed markMissing markOnEnd replayWrong nodeHolds
+nodeDamaged l n =
+    let x = nodeAt l n in
+    nodePastLimits x || nodeWrongParent (l .plan) n x || nodeTimePast (l .steps) x || nodeTimeZero x || nodeMakerWrong (l .plan) n x || logWrong x || pastClock l n
+    || heldWrong l n || heldNotPassed (l .plan) n x || markMissing x || markOnEnd (l .plan) n x || replayWrong l n || nodeHolds x
 
-abbrev pub upHolds : Node → Bool
-upHolds x = not (isEmpty (x .held) && isEmpty (x .targets))
-
-abbrev pub replayHolds : Line → ℕ → Bool
-replayHolds l n = not (isEmpty (nodeAt l n .log)) || anyOf (λ (b : ℕ). not (noMessages (laneAt l b .queue))) (leaving (l .plan) n)
-
-abbrev pub holdsByStatus : Line → ℕ → Status → Bool
-holdsByStatus l n up = upHolds (nodeAt l n)
-holdsByStatus l n down = downHolds l n
-holdsByStatus l n replay = replayHolds l n
-
--- "a down node's belts or emptied parts, an up node's targets or held list, a replaying node's log or leaving belts hold anything"
-unfoldable pub leftOver : Line → Bool
-unfolding entering leaving
-leftOver l = someNode l (λ (n : ℕ). holdsByStatus l n (nodeAt l n .status))
+unfoldable pub channelDamaged : Line → ℕ → Bool
+unfolding channelPastLimits channelWrongParent channelTimePast channelTimeZero channelMakerWrong queueWrong marksJoined channelHolds
+channelDamaged l b =
+    let s = laneAt l b in
+    channelPastLimits s || channelWrongParent (l .plan) b s || channelTimePast (l .steps) s || channelTimeZero s || channelMakerWrong (l .plan) b s
+    || queueWrong l b || marksJoined l b || channelHolds l b
 
 -- Any of them.
 unfoldable pub damaged : Line → Bool
-unfolding planBroken misshapen pastLimits wrongParent timePastSteps timeZero makerWrong logWrong pastClock heldWrong heldNotPassed laneWrong marksWrong replayWrong leftOver
-damaged l =
-    planBroken l || misshapen l || pastLimits l || wrongParent l || timePastSteps l || timeZero l || makerWrong l || logWrong l
-    || pastClock l || heldWrong l || heldNotPassed l || laneWrong l || marksWrong l || replayWrong l || leftOver l
+unfolding planBroken misshapen stepsPast nodeDamaged channelDamaged
+damaged l = planBroken l || misshapen l || stepsPast l || someNode l (nodeDamaged l) || someChannel l (channelDamaged l)

@@ -3,16 +3,18 @@ use Prim.Native.Nat.{ℕ}
 use mathlib.Core.Path.{_≡_, refl}
 use mathlib.Core.List.{List, [], _∷_, _++_, map}
 use lib.ListN.{replicate}
-use Rattle.plan.specs.declared.Rule.{Rule}
 use Rattle.plan.specs.declared.Rule.the-variants.{Keep}
-use Rattle.plan.specs.declared.Channel.{Channel}
 use Rattle.plan.specs.Plan.{Plan}
 use Rattle.plan.specs.Check.{planRefusal}
 use Rattle.rules.specs.Lists.{joined}
-use Rattle.rules.specs.Line.{Origin, made, Line, initialLine}
+use Rattle.rules.specs.Line.{made, initialLine}
 use Rattle.rules.specs.Clock.{raiseHeard}
-use Rattle.rules.specs.Claim.{Story, startOf, storyFrom, told}
-use Rattle.rules.specs.Marked.{Row}
+use Rattle.rules.specs.Claim.{startOf, storyFrom, told}
+use Rattle.rules.specs.Marked.{channel, feedFrame, frame}
+
+pub record Example : Type 0 where
+  pub given : List ℕ
+  pub expected : List ℕ
 
 -- The plan 0 to 1 with one byte changed.
 abbrev smallPlan : ℕ → ℕ → ℕ → ℕ → ℕ → List ℕ
@@ -26,17 +28,8 @@ abbrev widePlan : List ℕ
 widePlan = 0 ∷ 59 ∷ 1 ∷ 6 ∷ 5 ∷ (replicate 24 0 ++ joined (map wideChannel (1 ∷ 2 ∷ 3 ∷ 4 ∷ 5 ∷ [])))
 
 -- 0 to 1 to 2 to 3.
-abbrev link : ℕ → ℕ → Channel
-link s r = record { sender = s; receiver = r; mask = 65535; modulus = 1; remainder = 0 }
-
 unfoldable pub chain : Plan
-chain = record { rules = Keep ∷ Keep ∷ Keep ∷ Keep ∷ []; channels = link 0 1 ∷ link 1 2 ∷ link 2 3 ∷ [] }
-
-abbrev feedOne : List ℕ
-feedOne = 0 ∷ 13 ∷ 1 ∷ 1 ∷ 0 ∷ 0 ∷ 0 ∷ 0 ∷ 1 ∷ 1 ∷ 0 ∷ 0 ∷ 0 ∷ []
-
-abbrev short : ℕ → ℕ → List ℕ
-short kind number = 0 ∷ 5 ∷ 1 ∷ kind ∷ number ∷ []
+chain = record { rules = Keep ∷ Keep ∷ Keep ∷ Keep ∷ []; channels = channel 0 1 65535 ∷ channel 1 2 65535 ∷ channel 2 3 65535 ∷ [] }
 
 -- The answers to a list of frames on the chain, from a number of steps on.
 unfoldable pub answers : ℕ → List (List ℕ) → List ℕ
@@ -45,25 +38,25 @@ answers steps frames =
     let l = initialLine chain in
     storyFrom (startOf (record { plan = l .plan; steps = steps; nodes = l .nodes; lanes = l .lanes })) frames .numbers
 
-unfoldable pub exampleTable : List Row
+unfoldable pub exampleTable : List Example
 unfolding planRefusal answers
 exampleTable =
-    record { given = map planRefusal ((0 ∷ 5 ∷ 1 ∷ []) ∷ smallPlan 19 0 2 0 0 ∷ smallPlan 19 1 13 0 0 ∷ (0 ∷ 18 ∷ 1 ∷ 2 ∷ 1 ∷ replicate 13 0) ∷ smallPlan 19 1 2 3 0 ∷ smallPlan 19 1 2 0 1 ∷ widePlan ∷ smallPlan 19 1 2 0 0 ∷ []); marked = 1 ∷ 2 ∷ 3 ∷ 4 ∷ 5 ∷ 6 ∷ 7 ∷ 0 ∷ [] }
+    record { given = map planRefusal ((0 ∷ 5 ∷ 1 ∷ []) ∷ smallPlan 19 0 2 0 0 ∷ smallPlan 19 1 13 0 0 ∷ (0 ∷ 18 ∷ 1 ∷ 2 ∷ 1 ∷ replicate 13 0) ∷ smallPlan 19 1 2 3 0 ∷ smallPlan 19 1 2 0 1 ∷ widePlan ∷ smallPlan 19 1 2 0 0 ∷ []); expected = 1 ∷ 2 ∷ 3 ∷ 4 ∷ 5 ∷ 6 ∷ 7 ∷ 0 ∷ [] }
     -- 9, 10, 11: "`00 05 01 02`", "third byte 0", "Send of 13 bytes"
-    ∷ record { given = answers 0 ((0 ∷ 5 ∷ 1 ∷ 2 ∷ []) ∷ (0 ∷ 5 ∷ 0 ∷ 2 ∷ 0 ∷ []) ∷ (0 ∷ 13 ∷ 1 ∷ 2 ∷ 0 ∷ replicate 8 0) ∷ []); marked = 9 ∷ 10 ∷ 11 ∷ [] }
+    ∷ record { given = answers 0 ((0 ∷ 5 ∷ 1 ∷ 2 ∷ []) ∷ (0 ∷ 5 ∷ 0 ∷ 2 ∷ 0 ∷ []) ∷ (0 ∷ 13 ∷ 1 ∷ 2 ∷ 0 ∷ replicate 8 0) ∷ []); expected = 9 ∷ 10 ∷ 11 ∷ [] }
     -- 12: "one more Crash", before all that comes after it
-    ∷ record { given = answers 1_000_000 (short 4 1 ∷ short 4 99 ∷ []); marked = 12 ∷ 12 ∷ [] }
+    ∷ record { given = answers 1_000_000 (frame 4 1 ∷ frame 4 99 ∷ []); expected = 12 ∷ 12 ∷ [] }
     -- 13 to 18: "belt 24", "Crash 0", "Crash twice", "parent of a crashed node", "material 16", "empty belt"
-    ∷ record { given = answers 0 (short 2 24 ∷ short 4 0 ∷ short 4 2 ∷ short 4 2 ∷ short 4 1 ∷ (0 ∷ 13 ∷ 1 ∷ 1 ∷ 0 ∷ 0 ∷ 0 ∷ 0 ∷ 1 ∷ 16 ∷ 0 ∷ 0 ∷ 0 ∷ []) ∷ short 3 0 ∷ []); marked = 13 ∷ 14 ∷ 0 ∷ 15 ∷ 16 ∷ 17 ∷ 18 ∷ [] }
+    ∷ record { given = answers 0 (frame 2 24 ∷ frame 4 0 ∷ frame 4 2 ∷ frame 4 2 ∷ frame 4 1 ∷ feedFrame 0 1 16 ∷ frame 3 0 ∷ []); expected = 13 ∷ 14 ∷ 0 ∷ 15 ∷ 16 ∷ 17 ∷ 18 ∷ [] }
     -- 19: "ninth Send"; a full belt with nothing more to send is 18
-    ∷ record { given = answers 0 (replicate 9 feedOne ++ replicate 9 (short 2 0)); marked = replicate 17 0 ++ 19 ∷ [] }
-    ∷ record { given = answers 0 (replicate 8 feedOne ++ replicate 9 (short 2 0)); marked = replicate 16 0 ++ 18 ∷ [] }
+    ∷ record { given = answers 0 (replicate 9 (feedFrame 0 1 1) ++ replicate 9 (frame 2 0)); expected = replicate 17 0 ++ 19 ∷ [] }
+    ∷ record { given = answers 0 (replicate 8 (feedFrame 0 1 1) ++ replicate 9 (frame 2 0)); expected = replicate 16 0 ++ 18 ∷ [] }
     -- 21: "65th Feed"
-    ∷ record { given = answers 0 (replicate 65 feedOne); marked = replicate 64 0 ++ 21 ∷ [] }
+    ∷ record { given = answers 0 (replicate 65 (feedFrame 0 1 1)); expected = replicate 64 0 ++ 21 ∷ [] }
     -- a clock entry is raised: the greatest time heard stays
-    ∷ record { given = raiseHeard (0 ∷ 1 ∷ []) (5 ∷ 2 ∷ []) (made 0 3); marked = 5 ∷ 2 ∷ [] }
+    ∷ record { given = raiseHeard (0 ∷ 1 ∷ []) (5 ∷ 2 ∷ []) (made 0 3); expected = 5 ∷ 2 ∷ [] }
     ∷ []
 
-pub examples-hold : map (λ (r : Row). r .given) exampleTable ≡ map (λ (r : Row). r .marked) exampleTable
+pub examples-hold : map (λ (r : Example). r .given) exampleTable ≡ map (λ (r : Example). r .expected) exampleTable
 unfolding exampleTable
 examples-hold = refl

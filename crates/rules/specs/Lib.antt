@@ -13,3 +13,5 @@ pub mod Claim
 pub mod Order
 pub mod Marked
 pub mod Examples
+pub mod DamagedLines
+pub mod ReplayRefusals

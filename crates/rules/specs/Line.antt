@@ -1,11 +1,11 @@
--- The line: its nodes and channels as they are (document 01, "The line" and "Clocks and steps").
-use Prim.Native.Nat.{ℕ, zero, suc}
+-- The line: its nodes and channels as they are (document 01, "The line" and "Clocks and steps"). In these modules n is a node and b a channel; in Recover and Replay b is the paper's node B and c a channel.
+use Prim.Native.Nat.{ℕ, suc}
 use mathlib.Core.Bool.{Bool, true, false}
 use mathlib.Core.List.{List, [], _∷_, map}
 use lib.ListN.{length, getD, set, replicate}
 use Rattle.plan.specs.declared.Record.{Record}
 use Rattle.plan.specs.declared.Channel.{Channel}
-use Rattle.plan.specs.Plan.{Plan, nodeCount, channelAt, entering}
+use Rattle.plan.specs.Plan.{Plan, nodeCount, channelCount, channelAt, entering}
 use Rattle.rules.specs.Lists.{upTo}
 
 -- "64 log entries a node, 8 messages on a belt, 64 held records a node, 64 targets a node, 1,000,000 accepted steps"
@@ -66,7 +66,7 @@ pub record Node : Type 0 where
   pub held : List Held
   pub targets : List Target
 
--- A channel's state. The receiver's clock entry for the sender is `taken`, its entries for the sender's parents are `heard`, in the parents' order: a pair of nodes has at most one channel.
+-- A channel's state (document 01: a belt). The receiver's clock entry for the sender is `taken`, its entries for the sender's parents are `heard`, in the parents' order: a pair of nodes has at most one channel.
 pub record Lane : Type 0 where
   pub mark : ℕ
   pub taken : ℕ
@@ -106,6 +106,19 @@ nodeAt l n = getD (l .nodes) n freshNode
 
 abbrev pub laneAt : Line → ℕ → Lane
 laneAt l b = getD (l .lanes) b noLane
+
+-- The numbers of the line's nodes and channels, and a channel's two ends.
+abbrev pub nodeNumbers : Line → List ℕ
+nodeNumbers l = upTo 0 (nodeCount (l .plan))
+
+abbrev pub channelNumbersOf : Line → List ℕ
+channelNumbersOf l = upTo 0 (channelCount (l .plan))
+
+abbrev pub senderOf : Line → ℕ → ℕ
+senderOf l b = channelAt (l .plan) b .sender
+
+abbrev pub receiverOf : Line → ℕ → ℕ
+receiverOf l b = channelAt (l .plan) b .receiver
 
 -- The small changes that every effect is made of.
 unfoldable pub withNode : ℕ → Node → Line → Line

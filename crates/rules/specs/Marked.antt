@@ -1,26 +1,24 @@
 -- The marked sheets P1 to P9 of document 01: one table, and the statement that every row of it holds.
-use Prim.Native.Nat.{ℕ}
+use Prim.Native.Nat.{ℕ, suc}
 use mathlib.Core.Path.{_≡_, refl}
 use mathlib.Core.List.{List, [], _∷_, _++_, map}
-use Rattle.plan.specs.declared.Rule.{Rule}
 use Rattle.plan.specs.declared.Rule.the-variants.{Keep}
 use Rattle.plan.specs.declared.Channel.{Channel}
-use Rattle.plan.specs.Plan.{Plan}
+use Rattle.plan.specs.Plan.{Plan, planBytes}
 use Rattle.plan.specs.Check.{planRefusal}
-use Rattle.placing.specs.Answer.{answer, columnsLeft, unplaceable, chosenColumns}
-use Rattle.placing.specs.Table.{malformed, lengthsAgree, tableFits, boundsFit, itemFits, fixedFits, comesAfter}
-use Rattle.placing.specs.Walk.{walked, begun, rowsOf, chosenRow, lastColumn}
+use Rattle.placing.specs.Marked.{Mark, Case, markOf, marked as placingMarked}
 use Rattle.rules.specs.Lists.{joined}
-use Rattle.rules.specs.Line.{Entry, Target, Node, Line, nodeAt, laneAt, initialLine}
+use Rattle.rules.specs.Line.{Entry, Target, nodeAt, laneAt, initialLine}
 use Rattle.rules.specs.Recover.{lowOf, highOf}
 use Rattle.rules.specs.Plain.{Receipt}
 use Rattle.rules.specs.Claim.{Story, startOf, storyFrom, told, receivedBy}
 use Rattle.rules.specs.Sheet.{sheet}
 
--- What the rules give, and what the paper marks, as numbers.
+-- A sheet's number, what the rules give and what the paper marks, in lists of numbers.
 pub record Row : Type 0 where
-  pub given : List ℕ
-  pub marked : List ℕ
+  pub number : ℕ
+  pub given : List (List ℕ)
+  pub marked : List (List ℕ)
 
 -- P1: the sheet of the paper.
 unfoldable pub sheetBytes : List ℕ
@@ -42,26 +40,29 @@ sheetText =
     76 ∷ 32 ∷ 49 ∷ 32 ∷ 49 ∷ 32 ∷ 48 ∷ 32 ∷ 49 ∷ 32 ∷ 55 ∷ 32 ∷ 49 ∷ 32 ∷ 50 ∷ 53 ∷ 48 ∷ 10 ∷
     84 ∷ 32 ∷ 49 ∷ 58 ∷ 49 ∷ 91 ∷ 48 ∷ 58 ∷ 49 ∷ 93 ∷ 10 ∷ []
 
--- P3 to P8: a replay table in four slices, on lent columns of 9; the number answered and the columns left.
-unfoldable pub placed : ℕ → ℕ → List ℕ → List ℕ → List ℕ → List ℕ → List ℕ → List ℕ
-unfolding answer columnsLeft unplaceable chosenColumns malformed lengthsAgree tableFits boundsFit itemFits fixedFits comesAfter walked begun rowsOf chosenRow lastColumn
-placed low high rows times fixed floors lent = answer low high rows times fixed floors lent ∷ columnsLeft low high rows times fixed floors lent
+-- P3 to P8 are the placing's own table: the number answered and the columns left.
+abbrev markLists : Mark → List (List ℕ)
+markLists m = (m .number ∷ []) ∷ m .columns ∷ []
+
+abbrev placingRows : ℕ → List Case → List Row
+placingRows k [] = []
+placingRows k (c ∷ cs) = record { number = k; given = markLists (markOf (c .sheet)); marked = markLists (c .mark) } ∷ placingRows (suc k) cs
 
 -- P9: "0 and 1 feed 2; 2 sends material 1 to 3, materials 1 and 2 to 4."
-abbrev channel : ℕ → ℕ → ℕ → Channel
+abbrev pub channel : ℕ → ℕ → ℕ → Channel
 channel sender receiver mask = record { sender = sender; receiver = receiver; mask = mask; modulus = 1; remainder = 0 }
 
 unfoldable pub replayPlan : Plan
 replayPlan = record { rules = Keep ∷ Keep ∷ Keep ∷ Keep ∷ Keep ∷ []; channels = channel 0 2 65535 ∷ channel 1 2 65535 ∷ channel 2 3 2 ∷ channel 2 4 6 ∷ [] }
 
-abbrev feedFrame : ℕ → ℕ → ℕ → List ℕ
+abbrev pub feedFrame : ℕ → ℕ → ℕ → List ℕ
 feedFrame node piece material = 0 ∷ 13 ∷ 1 ∷ 1 ∷ node ∷ 0 ∷ 0 ∷ 0 ∷ piece ∷ material ∷ 0 ∷ 0 ∷ 0 ∷ []
 
-abbrev frame : ℕ → ℕ → List ℕ
+abbrev pub frame : ℕ → ℕ → List ℕ
 frame kind number = 0 ∷ 5 ∷ 1 ∷ kind ∷ number ∷ []
 
 -- A Send and a Take on a channel.
-abbrev moved : ℕ → List (List ℕ)
+abbrev pub moved : ℕ → List (List ℕ)
 moved b = frame 2 b ∷ frame 3 b ∷ []
 
 -- "Pieces 1 (material 1) and 2 (material 2) enter at 0, piece 3 (material 2) at 1. Node 2 takes 3, 1, 2; node 3 takes piece 1; 2 crashes and recovers."
@@ -90,31 +91,51 @@ replayAfter = storyFrom replayEnded (moved 3 ++ (frame 3 1 ∷ (moved 0 ++ (move
 abbrev targetNumbers : List Target → List ℕ
 targetNumbers ts = joined (map (λ (t : Target). t .time ∷ t .parent ∷ t .parentTime ∷ []) ts)
 
-abbrev logNumbers : List Entry → List ℕ
+abbrev pub logNumbers : List Entry → List ℕ
 logNumbers es = joined (map (λ (e : Entry). e .time ∷ e .what .piece ∷ []) es)
 
 abbrev receiptNumbers : List Receipt → List ℕ
 receiptNumbers rs = joined (map (λ (r : Receipt). r .what .piece ∷ r .sender ∷ []) rs)
 
+unfoldable pub replayRow : Row
+unfolding planBytes planRefusal replayPlan lowOf highOf replayBegun replayRefused replayEnded replayAfter
+replayRow =
+    record {
+      number = 9;
+      given =
+          (planRefusal (planBytes replayPlan) ∷ [])
+          ∷ targetNumbers (nodeAt (replayBegun .line) 2 .targets)
+          ∷ (lowOf (replayBegun .line) 2 ∷ highOf (replayBegun .line) 2 ∷ [])
+          ∷ (laneAt (replayBegun .line) 2 .mark ∷ laneAt (replayBegun .line) 3 .mark ∷ [])
+          ∷ replayRefused .numbers
+          ∷ (nodeAt (replayEnded .line) 2 .time ∷ logNumbers (nodeAt (replayEnded .line) 2 .log))
+          ∷ receiptNumbers (receivedBy 4 (replayAfter .receipts))
+          ∷ [];
+      marked =
+          -- the plan is accepted
+          (0 ∷ [])
+          -- "target (2, 0, 1)"
+          ∷ (2 ∷ 0 ∷ 1 ∷ [])
+          -- "Low 0, high 2"
+          ∷ (0 ∷ 2 ∷ [])
+          -- "belt marks 2 to node 3, 0 to node 4"
+          ∷ (2 ∷ 0 ∷ [])
+          -- every step before is answered 0, the "Take from 1" 20
+          ∷ (0 ∷ 0 ∷ 0 ∷ 0 ∷ 0 ∷ 0 ∷ 0 ∷ 0 ∷ 0 ∷ 0 ∷ 0 ∷ 0 ∷ 0 ∷ 0 ∷ 20 ∷ [])
+          -- node 2's time, then its log: time 2, piece 1
+          ∷ (2 ∷ 2 ∷ 1 ∷ [])
+          -- pieces and senders that node 4 received
+          ∷ (1 ∷ 2 ∷ 3 ∷ 2 ∷ 2 ∷ 2 ∷ [])
+          ∷ [];
+    }
+
+-- P1 to P9.
 unfoldable pub markedTable : List Row
-unfolding sheet sheetBytes sheetText planRefusal placed lowOf highOf replayBegun replayRefused replayEnded replayAfter
+unfolding sheet sheetBytes sheetText planRefusal markOf placingMarked replayRow
 markedTable =
-    record { given = sheet sheetBytes; marked = sheetText }
-    ∷ record { given = planRefusal (0 ∷ 5 ∷ 1 ∷ []) ∷ []; marked = 1 ∷ [] }
-    ∷ record { given = placed 1 6 (1 ∷ 1 ∷ 2 ∷ 2 ∷ []) (1 ∷ 2 ∷ 1 ∷ 2 ∷ []) (0 ∷ 5 ∷ 0 ∷ 6 ∷ []) (3 ∷ 0 ∷ 1 ∷ 0 ∷ []) (9 ∷ 9 ∷ 9 ∷ 9 ∷ []); marked = 0 ∷ 4 ∷ 5 ∷ 2 ∷ 6 ∷ [] }
-    ∷ record { given = placed 1 6 (1 ∷ 1 ∷ 2 ∷ 2 ∷ []) (1 ∷ 2 ∷ 1 ∷ 2 ∷ []) (0 ∷ 5 ∷ 0 ∷ 6 ∷ []) (4 ∷ 0 ∷ 1 ∷ 0 ∷ []) (9 ∷ 9 ∷ 9 ∷ 9 ∷ []); marked = 24 ∷ 9 ∷ 9 ∷ 9 ∷ 9 ∷ [] }
-    ∷ record { given = placed 0 3 (0 ∷ 1 ∷ 1 ∷ []) (1 ∷ 1 ∷ 2 ∷ []) (0 ∷ 0 ∷ 2 ∷ []) (0 ∷ 0 ∷ 0 ∷ []) (9 ∷ 9 ∷ 9 ∷ []); marked = 0 ∷ 3 ∷ 1 ∷ 2 ∷ [] }
-    ∷ record { given = placed 0 2 (0 ∷ 1 ∷ []) (1 ∷ 1 ∷ []) (0 ∷ 0 ∷ []) (0 ∷ 0 ∷ []) (9 ∷ 9 ∷ []); marked = 0 ∷ 1 ∷ 2 ∷ [] }
-    ∷ record { given = placed 5 5 [] [] [] [] (9 ∷ []); marked = 0 ∷ 9 ∷ [] }
-    ∷ record { given = placed 4 4 (0 ∷ []) (1 ∷ []) (0 ∷ []) (0 ∷ []) (9 ∷ []); marked = 24 ∷ 9 ∷ [] }
-    -- P9: the target's triple; low and high; the marks to nodes 3 and 4; the last answer, to the Take from 1; node 2's log, times and pieces; what node 4 received, pieces and senders
-    ∷ record { given = targetNumbers (nodeAt (replayBegun .line) 2 .targets); marked = 2 ∷ 0 ∷ 1 ∷ [] }
-    ∷ record { given = lowOf (replayBegun .line) 2 ∷ highOf (replayBegun .line) 2 ∷ []; marked = 0 ∷ 2 ∷ [] }
-    ∷ record { given = laneAt (replayBegun .line) 2 .mark ∷ laneAt (replayBegun .line) 3 .mark ∷ []; marked = 2 ∷ 0 ∷ [] }
-    ∷ record { given = replayRefused .numbers; marked = 0 ∷ 0 ∷ 0 ∷ 0 ∷ 0 ∷ 0 ∷ 0 ∷ 0 ∷ 0 ∷ 0 ∷ 0 ∷ 0 ∷ 0 ∷ 0 ∷ 20 ∷ [] }
-    ∷ record { given = nodeAt (replayEnded .line) 2 .time ∷ logNumbers (nodeAt (replayEnded .line) 2 .log); marked = 2 ∷ 2 ∷ 1 ∷ [] }
-    ∷ record { given = receiptNumbers (receivedBy 4 (replayAfter .receipts)); marked = 1 ∷ 2 ∷ 3 ∷ 2 ∷ 2 ∷ 2 ∷ [] }
-    ∷ []
+    record { number = 1; given = sheet sheetBytes ∷ []; marked = sheetText ∷ [] }
+    ∷ record { number = 2; given = (planRefusal (0 ∷ 5 ∷ 1 ∷ []) ∷ []) ∷ []; marked = (1 ∷ []) ∷ [] }
+    ∷ (placingRows 3 placingMarked ++ replayRow ∷ [])
 
 -- Every row holds.
 pub marks-hold : map (λ (r : Row). r .given) markedTable ≡ map (λ (r : Row). r .marked) markedTable

@@ -11,7 +11,7 @@ use Rattle.plan.specs.Channel.{takes}
 use Rattle.plan.specs.Plan.{Plan, ruleAt, channelAt}
 use Rattle.rules.specs.Lists.{keep}
 
--- "A run is any list of feeds and takes."
+-- "A run is any list of feeds and takes"
 pub data Act : Type 0 where
   feeds : ℕ → Record → Act
   takesFrom : ℕ → Act

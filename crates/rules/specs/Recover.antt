@@ -1,12 +1,11 @@
--- What Recover finds of node B in its children's clocks and logs (document 01, kind 5).
+-- What Recover finds of node B in its children's clocks and logs (document 01, kind 5). Here b is the node B and c a channel.
 use Prim.Native.Nat.{ℕ}
-use mathlib.Core.Bool.{Bool, true, false, cond, not, _&&_, _||_}
+use mathlib.Core.Bool.{Bool, true, false, cond, _&&_, _||_}
 use mathlib.Core.List.{List, [], _∷_, _++_, map}
-use lib.ListN.{length, replicate}
 use lib.Dec.{leb, ltb, eqb}
-use Rattle.plan.specs.Plan.{Plan, channelAt, entering, leaving}
+use Rattle.plan.specs.Plan.{channelAt, entering, leaving}
 use Rattle.rules.specs.Lists.{keep, allOf, anyOf, joined, greatestOf, leastOf}
-use Rattle.rules.specs.Line.{Origin, fed, made, Entry, Target, Status, up, replay, Node, Lane, Line, nodeAt, laneAt, withNode, withLane, withLanes, freshLane}
+use Rattle.rules.specs.Line.{Origin, fed, made, Entry, Target, Status, up, replay, Lane, Line, nodeAt, laneAt, withNode, withLane, withLanes, freshLane}
 
 -- The children's clock entries for B.
 unfoldable pub childTimes : Line → ℕ → List ℕ
@@ -83,10 +82,6 @@ rowComplete l b c = leb (rowGoal (nodeAt l b .targets) (channelAt (l .plan) c .s
 unfoldable pub rowsComplete : Line → ℕ → Bool
 unfolding entering rowComplete
 rowsComplete l b = allOf (rowComplete l b) (entering (l .plan) b)
-
-abbrev pub noTargets : List Target → Bool
-noTargets [] = true
-noTargets (t ∷ ts) = false
 
 abbrev pub statusOf : List Target → Status
 statusOf [] = up

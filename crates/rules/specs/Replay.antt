@@ -1,26 +1,25 @@
--- A replay: what is held, the replay table, and its end (document 01, "While B replays" and "Placing").
+-- A replay of node B: what is held, the replay table, and its end (document 01, "While B replays" and "Placing"). Here b is the node B and c a channel.
 use Prim.Native.Nat.{ℕ, suc}
-use mathlib.Core.Bool.{Bool, true, false, cond, not, _&&_, _||_}
+use mathlib.Core.Bool.{Bool, true, false, cond, not, _&&_}
 use mathlib.Core.List.{List, [], _∷_, _++_, map}
 use mathlib.Core.Option.{Option, none, some}
-use lib.ListN.{length, getD}
-use lib.Dec.{leb, ltb, eqb}
+use lib.Dec.{ltb, eqb}
 use Rattle.plan.specs.declared.Record.{Record}
 use Rattle.plan.specs.Channel.{takes}
-use Rattle.plan.specs.Plan.{Plan, channelAt, entering, isNone}
+use Rattle.plan.specs.Plan.{Plan, channelAt, entering}
 use Rattle.plan.specs.Mask.{taking}
 use Rattle.placing.specs.Item.{Item}
 use Rattle.placing.specs.Table.{tableFits, boundsFit, itemFits, fixedFits, comesAfter}
 use Rattle.placing.specs.Walk.{walked, begun, rowsOf, chosenRow, lastColumn}
 use Rattle.placing.specs.Answer.{unplaceable, chosenColumns}
-use Rattle.rules.specs.Lists.{keep, allOf, anyOf, joined, greatestOf}
-use Rattle.rules.specs.Line.{Origin, made, Entry, Held, Target, Status, up, Node, Line, nodeAt, laneAt, withNode}
+use Rattle.rules.specs.Lists.{isEmpty, keep, allOf, anyOf, joined, greatestOf}
+use Rattle.rules.specs.Line.{made, Entry, Held, Target, up, Node, Line, nodeAt, laneAt, withNode}
 use Rattle.rules.specs.Recover.{highOf, rowsComplete}
 
 -- Whether some channel that leaves node n takes a record (else it is dropped in a replay).
 unfoldable pub passedOn : Plan → ℕ → Record → Bool
 unfolding taking takes
-passedOn p n r = not (isNone (taking p n r))
+passedOn p n r = not (isEmpty (taking p n r))
 
 -- One more held record.
 unfoldable pub holding : Held → Node → Node

@@ -1,15 +1,15 @@
 -- The text of a sheet (document 01, "The sheet"): from the bytes read to the bytes written.
 use Prim.Native.Nat.{ℕ, zero, suc, _+_, _/_, _%_}
 use mathlib.Core.Bool.{Bool, true, false, _||_}
-use mathlib.Core.List.{List, [], _∷_, _++_, map}
-use lib.ListN.{length, getD, take, drop}
+use mathlib.Core.List.{List, [], _∷_, _++_, map, zipWith}
+use lib.ListN.{length, take, drop}
 use lib.Dec.{ltb, eqb}
 use Rattle.plan.specs.Layout.{spelled}
-use Rattle.plan.specs.Plan.{Plan, planOf, channelAt, entering, nodeCount}
+use Rattle.plan.specs.Plan.{planOf, entering}
 use Rattle.plan.specs.Check.{planRefusal}
-use Rattle.rules.specs.Lists.{joined, upTo}
-use Rattle.rules.specs.Line.{Origin, fed, made, Entry, Status, up, down, replay, Node, Line, nodeAt, laneAt, parents, initialLine}
-use Rattle.rules.specs.Step.{Answer, step}
+use Rattle.rules.specs.Lists.{joined}
+use Rattle.rules.specs.Line.{Origin, fed, made, Entry, Status, up, down, replay, Line, nodeAt, laneAt, nodeNumbers, senderOf, initialLine}
+use Rattle.rules.specs.Step.{step}
 
 -- "The sheet opens with the fixed line LINE 1."
 abbrev pub opening : List ℕ
@@ -57,28 +57,23 @@ originWords (made s t) = decimal s ∷ decimal t ∷ []
 abbrev pub entryLine : ℕ → Entry → List ℕ
 entryLine n e = textLine ((76 ∷ []) ∷ decimal n ∷ decimal (e .time) ∷ (originWords (e .origin) ++ decimal (e .what .piece) ∷ decimal (e .what .material) ∷ decimal (e .what .mass) ∷ []))
 
--- "The clock is listed root first, each parent's part listed the same way inside brackets, parents rising, one space between; a node without parents, or in the third layer, has no brackets."
 abbrev pub bracketed : List (List ℕ) → List ℕ
 bracketed [] = []
 bracketed (w ∷ ws) = 91 ∷ spaced (w ∷ ws) ++ 93 ∷ []
 
-abbrev pub clockPart : ℕ → ℕ → List (List ℕ) → List ℕ
-clockPart n t parts = decimal n ++ 58 ∷ (decimal t ++ bracketed parts)
+abbrev pub nodeAndTime : ℕ → ℕ → List ℕ
+nodeAndTime n t = decimal n ++ 58 ∷ decimal t
 
-abbrev pub heardParts : List ℕ → List ℕ → List (List ℕ)
-heardParts ps [] = []
-heardParts [] (h ∷ hs) = []
-heardParts (p ∷ ps) (h ∷ hs) = clockPart p h [] ∷ heardParts ps hs
-
-unfoldable pub parentPart : Line → ℕ → List ℕ
-unfolding parents
-parentPart l b = clockPart (channelAt (l .plan) b .sender) (laneAt l b .taken) (heardParts (parents (l .plan) (channelAt (l .plan) b .sender)) (laneAt l b .heard))
+-- "The clock is listed root first, each parent's part listed the same way inside brackets, parents rising, one space between; a node without parents, or in the third layer, has no brackets." A node, its time and its parents' times, with so many layers left below it; a parent's parents are heard through its channel.
+abbrev pub listed : Line → ℕ → ℕ → ℕ → List ℕ → List ℕ
+listed l zero n t ts = nodeAndTime n t
+listed l (suc layers) n t ts = nodeAndTime n t ++ bracketed (zipWith (λ b u. listed l layers (senderOf l b) u (laneAt l b .heard)) (entering (l .plan) n) ts)
 
 unfoldable pub clockText : Line → ℕ → List ℕ
-unfolding entering parentPart
-clockText l n = clockPart n (nodeAt l n .time) (map (parentPart l) (entering (l .plan) n))
+unfolding entering zipWith
+clockText l n = listed l 2 n (nodeAt l n .time) (map (λ (b : ℕ). laneAt l b .taken) (entering (l .plan) n))
 
--- "per node: `N` node, up, down or replay, time; a line `L` per log entry; `T` and the clock"
+-- "per node: `N` node, up, down or replay, time; a line `L` per log entry", "`T` and the clock"
 unfoldable pub nodeText : Line → ℕ → List ℕ
 unfolding clockText
 nodeText l n =
@@ -88,7 +83,7 @@ nodeText l n =
 
 unfoldable pub lineText : Line → List ℕ
 unfolding nodeText
-lineText l = joined (map (nodeText l) (upTo 0 (nodeCount (l .plan))))
+lineText l = joined (map (nodeText l) (nodeNumbers l))
 
 -- The number that two bytes spell at the front, a plan's or a frame's length field.
 abbrev pub lengthField : List ℕ → ℕ

@@ -1,21 +1,20 @@
 -- A step: the refusals 9 to 21 and 24 in rising order, and the effect of each kind (document 01, "Clocks and steps", "Numbers returned").
-use Prim.Native.Nat.{ℕ, suc}
+use Prim.Native.Nat.{ℕ}
 use mathlib.Core.Bool.{Bool, true, false, cond, not, _&&_, _||_}
-use mathlib.Core.List.{List, [], _∷_, _++_, map}
+use mathlib.Core.List.{List, [], _∷_}
 use mathlib.Core.Option.{Option, none, some}
-use lib.ListN.{length, getD}
+use lib.ListN.{length}
 use lib.Dec.{leb, ltb, eqb}
 use Rattle.plan.specs.declared.Record.{Record}
-use Rattle.plan.specs.Layout.{Layout}
 use Rattle.plan.specs.Record.{recordLayout, recordFits}
 use Rattle.plan.specs.Rule.{applied}
 use Rattle.plan.specs.Channel.{takes}
-use Rattle.plan.specs.Plan.{Plan, nodeCount, channelCount, ruleAt, channelAt, entering, leaving, isSource, isSink}
-use Rattle.rules.specs.Lists.{anyOf}
-use Rattle.rules.specs.Line.{logLimit, queueLimit, heldLimit, targetLimit, stepLimit, Origin, fed, made, Message, Entry, Held, Status, up, down, replay, Node, Lane, Line, nodeAt, laneAt, withNode, withLane, counted, withLanes, isUp, isDown, isReplay, parents, freshLane}
+use Rattle.plan.specs.Plan.{nodeCount, channelCount, ruleAt, channelAt, entering, leaving, isSource, isSink}
+use Rattle.rules.specs.Lists.{isEmpty, anyOf}
+use Rattle.rules.specs.Line.{logLimit, queueLimit, heldLimit, targetLimit, stepLimit, fed, made, Message, Entry, down, Lane, Line, nodeAt, laneAt, senderOf, receiverOf, withNode, withLane, counted, withLanes, isDown, isReplay, parents, freshLane}
 use Rattle.rules.specs.Frame.{Frame, feed, send, take, crash, recover, frameOf, badFrameLength, badFrameVersion, badKind}
-use Rattle.rules.specs.Clock.{logged, firstTaken, sentOn, takenFrom}
-use Rattle.rules.specs.Recover.{targetsOf, conflict, rowComplete, noTargets, recovered}
+use Rattle.rules.specs.Clock.{logged, nextToSend, sentOn, takenFrom}
+use Rattle.rules.specs.Recover.{targetsOf, conflict, rowComplete, recovered}
 use Rattle.rules.specs.Replay.{passedOn, holding, endedIfComplete}
 
 -- 12: "1,000,000 steps accepted"
@@ -42,7 +41,7 @@ abbrev pub nodeDown : Line → ℕ → Bool
 nodeDown l n = isDown (nodeAt l n .status)
 
 abbrev pub endDown : Line → ℕ → Bool
-endDown l b = nodeDown l (channelAt (l .plan) b .sender) || nodeDown l (channelAt (l .plan) b .receiver)
+endDown l b = nodeDown l (senderOf l b) || nodeDown l (receiverOf l b)
 
 -- 15: "Crash of a down node; Send, Take with an end down; Recover of a node not down"
 abbrev pub wrongStatus : Line → Frame → Bool
@@ -56,8 +55,8 @@ wrongStatus l (recover n) = not (nodeDown l n)
 unfoldable pub neighbourCrashed : Line → ℕ → Bool
 unfolding entering leaving
 neighbourCrashed l n =
-    anyOf (λ (c : ℕ). nodeAt l (channelAt (l .plan) c .sender) .crashed) (entering (l .plan) n)
-    || anyOf (λ (c : ℕ). nodeAt l (channelAt (l .plan) c .receiver) .crashed) (leaving (l .plan) n)
+    anyOf (λ (b : ℕ). nodeAt l (senderOf l b) .crashed) (entering (l .plan) n)
+    || anyOf (λ (b : ℕ). nodeAt l (receiverOf l b) .crashed) (leaving (l .plan) n)
 
 abbrev pub besideCrashed : Line → Frame → Bool
 besideCrashed l (feed n r) = false
@@ -77,21 +76,17 @@ badRecord (recover n) = false
 -- What a Send would send.
 unfoldable pub sendable : Line → ℕ → Option Entry
 unfolding takes
-sendable l b = firstTaken (channelAt (l .plan) b) (laneAt l b .mark) (nodeAt l (channelAt (l .plan) b .sender) .log)
+sendable l b = nextToSend (channelAt (l .plan) b) (laneAt l b .mark) (nodeAt l (channelAt (l .plan) b .sender) .log)
 
 abbrev pub isNothing : {A : Type 0} → Option A → Bool
 isNothing none = true
 isNothing (some x) = false
 
-abbrev pub noMessages : List Message → Bool
-noMessages [] = true
-noMessages (m ∷ ms) = false
-
 -- 18: "nothing to send or take"
 abbrev pub nothingThere : Line → Frame → Bool
 nothingThere l (feed n r) = false
 nothingThere l (send b) = isNothing (sendable l b)
-nothingThere l (take b) = noMessages (laneAt l b .queue)
+nothingThere l (take b) = isEmpty (laneAt l b .queue)
 nothingThere l (crash n) = false
 nothingThere l (recover n) = false
 
@@ -102,12 +97,6 @@ queueFull l (send b) = leb queueLimit (length (laneAt l b .queue))
 queueFull l (take b) = false
 queueFull l (crash n) = false
 queueFull l (recover n) = false
-
-abbrev pub receiverOf : Line → ℕ → ℕ
-receiverOf l b = channelAt (l .plan) b .receiver
-
-abbrev pub senderOf : Line → ℕ → ℕ
-senderOf l b = channelAt (l .plan) b .sender
 
 abbrev pub replaying : Line → ℕ → Bool
 replaying l n = isReplay (nodeAt l n .status)
@@ -120,7 +109,7 @@ rowDone l (take b) = replaying l (receiverOf l b) && rowComplete l (receiverOf l
 rowDone l (crash n) = false
 rowDone l (recover n) = false
 
--- The record that the receiver makes of a message, after its rule.
+-- The record that a node makes of another, by its rule.
 abbrev pub madeBy : Line → ℕ → Record → Record
 madeBy l n r = applied (ruleAt (l .plan) n) r
 
@@ -194,8 +183,8 @@ takenLine b l = takenFirst b (laneAt l b .queue) l
 unfoldable pub crashedLine : ℕ → Line → Line
 unfolding entering leaving freshLane withNode withLane
 crashedLine n l =
-    let left : ℕ → Lane → Lane = λ c s. record { mark = 0; taken = s .taken; heard = s .heard; queue = [] } in
-    let entered : ℕ → Lane → Lane = λ c s. freshLane (l .plan) (channelAt (l .plan) c) 0 in
+    let left : ℕ → Lane → Lane = λ b s. record { mark = 0; taken = s .taken; heard = s .heard; queue = [] } in
+    let entered : ℕ → Lane → Lane = λ b s. freshLane (l .plan) (channelAt (l .plan) b) 0 in
     withLanes entered (entering (l .plan) n)
     (withLanes left (leaving (l .plan) n)
     (withNode n (record { status = down; crashed = true; time = 0; log = []; held = []; targets = [] }) l))
@@ -206,8 +195,13 @@ unfolding targetsOf recovered endedIfComplete
 recoveredLine n l =
     elim (conflict (targetsOf l n)) [
       | true ↦ none
-      | false ↦ elim (noTargets (targetsOf l n)) [ true ↦ some (recovered n l) | false ↦ endedIfComplete n (recovered n l) ]
+      | false ↦ elim (isEmpty (targetsOf l n)) [ true ↦ some (recovered n l) | false ↦ endedIfComplete n (recovered n l) ]
     ]
+
+-- What Recover of a node would give, were it down, 12 to 20 aside: nothing where 21 or 24 applies.
+unfoldable pub recoverGives : Line → ℕ → Option Line
+unfolding targetsOf recoveredLine
+recoverGives l n = elim (noSpace l (recover n)) [ true ↦ none | false ↦ recoveredLine n l ]
 
 -- The line that a frame leads to, steps not counted; nothing where 24 applies.
 unfoldable pub effect : Line → Frame → Option Line
@@ -259,7 +253,7 @@ lineRefusal l f =
       ]
     ]
 
--- "Step 8 to 21 and then 24, each in rising order, and the first that applies is returned." 8 is of the state's bytes.
+-- "Step 8 to 21 and then 24", "each in rising order, and the first that applies is returned". 8 is of the state's bytes.
 unfoldable pub refusal : Line → List ℕ → ℕ
 unfolding badFrameLength badFrameVersion badKind frameOf lineRefusal
 refusal l f =

@@ -1,3 +1,1 @@
 pub mod Sheets
-pub mod DamagedLines
-pub mod ReplayRefusals

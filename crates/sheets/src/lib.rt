@@ -1,1 +1,1 @@
-// Sheets and lines held to the definitions.
+// Whole sheets held to the definition `sheet`.

@@ -1,27 +1,22 @@
--- Refusals 21 and 24 of a replay, on undamaged lines that no sheet leads to: each row has damaged before, the answer, damaged after, and node 2's status, time and logged times.
+-- Refusals 21 and 24 of a replay, on undamaged lines that no sheet is known to lead to, and a floor that decides. Each row has damaged before, the answer, damaged after, and node 2's status, time and logged times.
 use Prim.Native.Nat.{ℕ, zero, suc}
 use mathlib.Core.Path.{_≡_, refl}
 use mathlib.Core.Bool.{Bool, true, false}
 use mathlib.Core.List.{List, [], _∷_, _++_, map}
-use Rattle.plan.specs.declared.Record.{Record}
 use Rattle.plan.specs.declared.Rule.{Rule}
 use Rattle.plan.specs.declared.Rule.the-variants.{Keep, Relabel}
-use Rattle.plan.specs.declared.Channel.{Channel}
 use Rattle.plan.specs.Plan.{Plan}
 use Rattle.rules.specs.Lists.{upTo, joined}
-use Rattle.rules.specs.Line.{fed, made, Message, Entry, Held, Target, Status, up, down, replay, Node, Lane, Line, nodeAt, laneAt}
+use Rattle.rules.specs.Line.{fed, made, Message, Entry, Held, Target, Status, up, down, replay, Node, Lane, Line, nodeAt, laneAt, initialLine}
 use Rattle.rules.specs.Step.{step}
 use Rattle.rules.specs.Damaged.{damaged}
+use Rattle.rules.specs.Claim.{Story, startOf, storyFrom, told}
+use Rattle.rules.specs.Marked.{channel, feedFrame, frame, moved, logNumbers}
+use Rattle.rules.specs.DamagedLines.{piece}
 
-abbrev channel : ℕ → ℕ → ℕ → Channel
-channel sender receiver mask = record { sender = sender; receiver = receiver; mask = mask; modulus = 1; remainder = 0 }
-
--- 0 and 1 to 2; 2 to 3, 4, 5
+-- 0 and 1 to 2, which has a rule; 2 sends material 1 to 3, materials 1 and 2 to 4, material 2 to 5
 abbrev plan : Rule → Plan
 plan r = record { rules = Keep ∷ Keep ∷ r ∷ Keep ∷ Keep ∷ Keep ∷ []; channels = channel 0 2 65535 ∷ channel 1 2 65535 ∷ channel 2 3 2 ∷ channel 2 4 6 ∷ channel 2 5 4 ∷ [] }
-
-abbrev piece : ℕ → ℕ → Record
-piece k m = record { piece = k; material = m; mass = 0 }
 
 abbrev lane : ℕ → ℕ → List ℕ → List Message → Lane
 lane m t h q = record { mark = m; taken = t; heard = h; queue = q }
@@ -45,9 +40,6 @@ line r ns ls = record { plan = plan r; steps = 500; nodes = ns; lanes = ls }
 -- sources that are up with nothing logged; node 2; its children
 abbrev around : Node → Node → Node → Node → List Node
 around b c d e = upNode 0 [] ∷ upNode 0 [] ∷ b ∷ c ∷ d ∷ e ∷ []
-
-abbrev frame : ℕ → ℕ → List ℕ
-frame k n = 0 ∷ 5 ∷ 1 ∷ k ∷ n ∷ []
 
 abbrev none : Lane
 none = lane 0 0 [] []
@@ -83,10 +75,6 @@ message material t = record { what = piece 1 material; time = t; origin = fed }
 -- no placing: time 1 free before time 2 at column 1
 abbrev tight : Line
 tight = line Keep (around (replays 0 (record { what = piece 5 2; sender = 0; time = 1; before = fed } ∷ []) (record { time = 1; parent = 0; parentTime = 2 } ∷ [])) (upNode 1 (entry 1 1 0 2 ∷ [])) (upNode 0 []) (upNode 0 [])) (lane 9 1 [] (message 1 2 ∷ []) ∷ none ∷ lane 1 1 (2 ∷ 0 ∷ []) [] ∷ lane 0 0 (0 ∷ 0 ∷ []) [] ∷ lane 0 0 (0 ∷ 0 ∷ []) [] ∷ [])
-
--- floors: a free record of material 2 is taken by 4 (entry 1) and 5 (entry 0), not by 3 (entry 3): columns 2 for it, 3 for the target
-abbrev floors : Line
-floors = line Keep (around (replays 0 (record { what = piece 5 2; sender = 0; time = 1; before = fed } ∷ []) (record { time = 1; parent = 1; parentTime = 1 } ∷ record { time = 3; parent = 0; parentTime = 2 } ∷ [])) (upNode 1 (entry 1 3 0 2 ∷ [])) (upNode 1 (record { what = piece 7 1; time = 1; origin = made 2 1; before = made 1 1 } ∷ [])) (upNode 0 [])) (lane 9 1 [] (message 1 2 ∷ []) ∷ lane 1 0 [] (message 1 1 ∷ []) ∷ lane 3 3 (2 ∷ 0 ∷ []) [] ∷ lane 1 1 (0 ∷ 1 ∷ []) [] ∷ lane 0 0 (0 ∷ 0 ∷ []) [] ∷ [])
 
 -- so many targets over children 3 and 4
 abbrev entriesFrom : ℕ → ℕ → ℕ → List Entry
@@ -137,22 +125,22 @@ unfolding gives
 recover-answers = refl
 
 -- time skipped; target dropped; rule keeps it from being dropped (relabel 3 to 1); no placing; held list full: 21; dropped needs no space; log full
-take-answers : map (λ (l : Line). gives l (frame 3 0)) (waits Keep [] (message 1 5) ∷ waits Keep [] (message 3 1) ∷ waits (Relabel 3 1) [] (message 3 1) ∷ waits (Relabel 1 1) [] (message 1 1) ∷ tight ∷ full 1 ∷ full 3 ∷ fullLog ∷ floors ∷ [])
-    ≡ (0 ∷ 24 ∷ 0 ∷ 2 ∷ 0 ∷ []) ∷ (0 ∷ 24 ∷ 0 ∷ 2 ∷ 0 ∷ []) ∷ (0 ∷ 0 ∷ 0 ∷ 0 ∷ 2 ∷ 2 ∷ []) ∷ (0 ∷ 0 ∷ 0 ∷ 0 ∷ 2 ∷ 2 ∷ []) ∷ (0 ∷ 24 ∷ 0 ∷ 2 ∷ 0 ∷ []) ∷ (0 ∷ 21 ∷ 0 ∷ 2 ∷ 0 ∷ []) ∷ (0 ∷ 0 ∷ 0 ∷ 2 ∷ 0 ∷ []) ∷ (0 ∷ 21 ∷ 0 ∷ 0 ∷ 64 ∷ upTo 1 64) ∷ (0 ∷ 0 ∷ 0 ∷ 2 ∷ 0 ∷ []) ∷ []
+take-answers : map (λ (l : Line). gives l (frame 3 0)) (waits Keep [] (message 1 5) ∷ waits Keep [] (message 3 1) ∷ waits (Relabel 3 1) [] (message 3 1) ∷ waits (Relabel 1 1) [] (message 1 1) ∷ tight ∷ full 1 ∷ full 3 ∷ fullLog ∷ [])
+    ≡ (0 ∷ 24 ∷ 0 ∷ 2 ∷ 0 ∷ []) ∷ (0 ∷ 24 ∷ 0 ∷ 2 ∷ 0 ∷ []) ∷ (0 ∷ 0 ∷ 0 ∷ 0 ∷ 2 ∷ 2 ∷ []) ∷ (0 ∷ 0 ∷ 0 ∷ 0 ∷ 2 ∷ 2 ∷ []) ∷ (0 ∷ 24 ∷ 0 ∷ 2 ∷ 0 ∷ []) ∷ (0 ∷ 21 ∷ 0 ∷ 2 ∷ 0 ∷ []) ∷ (0 ∷ 0 ∷ 0 ∷ 2 ∷ 0 ∷ []) ∷ (0 ∷ 21 ∷ 0 ∷ 0 ∷ 64 ∷ upTo 1 64) ∷ []
 unfolding gives
 take-answers = refl
 
--- floors: the take from 0 and then the take from 1 ends the replay: columns 1 (target of 1), 2 (free), 3
-unfoldable pub floorsEnd : List ℕ
-unfolding step
-floorsEnd =
-    let a = step floors (frame 3 0) in
-    let b = step (a .line) (frame 3 1) in
-    b .number ∷ nodeAt (b .line) 2 .time ∷ joined (map (λ (e : Entry). e .time ∷ e .what .piece ∷ []) (nodeAt (b .line) 2 .log))
+-- A replay by frames, in which only the right floor gives the right column. Node 2 logs pieces 1, 3, 2, 4, 5 at 1 to 5; 3 takes times 3 and 5, 4 takes 1 and 3, 5 none. So pieces 1, 2 and 5 are targets, piece 3 is dropped, and piece 4 is free: 4 and 5 take it and 3 does not, its floor is 3, its column 4.
+unfoldable pub floorStory : Story
+unfolding initialLine told
+floorStory =
+    storyFrom (startOf (initialLine (plan Keep)))
+    (feedFrame 0 1 2 ∷ feedFrame 0 2 1 ∷ feedFrame 1 3 3 ∷ feedFrame 1 4 2 ∷ feedFrame 1 5 1
+    ∷ (joined (map moved (0 ∷ 1 ∷ 0 ∷ 1 ∷ 1 ∷ 2 ∷ 2 ∷ 3 ∷ 3 ∷ [])) ++ frame 4 2 ∷ frame 5 2 ∷ joined (map moved (0 ∷ 0 ∷ 1 ∷ 1 ∷ 1 ∷ []))))
 
-floors-end : floorsEnd ≡ 0 ∷ 3 ∷ 1 ∷ 1 ∷ 2 ∷ 5 ∷ 3 ∷ 1 ∷ []
-unfolding floorsEnd
-floors-end = refl
+floor-decides : logNumbers (nodeAt (floorStory .line) 2 .log) ≡ 1 ∷ 1 ∷ 3 ∷ 2 ∷ 4 ∷ 4 ∷ 5 ∷ 5 ∷ []
+unfolding floorStory
+floor-decides = refl
 
 -- a crash of the replaying node
 unfoldable pub again : List ℕ
