@@ -11,7 +11,7 @@ use Rattle.plan.specs.Lawful.{Each, FieldsFit, UpToFit}
 use Rattle.rules.specs.Line.{logLimit, queueLimit, heldLimit, targetLimit, Status, up, down, replay, Node, Lane}
 use Rattle.state.specs.Sound.{Sound}
 use Rattle.state.specs.Sizes.{countSize, parentLimit, nodeRest, laneRest}
-use Rattle.state.specs.Node.{statusNumber, statusOf, crashNumber, crashOf, nodeWidths, nodeNumbers, nodeSeen, nodeFrom, logLayout, heldListLayout, targetsLayout, NodeParts, nodeParts, nodeLayout}
+use Rattle.state.specs.Node.{statusNumber, statusOf, crashNumber, crashOf, nodeWidths, nodeHeadNumbers, nodeSeen, nodeFrom, logLayout, heldListLayout, targetsLayout, NodeParts, nodeParts, nodeLayout}
 use Rattle.state.specs.Lane.{heardWidths, laneWidths, laneSeen, laneFrom, queueLayout, laneParts, laneLayout}
 use Rattle.state.specs.Fits.{TimeFits, MessageFits, EntryFits, HeldFits, TargetFits, NodeFits, LaneFits, PaddedFits}
 use Rattle.state.proofs.SoundLaws.{fields-sound, pair-sound, via-sound, padded-sound, upTo-sound}
@@ -49,7 +49,7 @@ crash-known : (b : Bool) → crashOf (crashNumber b) ≡ b
 crash-known false = refl
 crash-known true = refl
 
-node-numbers-fit : (x : Node) → TimeFits (x .time) → FieldsFit nodeWidths (nodeNumbers x)
+node-numbers-fit : (x : Node) → TimeFits (x .time) → FieldsFit nodeWidths (nodeHeadNumbers x)
 node-numbers-fit x h = (status-fits (x .status), (crash-fits (x .crashed), (lit< tt, (h, tt))))
 
 node-known : (x : Node) → nodeFrom (nodeSeen x) ≡ x

@@ -16,3 +16,4 @@ pub mod PieceRight
 pub mod BlockRight
 pub mod WholeRight
 pub mod StoredPlan
+pub mod Undamaged
