@@ -74,3 +74,103 @@ module _ (p : Plan) (e : planFits p ≡ true) where
         let a = both-true (materialFits (r .material) && ltb (r .piece) (2 ^ 32)) (ltb (r .mass) (2 ^ 16)) (not-false _ q) in
         let b = both-true (materialFits (r .material)) (ltb (r .piece) (2 ^ 32)) (a .0) in
         (ltb-true (r .piece) (2 ^ 32) (b .1), (omega (arith, leb-true (r .material) 15 (b .0)), (lit< tt, (ltb-true (r .mass) (2 ^ 16) (a .1), tt))))
+
+    times-within : (ts : List ℕ) → anyOf (ltb steps) ts ≡ false → Each Within ts
+    times-within ts q = each-imply (λ (t : ℕ). ltb steps t ≡ false) Within (λ t r. ltb-false steps t r) ts (none-each (ltb steps) ts q)
+
+    -- ---- a node
+
+    module _ (n : ℕ) (x : Node) where
+      abbrev named : Entry → Bool
+      named e = notParent p n (e .origin) || beforeNotParent p (e .origin) (e .before)
+
+      abbrev maker : Entry → Bool
+      maker e = originWrong p n (e .origin) || beforeWrong p (e .origin) (e .before)
+
+      abbrev times : Entry → List ℕ
+      times e = originTimes (e .origin) ++ originTimes (e .before)
+
+      -- An entry, its own time aside.
+      abbrev WorkFits : Entry → Type 0
+      WorkFits e = RecordFits (e .what) × (OriginFits (e .origin) × OriginFits (e .before))
+
+      work-fits : anyOf (λ (e : Entry). recordPastLimits (e .what)) (workedOn x) ≡ false → anyOf named (workedOn x) ≡ false → anyOf maker (workedOn x) ≡ false
+          → Each Within (joined (map times (workedOn x))) → Each WorkFits (workedOn x)
+      work-fits a b c d =
+          let es = workedOn x in
+          let A : Entry → Type 0 = λ e. recordPastLimits (e .what) ≡ false in
+          let B : Entry → Type 0 = λ e. named e ≡ false in
+          let C : Entry → Type 0 = λ e. maker e ≡ false in
+          let D : Entry → Type 0 = λ e. Each Within (times e) in
+          let names = each-both B C (λ e. B e × C e) (λ e r q. (r, q)) es (none-each named es b) (none-each maker es c) in
+          let rest = each-both A D (λ e. A e × D e) (λ e r q. (r, q)) es (none-each (λ (e : Entry). recordPastLimits (e .what)) es a) (each-joined Within times es d) in
+          each-both (λ e. B e × C e) (λ e. A e × D e) WorkFits
+          (λ e s t.
+              let u = neither-true (notParent p n (e .origin)) (beforeNotParent p (e .origin) (e .before)) (s .0) in
+              let v = neither-true (originWrong p n (e .origin)) (beforeWrong p (e .origin) (e .before)) (s .1) in
+              let w = each-split Within (originTimes (e .origin)) (originTimes (e .before)) (t .1) in
+              (record-fits (e .what) (t .0), (origin-fits n (e .origin) (u .0) (w .0), before-fits (e .origin) (e .before) (u .1) (v .1) (w .1))))
+          es names rest
+
+      target-fits : anyOf (λ (t : Target). not (isParent p n (t .parent))) (x .targets) ≡ false → Each Within (joined (map (λ (t : Target). t .time ∷ t .parentTime ∷ []) (x .targets))) → Each TargetFits (x .targets)
+      target-fits a d =
+          let P : Target → Type 0 = λ t. not (isParent p n (t .parent)) ≡ false in
+          let D : Target → Type 0 = λ t. Each Within (t .time ∷ t .parentTime ∷ []) in
+          each-both P D TargetFits
+          (λ t q h. record { time = time-fits (t .time) (h .0); parent = omega (arith, parent-few n (t .parent) (not-false (isParent p n (t .parent)) q)); parentTime = time-fits (t .parentTime) (h .1 .0) })
+          (x .targets) (none-each (λ (t : Target). not (isParent p n (t .parent))) (x .targets) a) (each-joined Within (λ (t : Target). t .time ∷ t .parentTime ∷ []) (x .targets) d)
+
+      node-fits : nodePastLimits x ≡ false → nodeWrongParent p n x ≡ false → nodeTimePast steps x ≡ false → nodeMakerWrong p n x ≡ false → NodeFits x
+      unfolding nodePastLimits nodeWrongParent nodeTimePast nodeMakerWrong
+      node-fits limits wrong past made-wrong =
+          let long : Bool = ltb logLimit (length (x .log)) in
+          let full : Bool = ltb heldLimit (length (x .held)) in
+          let many : Bool = ltb targetLimit (length (x .targets)) in
+          let a = neither-true (long || full || many) (anyOf (λ (e : Entry). recordPastLimits (e .what)) (workedOn x)) limits in
+          let b = neither-true (long || full) many (a .0) in
+          let c = neither-true long full (b .0) in
+          let w = neither-true (anyOf named (workedOn x)) (anyOf (λ (t : Target). not (isParent p n (t .parent))) (x .targets)) wrong in
+          let all = each-split Within (nodeNamedTimes x) (nodeOtherTimes x) (times-within (nodeNamedTimes x ++ nodeOtherTimes x) past) in
+          let logged = each-split Within (map (λ (e : Entry). e .time) (x .log)) (joined (map times (workedOn x))) (all .0) in
+          let work = each-split WorkFits (x .log) (map (entryAt 0) (x .held)) (work-fits (a .1) (w .0) made-wrong (logged .1)) in
+          record {
+            time = time-fits (x .time) (all .1 .0);
+            log = (
+              ltb-false logLimit (length (x .log)) (c .0),
+              each-both WorkFits (λ (e : Entry). Within (e .time)) EntryFits (λ e f t. record { what = f .0; time = time-fits (e .time) t; origin = f .1 .0; before = f .1 .1 }) (x .log) (work .0)
+              (each-unmap Within (λ (e : Entry). e .time) (x .log) (logged .0)),
+            );
+            held = (
+              ltb-false heldLimit (length (x .held)) (c .1),
+              each-imply (λ (h : Held). WorkFits (entryAt 0 h)) HeldFits (λ h f. record { what = f .0; sender = omega (arith, f .1 .0 .0); time = f .1 .0 .1 .0; before = f .1 .1 }) (x .held) (each-unmap WorkFits (entryAt 0) (x .held) (work .1)),
+            );
+            targets = (ltb-false targetLimit (length (x .targets)) (b .1), target-fits (w .1) (all .1 .1));
+          }
+
+    -- ---- a lane
+
+    module _ (b : ℕ) (x : Lane) where
+      message-fits : anyOf (λ (m : Message). recordPastLimits (m .what)) (x .queue) ≡ false → anyOf (λ (m : Message). notParent p (channelAt p b .sender) (m .origin)) (x .queue) ≡ false
+          → Each Within (channelNamedTimes x) → Each MessageFits (x .queue)
+      message-fits a c d =
+          let A : Message → Type 0 = λ m. recordPastLimits (m .what) ≡ false in
+          let C : Message → Type 0 = λ m. notParent p (channelAt p b .sender) (m .origin) ≡ false in
+          let D : Message → Type 0 = λ m. Each Within (m .time ∷ originTimes (m .origin)) in
+          let tests = each-both A C (λ m. A m × C m) (λ m r q. (r, q)) (x .queue) (none-each (λ (m : Message). recordPastLimits (m .what)) (x .queue) a)
+              (none-each (λ (m : Message). notParent p (channelAt p b .sender) (m .origin)) (x .queue) c)
+          in
+          each-both (λ m. A m × C m) D MessageFits
+          (λ m t h. record { what = record-fits (m .what) (t .0); time = time-fits (m .time) (h .0); origin = origin-fits (channelAt p b .sender) (m .origin) (t .1) (h .1) }) (x .queue) tests
+          (each-joined Within (λ (m : Message). m .time ∷ originTimes (m .origin)) (x .queue) d)
+
+      lane-fits : channelPastLimits x ≡ false → channelWrongParent p b x ≡ false → channelTimePast steps x ≡ false → LaneFits x
+      unfolding channelPastLimits channelWrongParent channelTimePast
+      lane-fits limits wrong past =
+          let a = neither-true (ltb queueLimit (length (x .queue))) (anyOf (λ (m : Message). recordPastLimits (m .what)) (x .queue)) limits in
+          let all = each-split Within (channelNamedTimes x) (channelOtherTimes x) (times-within (channelNamedTimes x ++ channelOtherTimes x) past) in
+          record {
+            mark = time-fits (x .mark) (all .1 .0);
+            taken = time-fits (x .taken) (all .1 .1 .0);
+            heard = each-imply Within TimeFits time-fits (x .heard) (all .1 .1 .1);
+            queue = (ltb-false queueLimit (length (x .queue)) (a .0), message-fits (a .1) wrong (all .0));
+          }
