@@ -17,7 +17,7 @@ use Rattle.plan.specs.Plan.{Plan, nodeCount, channelCount, channelAt, entering,
 use Rattle.plan.specs.Check.{planFits}
 use Rattle.plan.specs.Fits.{RecordFits}
 use Rattle.plan.proofs.FitsLaws.{fitting}
-use Rattle.rules.specs.Lists.{anyOf, joined}
+use Rattle.rules.specs.Lists.{anyOf, joined, upTo}
 use Rattle.rules.specs.Line.{logLimit, queueLimit, heldLimit, targetLimit, stepLimit, Origin, fed, made, Message, Entry, Held, Target, Node, Lane, Line, nodeAt, laneAt, senderOf, parents}
 use Rattle.rules.specs.Replay.{entryAt}
 use Rattle.rules.specs.Damaged.{someNode, someChannel, planBroken, misshapen, stepsPast, workedOn, recordPastLimits, nodePastLimits, channelPastLimits, isParent, notParent, beforeNotParent, nodeWrongParent, channelWrongParent, originTimes, nodeNamedTimes, nodeOtherTimes, channelNamedTimes, channelOtherTimes, nodeTimePast, channelTimePast, nodeTimeZero, channelTimeZero, originWrong, isFed, beforeWrong, nodeMakerWrong, channelMakerWrong, logWrong, pastClock, heldWrong, heldNotPassed, queueWrong, markMissing, markOnEnd, marksJoined, replayWrong, nodeHolds, channelHolds, nodeDamaged, channelDamaged, damaged}
@@ -174,3 +174,104 @@ module _ (p : Plan) (e : planFits p ≡ true) where
             heard = each-imply Within TimeFits time-fits (x .heard) (all .1 .1 .1);
             queue = (ltb-false queueLimit (length (x .queue)) (a .0), message-fits (a .1) wrong (all .0));
           }
+
+-- ---- the line
+
+-- The first of a node's conditions, and of a channel's.
+first-five : (a b c d e f g h i j k m n : Bool) → (a || b || c || d || e || f || g || h || i || j || k || m || n) ≡ false → (a ≡ false) × ((b ≡ false) × ((c ≡ false) × (e ≡ false)))
+first-five true b c d e f g h i j k m n q = absurd (true≢false q)
+first-five false true c d e f g h i j k m n q = absurd (true≢false q)
+first-five false false true d e f g h i j k m n q = absurd (true≢false q)
+first-five false false false true e f g h i j k m n q = absurd (true≢false q)
+first-five false false false false true f g h i j k m n q = absurd (true≢false q)
+first-five false false false false false f g h i j k m n q = (refl, (refl, (refl, refl)))
+
+first-three : (a b c d e f g h : Bool) → (a || b || c || d || e || f || g || h) ≡ false → (a ≡ false) × ((b ≡ false) × (c ≡ false))
+first-three true b c d e f g h q = absurd (true≢false q)
+first-three false true c d e f g h q = absurd (true≢false q)
+first-three false false true d e f g h q = absurd (true≢false q)
+first-three false false false d e f g h q = (refl, (refl, refl))
+
+node-conditions : (l : Line) (n : ℕ) → nodeDamaged l n ≡ false
+    → (nodePastLimits (nodeAt l n) ≡ false) × ((nodeWrongParent (l .plan) n (nodeAt l n) ≡ false) × ((nodeTimePast (l .steps) (nodeAt l n) ≡ false) × (nodeMakerWrong (l .plan) n (nodeAt l n) ≡ false)))
+unfolding nodeDamaged
+node-conditions l n q =
+    let x = nodeAt l n in
+    first-five (nodePastLimits x) (nodeWrongParent (l .plan) n x) (nodeTimePast (l .steps) x) (nodeTimeZero x) (nodeMakerWrong (l .plan) n x) (logWrong x) (pastClock l n)
+    (heldWrong l n) (heldNotPassed (l .plan) n x) (markMissing x) (markOnEnd (l .plan) n x) (replayWrong l n) (nodeHolds x) q
+
+channel-conditions : (l : Line) (b : ℕ) → channelDamaged l b ≡ false
+    → (channelPastLimits (laneAt l b) ≡ false) × ((channelWrongParent (l .plan) b (laneAt l b) ≡ false) × (channelTimePast (l .steps) (laneAt l b) ≡ false))
+unfolding channelDamaged
+channel-conditions l b q =
+    let s = laneAt l b in
+    first-three (channelPastLimits s) (channelWrongParent (l .plan) b s) (channelTimePast (l .steps) s) (channelTimeZero s) (channelMakerWrong (l .plan) b s) (queueWrong l b) (marksJoined l b) (channelHolds l b) q
+
+-- What is known of a line that is not damaged.
+record Whole (l : Line) : Type 0 where
+  plan : planBroken l ≡ false
+  shape : misshapen l ≡ false
+  steps : stepsPast l ≡ false
+  node : (n : ℕ) → n < nodeCount (l .plan) → nodeDamaged l n ≡ false
+  channel : (b : ℕ) → b < channelCount (l .plan) → channelDamaged l b ≡ false
+
+by-number : (f : ℕ → Bool) (m : ℕ) → anyOf f (upTo 0 m) ≡ false → (i : ℕ) → i < m → f i ≡ false
+by-number f m q i h = ap f (sym (zero-add i)) ∙ none-numbered f 0 m q i h
+
+whole : (l : Line) → damaged l ≡ false → Whole l
+unfolding damaged
+whole l q =
+    let nodes : Bool = someNode l (nodeDamaged l) in
+    let channels : Bool = someChannel l (channelDamaged l) in
+    let a = neither-true (planBroken l || misshapen l || stepsPast l || nodes) channels q in
+    let b = neither-true (planBroken l || misshapen l || stepsPast l) nodes (a .0) in
+    let c = neither-true (planBroken l || misshapen l) (stepsPast l) (b .0) in
+    let d = neither-true (planBroken l) (misshapen l) (c .0) in
+    record {
+      plan = d .0;
+      shape = d .1;
+      steps = c .1;
+      node = by-number (nodeDamaged l) (nodeCount (l .plan)) (b .1);
+      channel = by-number (channelDamaged l) (channelCount (l .plan)) (a .1);
+    }
+
+plan-whole : (l : Line) → planBroken l ≡ false → planFits (l .plan) ≡ true
+unfolding planBroken
+plan-whole l q = not-false (planFits (l .plan)) q
+
+steps-few : (l : Line) → stepsPast l ≡ false → l .steps ≤ stepLimit
+unfolding stepsPast
+steps-few l q = ltb-false stepLimit (l .steps) q
+
+-- A node for each rule, a lane for each channel, an entry heard for each parent of its sender.
+shaped : (l : Line) → misshapen l ≡ false
+    → (length (l .nodes) ≡ nodeCount (l .plan)) × ((length (l .lanes) ≡ channelCount (l .plan)) × ((b : ℕ) → b < channelCount (l .plan) → length (laneAt l b .heard) ≡ heardCount (l .plan) (channelAt (l .plan) b)))
+unfolding misshapen heardCount
+shaped l q =
+    let nodes : Bool = eqb (length (l .nodes)) (nodeCount (l .plan)) in
+    let lanes : Bool = eqb (length (l .lanes)) (channelCount (l .plan)) in
+    let short : ℕ → Bool = λ b. not (eqb (length (laneAt l b .heard)) (length (parents (l .plan) (senderOf l b)))) in
+    let a = neither-true (not nodes || not lanes) (someChannel l short) q in
+    let b = neither-true (not nodes) (not lanes) (a .0) in (
+      eqb-true (length (l .nodes)) (nodeCount (l .plan)) (not-false nodes (b .0)),
+      (
+        eqb-true (length (l .lanes)) (channelCount (l .plan)) (not-false lanes (b .1)),
+        λ c h. eqb-true (length (laneAt l c .heard)) (length (parents (l .plan) (senderOf l c))) (not-false _ (by-number short (channelCount (l .plan)) (a .1) c h)),
+      ),
+    )
+
+pub undamaged-fits : (l : Line) → damaged l ≡ false → LineFits l
+undamaged-fits l q =
+    let w = whole l q in
+    let fits = plan-whole l (w .plan) in
+    let few = steps-few l (w .steps) in
+    let shape = shaped l (w .shape) in
+    record {
+      plan = fits;
+      steps = omega arith;
+      nodes = shape .0;
+      lanes = shape .1 .0;
+      node = λ n h. let c = node-conditions l n (w .node n h) in node-fits (l .plan) fits (l .steps) few n (nodeAt l n) (c .0) (c .1 .0) (c .1 .1 .0) (c .1 .1 .1);
+      lane = λ b h. let c = channel-conditions l b (w .channel b h) in lane-fits (l .plan) fits (l .steps) few b (laneAt l b) (c .0) (c .1 .0) (c .1 .1);
+      heard = shape .1 .1;
+    }
