@@ -17,3 +17,4 @@ pub mod BlockRight
 pub mod WholeRight
 pub mod StoredPlan
 pub mod Undamaged
+pub mod AcceptedState
