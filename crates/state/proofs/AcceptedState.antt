@@ -1,13 +1,12 @@
 -- States that are accepted: the bytes of a line that is not damaged; and what the check of a state has to look at.
-use Prim.Native.Nat.{ℕ, _≤_}
-use mathlib.Core.Path.{_≡_, refl, sym, ap, subst, _∙_}
+use Prim.Native.Nat.{ℕ}
+use mathlib.Core.Path.{_≡_, sym, ap, _∙_}
 use mathlib.Core.Logic.{_↔_}
 use mathlib.Core.Bool.{true, false}
 use mathlib.Core.List.{List}
-use native.Mathlib.Nat.{le-trans}
 use lib.ListN.{length}
 use Rattle.plan.specs.Lawful.{Bytes}
-use Rattle.plan.specs.Plan.{planOf, nodeCount, channelCount}
+use Rattle.plan.specs.Plan.{planOf}
 use Rattle.plan.specs.Check.{planFits, planRefusal}
 use Rattle.plan.proofs.PlanLaws.{node-count, channel-count}
 use Rattle.plan.proofs.FitsLaws.{fitting}

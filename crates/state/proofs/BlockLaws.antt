@@ -1,5 +1,5 @@
 -- The layouts of a node's page and of a channel's block are sound.
-use Prim.Native.Nat.{ℕ, suc, _<_}
+use Prim.Native.Nat.{ℕ, _<_}
 use mathlib.Core.Path.{_≡_, refl}
 use mathlib.Core.Bool.{Bool, true, false}
 use mathlib.Core.List.{List, [], _∷_}
@@ -8,12 +8,12 @@ use lib.Dec.{lit<}
 use lib.ListN.{length, getD, drop}
 use Rattle.plan.specs.Layout.{via}
 use Rattle.plan.specs.Lawful.{Each, FieldsFit, UpToFit}
-use Rattle.rules.specs.Line.{logLimit, queueLimit, heldLimit, targetLimit, Status, up, down, replay, Node, Lane}
+use Rattle.rules.specs.Line.{logLimit, queueLimit, heldLimit, targetLimit, Status, up, down, replay, Node}
 use Rattle.state.specs.Sound.{Sound}
 use Rattle.state.specs.Sizes.{countSize, parentLimit, nodeRest, laneRest}
 use Rattle.state.specs.Node.{statusNumber, statusOf, crashNumber, crashOf, nodeWidths, nodeHeadNumbers, nodeSeen, nodeFrom, logLayout, heldListLayout, targetsLayout, NodeParts, nodeParts, nodeLayout}
 use Rattle.state.specs.Lane.{heardWidths, laneWidths, laneSeen, laneFrom, queueLayout, laneParts, laneLayout}
-use Rattle.state.specs.Fits.{TimeFits, MessageFits, EntryFits, HeldFits, TargetFits, NodeFits, LaneFits, PaddedFits}
+use Rattle.state.specs.Fits.{TimeFits, MessageFits, EntryFits, HeldFits, TargetFits, NodeFits, PaddedFits}
 use Rattle.state.proofs.SoundLaws.{fields-sound, pair-sound, via-sound, padded-sound, upTo-sound}
 use Rattle.state.proofs.PieceLaws.{message-sound, entry-sound, held-sound, target-sound}
 
@@ -117,9 +117,9 @@ lane-body-sound =
     via-sound lane-parts-sound laneSeen laneFrom
     (λ x h. ((h .lane .mark, (h .lane .taken, heard-fits (x .heard) (h .four) (h .lane .heard))), h .lane .queue)) (λ x h. refl)
     (λ p h.
-        let ns = lane-numbers (p .0) (h .0) in
-        let hs = heard-known (drop 2 (p .0)) (ns .1 .1) in
-        record { lane = record { mark = ns .0; taken = ns .1 .0; heard = hs .1; queue = h .1 }; four = hs .0 })
+    let ns = lane-numbers (p .0) (h .0) in
+    let hs = heard-known (drop 2 (p .0)) (ns .1 .1) in
+    record { lane = record { mark = ns .0; taken = ns .1 .0; heard = hs .1; queue = h .1 }; four = hs .0 })
 
 pub lane-sound : Sound laneLayout PaddedFits
 unfolding laneLayout

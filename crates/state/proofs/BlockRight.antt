@@ -1,31 +1,31 @@
 -- A node's page and a channel's block are right exactly where their parts are.
 use Prim.Native.Nat.{ℕ, zero, suc, _+_, _*_, _-_, _≤_, _<_}
 use mathlib.Core.Path.{_≡_, refl, sym, ap, subst, _∙_}
-use mathlib.Core.Logic.{_↔_, Iff·trans, Iff·and}
+use mathlib.Core.Logic.{_↔_, Iff·trans}
 use mathlib.Core.List.{List, [], _∷_, _++_}
 use native.Mathlib.Omega.{arith}
 use lib.Dec.{lit<, lit≤}
 use lib.ListN.{length, getD, take, drop, replicate}
-use lib.Seq.{drop-drop, take-take, take-all}
-use Rattle.plan.specs.Layout.{Layout, spelled, pair, upToSlots, via, readFields}
+use lib.Seq.{drop-drop, take-take}
+use Rattle.plan.specs.Layout.{Layout, spelled, pair, via}
 use Rattle.plan.specs.Lawful.{Bytes, Zeros}
 use Rattle.plan.proofs.BytesLaws.{each-take}
 use Rattle.rules.specs.Line.{logLimit, queueLimit, heldLimit, targetLimit, Lane}
-use Rattle.state.specs.Sizes.{countSize, pageSize, blockSize, nodeRest, laneRest, nodeRestAt, laneRestAt, statusAt, crashedAt, logAt, entrySize, heldAt, heldSize, targetsAt, targetSize, queueAt, messageSize, parentLimit, heardAt}
+use Rattle.state.specs.Sizes.{countSize, pageSize, blockSize, nodeRest, laneRest, nodeRestAt, laneRestAt, statusAt, crashedAt, entrySize, heldAt, heldSize, targetsAt, targetSize, queueAt, messageSize, parentLimit, heardAt}
 use Rattle.state.specs.Pieces.{messageLayout, entryLayout, heldLayout, targetLayout}
 use Rattle.state.specs.Node.{statusNumber, statusOf, crashNumber, crashOf, nodeWidths, NodeParts, nodeSeen, nodeFrom, logLayout, heldListLayout, targetsLayout, nodeParts, nodeLayout}
-use Rattle.state.specs.Lane.{laneWidths, queueLayout, laneParts, laneLayout, withHeard, padHeard, cutHeard}
+use Rattle.state.specs.Lane.{laneWidths, queueLayout, laneLayout, withHeard, padHeard, cutHeard}
 use Rattle.state.specs.Right.{ZerosAt, wordAt, ListRight, MessageRight, EntryRight, HeldRight, TargetRight, NodeRight, LaneRight}
 use Rattle.state.proofs.SoundLaws.{fields-sound}
 use Rattle.state.proofs.PieceLaws.{message-sound, entry-sound, held-sound, target-sound}
-use Rattle.state.proofs.BlockLaws.{log-sound, held-list-sound, targets-sound, node-parts-sound, node-seen-fits, node-body-sound, node-sound, queue-sound, lane-body-sound, lane-sound}
+use Rattle.state.proofs.BlockLaws.{log-sound, held-list-sound, node-parts-sound, node-seen-fits, node-body-sound, lane-body-sound, lane-sound}
 use Rattle.state.specs.Fits.{TimeFits, LaneFits}
 use Rattle.state.proofs.ListLaws.{IsZero, each-known, each-at, take-replicate}
 use Rattle.state.proofs.HeardLaws.{pad-fits}
 use Rattle.state.proofs.ReadLaws.{part-part}
 use Rattle.state.proofs.FieldLaws.{heard-at}
 use Rattle.state.proofs.RightLaws.{zeros-same}
-use Rattle.state.proofs.RightAt.{RightAt, part-bytes, number-at, fields-at, pair-at, padded-at, via-at, list-at, list-slots}
+use Rattle.state.proofs.RightAt.{RightAt, part-bytes, fields-at, pair-at, padded-at, via-at, list-at, list-slots}
 use Rattle.state.proofs.PieceRight.{byte-in, message-at, entry-at, held-at, target-at}
 
 -- Bytes spell 0 where they are all 0.
@@ -99,7 +99,7 @@ module _ (s : List ℕ) (k : Bytes s) (a : ℕ) (h : a + pageSize ≤ length s) 
       let status : spelled 0 (take 1 t) ≡ getD s (a + 0) 0 = ap (λ (u : List ℕ). spelled 0 (take 1 u)) front ∙ byte-in 0 8 a s (lit< tt) in
       let crashed : spelled 0 (take 1 (drop 1 t)) ≡ getD s (a + 1) 0 = ap (λ (u : List ℕ). spelled 0 (take 1 (drop 1 u))) front ∙ byte-in 1 8 a s (lit< tt) in
       let unused : spelled 0 (take 2 (drop 1 (drop 1 t))) ≡ spelled 0 (take 2 (drop (a + 2) s)) =
-          ap (λ (u : List ℕ). spelled 0 (take 2 u)) (drop-drop 1 1 t ∙ ap (drop 2) front) ∙ ap (spelled 0) (part-part 2 2 8 a s (lit≤ tt))
+      ap (λ (u : List ℕ). spelled 0 (take 2 u)) (drop-drop 1 1 t ∙ ap (drop 2) front) ∙ ap (spelled 0) (part-part 2 2 8 a s (lit≤ tt))
       in
       let none = spelled-zero (take 2 (drop (a + 2) s)) in (
         λ e.

@@ -1,20 +1,19 @@
 -- What is heard on a channel, padded when it is written and cut when it is read.
 use Prim.Native.Nat.{ℕ, zero, suc, _+_, _≤_, _<_}
-use mathlib.Core.Path.{_≡_, refl, sym, ap, _∙_}
+use mathlib.Core.Path.{_≡_, refl, ap, _∙_}
 use mathlib.Core.Bool.{true}
 use mathlib.Core.List.{List, [], _∷_, _++_, map}
 use native.Mathlib.Omega.{arith}
 use lib.Dec.{lit<}
-use lib.ListN.{length, getD, take, replicate, length-append, length-take, length-replicate, length-map}
+use lib.ListN.{length, getD, replicate, length-append, length-take, length-map}
 use lib.Seq.{take-take, take-at}
 use Rattle.plan.specs.declared.Channel.{Channel}
-use Rattle.plan.specs.Lawful.{Each}
 use Rattle.plan.specs.Plan.{Plan, nodeCount, channelCount, channelAt, noChannel, entering}
 use Rattle.plan.specs.Check.{planFits}
 use Rattle.plan.proofs.BytesLaws.{each-take}
 use Rattle.plan.proofs.FitsLaws.{fitting}
 use Rattle.plan.proofs.AcceptedLaws.{four-at}
-use Rattle.rules.specs.Line.{Lane, noLane, parents}
+use Rattle.rules.specs.Line.{Lane, noLane}
 use Rattle.rules.proofs.PlanOrder.{ordered-channels}
 use Rattle.state.specs.Sizes.{parentLimit}
 use Rattle.state.specs.Lane.{withHeard, padHeard, cutHeard, heardCount, cutLanes}

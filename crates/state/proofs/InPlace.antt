@@ -1,24 +1,23 @@
 -- The line that bytes hold, each part where it lies.
-use Prim.Native.Nat.{ℕ, zero, suc, _+_, _*_, _-_, min, _≤_, _<_}
+use Prim.Native.Nat.{ℕ, zero, suc, _+_, _*_, _-_, _≤_, _<_}
 use mathlib.Core.Path.{_≡_, refl, sym, ap, ap₂, _∙_}
 use mathlib.Core.List.{List, [], _∷_}
-use native.Mathlib.Nat.{mul-comm, mul-add}
 use native.Mathlib.Omega.{arith}
 use lib.Dec.{lit≤}
 use lib.ListN.{length, getD, take, drop, List·getD-eq-default}
 use lib.Seq.{drop-drop, take-take}
 use Rattle.plan.specs.declared.Channel.{Channel}
-use Rattle.plan.specs.Layout.{Layout, spelled, readSlots, number, slots, pair, padded}
-use Rattle.plan.specs.Plan.{Plan, planOf, planLayout, planNodes, planChannels, planSize, nodeCount, channelCount, channelAt, noChannel}
-use Rattle.plan.proofs.LayoutLaws.{length-readSlots, slot-at, slots-front}
-use Rattle.plan.proofs.PlanLaws.{plan-size, node-count, channel-count}
-use Rattle.rules.specs.Line.{Node, Lane, Line, nodeAt, laneAt, freshNode, noLane}
+use Rattle.plan.specs.Layout.{Layout, spelled, readSlots, pair, padded}
+use Rattle.plan.specs.Plan.{Plan, planOf, planLayout, planNodes, planChannels, planSize, channelAt, noChannel}
+use Rattle.plan.proofs.LayoutLaws.{length-readSlots, slot-at}
+use Rattle.plan.proofs.PlanLaws.{plan-size, channel-count}
+use Rattle.rules.specs.Line.{Node, Lane, nodeAt, laneAt, freshNode, noLane}
 use Rattle.state.specs.Sound.{Sound}
-use Rattle.state.specs.Sizes.{stateSize, pageSize, planArea, stepsAt, countSize, nodePages, pageAt, laneBlocks, blockSize, blocksAt, blockAt, tailSize}
+use Rattle.state.specs.Sizes.{pageSize, planArea, stepsAt, nodePages, pageAt, laneBlocks, blockSize, blocksAt, blockAt, tailSize}
 use Rattle.state.specs.Node.{nodeLayout}
 use Rattle.state.specs.Lane.{laneLayout, cutHeard, heardCount, cutLanes}
-use Rattle.state.specs.State.{StateParts, planPart, stepsPart, nodesPart, lanesPart, stateParts, lineFrom, stateLayout, lineOf}
-use Rattle.state.proofs.SoundLaws.{number-sound, slots-sound, pair-sound}
+use Rattle.state.specs.State.{StateParts, planPart, stepsPart, nodesPart, lanesPart, stateParts, lineOf}
+use Rattle.state.proofs.SoundLaws.{slots-sound, pair-sound}
 use Rattle.state.proofs.BlockLaws.{node-sound, lane-sound}
 use Rattle.state.proofs.LineLaws.{plan-sound, plan-part-sound, steps-part-sound, nodes-part-sound, lanes-part-sound}
 use Rattle.state.proofs.ReadLaws.{padded-read, pair-read}

@@ -1,26 +1,23 @@
 -- A line that fits is read back from its bytes.
-use Prim.Native.Nat.{ℕ, _+_, _*_, _-_, _≤_, _<_}
-use mathlib.Core.Path.{_≡_, refl, sym, ap, ap₂, subst, _∙_}
+use Prim.Native.Nat.{ℕ, _*_, _-_, _≤_}
+use mathlib.Core.Path.{_≡_, refl, ap, ap₂, subst, _∙_}
 use mathlib.Core.Bool.{true}
-use mathlib.Core.List.{List, [], _∷_, _++_, map}
 use native.Mathlib.Omega.{arith}
-use lib.ListN.{length, getD, take, drop, replicate, length-append, length-map, List·getD-append}
-use Rattle.plan.specs.Layout.{Layout, slots}
+use lib.ListN.{length, length-map}
 use Rattle.plan.specs.Lawful.{Bytes, FieldsFit, SlotsFit}
 use Rattle.plan.specs.Rule.{ruleWidths, ruleOf, ruleLayout}
 use Rattle.plan.specs.Channel.{channelWidths, channelOf, channelLayout}
-use Rattle.plan.specs.Plan.{Plan, nodeCount, channelCount, headWidths, headNumbers, planLayout, planSize, planBytes, planNodes, planChannels}
+use Rattle.plan.specs.Plan.{Plan, nodeCount, channelCount, headWidths, planLayout, planSize, planBytes, planNodes, planChannels}
 use Rattle.plan.specs.Check.{planFits}
 use Rattle.plan.specs.Fits.{RuleFits, ChannelFits, BodyFits, PlanFits}
 use Rattle.plan.proofs.LayoutLaws.{fields-front}
 use Rattle.plan.proofs.ValueLaws.{rule-lawful, channel-lawful}
-use Rattle.plan.proofs.ReadLaws.{nodes-byte, channels-byte}
-use Rattle.plan.proofs.PlanLaws.{plan-size, plan-length, plan-bytes, plan-fits, head-fits, nodes-read, channels-read}
+use Rattle.plan.proofs.PlanLaws.{plan-size, plan-bytes, plan-fits, head-fits, nodes-read, channels-read}
 use Rattle.plan.proofs.FitsLaws.{fits-accepted}
-use Rattle.rules.specs.Line.{Node, Lane, Line, freshNode, noLane}
+use Rattle.rules.specs.Line.{Line, freshNode, noLane}
 use Rattle.state.specs.Sound.{Sound}
 use Rattle.state.specs.Sizes.{stateSize, planArea, countSize, stepsRest, nodePages, pageSize, laneBlocks, blockSize, tailSize}
-use Rattle.state.specs.Lane.{padHeard, heardCount}
+use Rattle.state.specs.Lane.{padHeard}
 use Rattle.state.specs.State.{StateParts, lineSeen, lineFrom, planPart, stepsPart, nodesPart, lanesPart, stateParts, stateLayout, lineBytes, lineOf}
 use Rattle.state.specs.Fits.{TimeFits, NodeFits, LaneFits, PaddedFits, LineFits}
 use Rattle.state.proofs.SoundLaws.{sound, number-sound, fields-sound, pair-sound, via-sound, padded-sound, slots-sound}
@@ -108,8 +105,7 @@ pub parts-fit : (l : Line) → LineFits l → PartsFit (nodeCount (l .plan)) (ch
 parts-fit l f =
     let h = plan-known (l .plan) (f .plan) in
     let node = each-known NodeFits (l .nodes) freshNode (λ n k. f .node n (omega (arith, f .nodes))) in
-    let lane = each-known LaneFits (l .lanes) noLane (λ b k. f .lane b (omega (arith, f .lanes))) in
-    (
+    let lane = each-known LaneFits (l .lanes) noLane (λ b k. f .lane b (omega (arith, f .lanes))) in (
       (head-fits (l .plan) h, ((refl, h .rule), (refl, h .channel))),
       (f .steps, ((f .nodes, node), (length-map (l .lanes) padHeard ∙ f .lanes, each-map LaneFits PaddedFits padHeard pad-fits (l .lanes) lane))),
     )

@@ -1,21 +1,21 @@
 -- The line's fields by their offsets in the whole state.
 use Prim.Native.Nat.{ℕ, _+_, _*_, min, _≤_, _<_}
-use mathlib.Core.Path.{_≡_, refl, sym, ap, _∙_}
-use mathlib.Core.List.{List, [], _∷_}
+use mathlib.Core.Path.{_≡_, ap, _∙_}
+use mathlib.Core.List.{List}
 use native.Mathlib.Omega.{arith}
 use lib.Dec.{lit≤, lit<}
 use lib.ListN.{length, getD, take, drop}
 use lib.Seq.{getD-take}
 use Rattle.plan.specs.Layout.{Layout, spelled}
 use Rattle.plan.specs.Plan.{planOf, planNodes, planChannels, channelAt}
-use Rattle.rules.specs.Line.{logLimit, queueLimit, heldLimit, targetLimit, Message, Entry, Held, Target, Node, Lane, Line, nodeAt, laneAt}
+use Rattle.rules.specs.Line.{logLimit, queueLimit, heldLimit, targetLimit, Message, Entry, Held, Target, Node, Lane, nodeAt, laneAt}
 use Rattle.state.specs.Sizes.{pageSize, blockSize, countSize, pageAt, blockAt, statusAt, crashedAt, timeAt, logAt, entrySize, heldAt, heldSize, targetsAt, targetSize, markAt, takenAt, heardAt, parentLimit, queueAt, messageSize}
 use Rattle.state.specs.Pieces.{messageLayout, entryLayout, heldLayout, targetLayout}
 use Rattle.state.specs.Node.{statusOf, crashOf, nodeLayout}
 use Rattle.state.specs.Lane.{laneLayout, cutHeard, heardCount}
 use Rattle.state.specs.State.{lineOf}
 use Rattle.state.proofs.ReadLaws.{part-part, byte-part}
-use Rattle.state.proofs.FieldLaws.{countAt, status-at, crashed-at, time-at, log-count, log-at, held-count, held-at, targets-count, target-at, mark-at, taken-at, heard-at, heard-four, queue-count, queue-at}
+use Rattle.state.proofs.FieldLaws.{countAt, status-at, crashed-at, time-at, log-count, log-at, held-count, held-at, targets-count, target-at, mark-at, taken-at, heard-at, queue-count, queue-at}
 use Rattle.state.proofs.InPlace.{Counted, pageOf, blockOf, node-in, lane-in}
 
 -- ---- a node's fields

@@ -1,18 +1,18 @@
 -- The pieces' bytes are right exactly where their parts are.
-use Prim.Native.Nat.{ℕ, zero, suc, _+_, _*_, _≤_, _<_}
-use mathlib.Core.Path.{_≡_, refl, sym, ap, subst, _∙_}
-use mathlib.Core.Logic.{_↔_, Iff·trans}
+use Prim.Native.Nat.{ℕ, zero, suc, _+_, _≤_, _<_}
+use mathlib.Core.Path.{_≡_, refl, sym, ap, _∙_}
+use mathlib.Core.Logic.{_↔_}
 use mathlib.Core.List.{List, [], _∷_}
 use native.Mathlib.Omega.{arith}
 use lib.Dec.{lit<, lit≤}
 use lib.ListN.{length, getD, take, drop}
 use lib.Seq.{drop-drop}
-use Rattle.plan.specs.Layout.{Layout, spelled, number, pair}
-use Rattle.plan.specs.Lawful.{Bytes, Zeros}
+use Rattle.plan.specs.Layout.{spelled, number, pair}
+use Rattle.plan.specs.Lawful.{Bytes}
 use Rattle.plan.specs.Record.{recordWidths, recordNumbers, recordOf, recordLayout}
 use Rattle.plan.proofs.ReadLaws.{byte-field}
 use Rattle.state.specs.Pieces.{originWidths, originNumbers, originOf, originFrom, originLayout, messageLayout, entryLayout, heldLayout, targetWidths, targetLayout}
-use Rattle.state.specs.Right.{ZerosAt, wordAt, RecordRight, OriginRight, MessageRight, EntryRight, HeldRight, TargetRight}
+use Rattle.state.specs.Right.{wordAt, RecordRight, OriginRight, MessageRight, EntryRight, HeldRight, TargetRight}
 use Rattle.state.proofs.SoundLaws.{number-sound, fields-sound}
 use Rattle.state.proofs.PieceLaws.{record-sound, origin-sound, message-body-sound, entry-body-sound, held-body-sound, target-body-sound}
 use Rattle.state.proofs.ReadLaws.{part-part, byte-part}

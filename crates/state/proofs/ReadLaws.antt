@@ -1,8 +1,8 @@
 -- What layouts read, in place.
 use Prim.Native.Nat.{ℕ, _+_, _*_, _-_, min, _≤_, _<_}
-use mathlib.Core.Path.{_≡_, refl, sym, ap, _∙_}
-use mathlib.Core.List.{List, [], _∷_}
-use native.Mathlib.Nat.{mul-comm, add-assoc}
+use mathlib.Core.Path.{_≡_, sym, ap, _∙_}
+use mathlib.Core.List.{List}
+use native.Mathlib.Nat.{mul-comm}
 use native.Mathlib.Omega.{arith}
 use lib.Dec.{lit≤}
 use lib.ListN.{length, getD, take, drop, length-take}
@@ -11,16 +11,15 @@ use Rattle.plan.specs.Layout.{Layout, spelled, readFields, readSlots, pair, pad
 use Rattle.plan.proofs.BytesLaws.{drop-take}
 use Rattle.plan.proofs.LayoutLaws.{length-readSlots, slot-at, fields-front}
 use Rattle.plan.proofs.ReadLaws.{byte-field}
-use Rattle.plan.specs.Record.{recordWidths, recordOf, recordLayout}
-use Rattle.rules.specs.Line.{logLimit, queueLimit, heldLimit, targetLimit, Entry, Held, Target, Message, Node, Lane}
+use Rattle.plan.specs.Record.{recordLayout}
 use Rattle.state.specs.Sound.{Sound}
-use Rattle.state.specs.Sizes.{countSize, entrySize, heldSize, targetSize, messageSize, crashedAt, statusAt, timeAt, logAt, heldAt, targetsAt, markAt, takenAt, heardAt, queueAt, nodeRest, laneRest}
-use Rattle.state.specs.Pieces.{originFrom, originWidths, originOf, originLayout, messageFrom, messageParts, messageLayout, entryFrom, entryParts, entryLayout, heldFrom, heldParts, heldLayout, targetWidths, targetOf, targetLayout}
-use Rattle.state.specs.Node.{statusOf, crashOf, nodeWidths, nodeFrom, logLayout, heldListLayout, targetsLayout, nodeParts, nodeLayout}
-use Rattle.state.specs.Lane.{heardWidths, laneWidths, laneFrom, queueLayout, laneParts, laneLayout}
-use Rattle.state.proofs.SoundLaws.{number-sound, fields-sound, pair-sound, via-sound}
-use Rattle.state.proofs.PieceLaws.{record-sound, origin-sound, message-sound, entry-sound, held-sound, target-sound}
-use Rattle.state.proofs.BlockLaws.{log-sound, held-list-sound, targets-sound, node-sound, queue-sound, lane-sound, node-parts-sound, lane-parts-sound}
+use Rattle.state.specs.Sizes.{countSize, crashedAt, statusAt, timeAt, logAt, heldAt, targetsAt, markAt, takenAt, heardAt, queueAt}
+use Rattle.state.specs.Pieces.{originFrom, originLayout, messageFrom, messageLayout, entryFrom, entryLayout, heldFrom, heldLayout, targetWidths, targetOf, targetLayout}
+use Rattle.state.specs.Node.{statusOf, crashOf, nodeWidths, nodeFrom, logLayout, heldListLayout, targetsLayout, nodeLayout}
+use Rattle.state.specs.Lane.{heardWidths, laneWidths, laneFrom, queueLayout, laneLayout}
+use Rattle.state.proofs.SoundLaws.{number-sound, pair-sound}
+use Rattle.state.proofs.PieceLaws.{record-sound, origin-sound}
+use Rattle.state.proofs.BlockLaws.{log-sound, held-list-sound, node-parts-sound, lane-parts-sound}
 
 -- ---- parts of parts
 
@@ -120,7 +119,7 @@ pub node-read : (b : List ℕ)
       time = spelled 0 (take 4 (drop timeAt b));
       log = logLayout .read (drop logAt b);
       held = heldListLayout .read (drop heldAt b);
-      targets = targetsLayout .read (drop targetsAt b)
+      targets = targetsLayout .read (drop targetsAt b);
     }
 unfolding nodeLayout
 node-read b =
@@ -140,7 +139,7 @@ pub lane-read : (b : List ℕ)
       mark = spelled 0 (take 4 (drop markAt b));
       taken = spelled 0 (take 4 (drop takenAt b));
       heard = readFields heardWidths (drop heardAt b);
-      queue = queueLayout .read (drop queueAt b)
+      queue = queueLayout .read (drop queueAt b);
     }
 unfolding laneLayout
 lane-read b =

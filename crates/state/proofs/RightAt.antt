@@ -1,12 +1,11 @@
 -- Right bytes at an offset, taken apart.
 use Prim.Native.Nat.{ℕ, zero, suc, _+_, _*_, _-_, _^_, _≤_, _<_}
-use mathlib.Core.Path.{_≡_, refl, sym, ap, subst, subst₂, _∙_}
-use mathlib.Core.Logic.{_↔_, Iff·trans, Iff·and, Iff·symm}
-use mathlib.Core.List.{List, [], _∷_, _++_}
-use native.Mathlib.Nat.{suc-mul, zero-mul, add-comm, mul-comm, mul-suc, mul-zero, add-mul, mul-le-mul-left, add-sub-cancel-left}
+use mathlib.Core.Path.{_≡_, sym, ap, subst, subst₂, _∙_}
+use mathlib.Core.Logic.{_↔_, Iff·trans, Iff·and}
+use mathlib.Core.List.{List}
+use native.Mathlib.Nat.{add-comm, mul-comm, mul-suc, mul-zero, add-mul, mul-le-mul-left, add-sub-cancel-left}
 use native.Mathlib.Omega.{arith}
-use lib.Dec.{lit<}
-use lib.ListN.{length, getD, take, drop, replicate, length-take, length-drop}
+use lib.ListN.{length, take, drop, length-drop}
 use lib.Seq.{drop-drop, take-take, length-take-le}
 use Rattle.plan.specs.Layout.{Layout, spelled, number, fields, sumOf, via, pair, slots, upToSlots, padded}
 use Rattle.plan.specs.Lawful.{Bytes, Zeros, EachSlot, UpToRight}
@@ -22,7 +21,7 @@ abbrev pub RightAt : {A : Type 0} → Layout A → ℕ → List ℕ → Type 0
 RightAt l a s = Right l (take (l .size) (drop a s))
 
 -- What is said of equal bytes.
-pub iff-at : {s t : List ℕ} (P : List ℕ → Type 0) → s ≡ t → P s ↔ P t
+iff-at : {s t : List ℕ} (P : List ℕ → Type 0) → s ≡ t → P s ↔ P t
 iff-at P e = (subst P e, subst P (sym e))
 
 iff-both : {s t u v : List ℕ} (P : List ℕ → List ℕ → Type 0) → s ≡ t → u ≡ v → P s u ↔ P t v

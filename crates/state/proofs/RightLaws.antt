@@ -1,18 +1,18 @@
 -- Right bytes, taken apart: for each way to build a layout, its bytes are right exactly where its parts' are.
-use Prim.Native.Nat.{ℕ, zero, suc, _+_, _*_, _^_, min, _≤_, _<_}
-use mathlib.Core.Path.{_≡_, refl, sym, ap, ap₂, subst, _∙_}
+use Prim.Native.Nat.{ℕ, zero, suc, _+_, _*_, _^_, _≤_, _<_}
+use mathlib.Core.Path.{_≡_, sym, ap, ap₂, subst, _∙_}
 use mathlib.Core.Logic.{_↔_, Iff·trans, Iff·and}
-use mathlib.Core.List.{List, [], _∷_, _++_}
+use mathlib.Core.List.{List, [], _++_}
 use native.Mathlib.Nat.{suc-mul, zero-mul, add-comm}
 use native.Mathlib.Omega.{arith}
-use lib.ListN.{length, getD, take, drop, replicate, length-take, length-drop, take-append-drop, drop-of-length-le}
+use lib.ListN.{length, take, drop, replicate, length-take, length-drop, take-append-drop, drop-of-length-le}
 use lib.Seq.{take-at, drop-at, drop-drop, take-take, take-all}
 use Rattle.plan.specs.Layout.{Layout, spelled, bytesOf, number, fields, sumOf, via, pair, zeros, slots, upToSlots, padded, writeSlots, readSlots}
-use Rattle.plan.specs.Lawful.{Bytes, Zeros, EachSlot, UpToRight, Lawful}
-use Rattle.plan.proofs.LayoutLaws.{number-lawful, fields-lawful, zeros-lawful, upTo-lawful, length-readSlots, unused-written}
+use Rattle.plan.specs.Lawful.{Bytes, Zeros, EachSlot, UpToRight}
+use Rattle.plan.proofs.LayoutLaws.{number-lawful, fields-lawful, upTo-lawful, length-readSlots, unused-written}
 use Rattle.plan.proofs.NumberLaws.{number-read, length-bytesOf}
 use Rattle.state.specs.Sound.{Right, Sound}
-use Rattle.state.proofs.SoundLaws.{lawful, pair-sound, zeros-sound}
+use Rattle.state.proofs.SoundLaws.{lawful}
 use Rattle.state.proofs.ListLaws.{zeros-many, all-zero}
 
 -- Two parts are a list exactly where each is its part of it.

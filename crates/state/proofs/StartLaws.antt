@@ -1,15 +1,14 @@
 -- The bytes of the line that a plan starts as: the plan's own, and 0 behind them.
-use Prim.Native.Nat.{ℕ, zero, suc, _*_, _-_, _≤_}
-use mathlib.Core.Path.{_≡_, refl, sym, ap, ap₂, _∙_}
+use Prim.Native.Nat.{ℕ, zero, suc, _+_, _*_, _-_, _≤_}
+use mathlib.Core.Path.{_≡_, refl, sym, ap, _∙_}
 use mathlib.Core.List.{List, [], _∷_, _++_, map, append-assoc}
 use native.Mathlib.Omega.{arith}
-use lib.ListN.{length, take, replicate, length-append, length-take, length-replicate}
+use lib.ListN.{length, take, replicate, length-append, replicate-append-replicate}
 use Rattle.plan.specs.declared.Channel.{Channel}
 use Rattle.plan.specs.Layout.{Layout, number, pair, slots, padded, writeSlots}
 use Rattle.plan.specs.Lawful.{Bytes, Zeros}
 use Rattle.plan.specs.Plan.{Plan, nodeCount, channelCount, planLayout, headNumbers, planBytes, planOf, planSize}
 use Rattle.plan.specs.Check.{planRefusal}
-use Rattle.plan.proofs.BytesLaws.{each-take}
 use Rattle.plan.proofs.CheckLaws.{accepted}
 use Rattle.plan.proofs.PlanLaws.{plan-written, node-count, channel-count}
 use Rattle.rules.specs.Line.{Lane, freshNode, freshLane, initialLine, parents}
@@ -17,7 +16,7 @@ use Rattle.state.specs.Sizes.{stateSize, pageSize, blockSize, countSize,
 use Rattle.state.specs.Node.{nodeLayout}
 use Rattle.state.specs.Lane.{laneLayout, withHeard, padHeard}
 use Rattle.state.specs.State.{stepsPart, nodesPart, lanesPart, lineBytes}
-use Rattle.state.proofs.ListLaws.{IsZero, zeros-many, zeros-append, all-zero}
+use Rattle.state.proofs.ListLaws.{zeros-many, zeros-append, all-zero, take-replicate}
 use Rattle.state.proofs.LineLaws.{line-long}
 
 -- ---- bytes that are all 0
@@ -53,11 +52,7 @@ nodes-zero zero = tt
 nodes-zero (suc n) = zeros-append (nodeLayout .write freshNode) (writeSlots nodeLayout n (replicate n freshNode)) (rw fresh-node (zeros-many pageSize)) (nodes-zero n)
 
 padded-zero : (n : ℕ) → take {A = ℕ} parentLimit (replicate n 0 ++ replicate parentLimit 0) ≡ replicate parentLimit 0
-padded-zero n =
-    let hs : List ℕ = replicate n 0 ++ replicate parentLimit 0 in
-    let four : length (take parentLimit hs) ≡ parentLimit = simp (length-take, length-append, length-replicate) (omega arith) in
-    all-zero (take parentLimit hs) (each-take IsZero parentLimit hs (zeros-append (replicate n 0) (replicate parentLimit 0) (zeros-many n) (zeros-many parentLimit)))
-    ∙ ap (λ (k : ℕ). replicate k 0) four
+padded-zero n = ap (take parentLimit) (replicate-append-replicate n parentLimit 0) ∙ take-replicate parentLimit (n + parentLimit) 0 (omega arith)
 
 abbrev emptyLane : Lane
 emptyLane = record { mark = 0; taken = 0; heard = replicate parentLimit 0; queue = [] }

@@ -1,26 +1,26 @@
 -- A line that is not damaged fits the layout.
-use Prim.Native.Nat.{ℕ, zero, suc, _+_, _^_, _≤_, _<_}
-use mathlib.Core.Path.{_≡_, refl, sym, ap, subst, _∙_}
+use Prim.Native.Nat.{ℕ, suc, _+_, _^_, _≤_, _<_}
+use mathlib.Core.Path.{_≡_, refl, sym, ap, _∙_}
 use mathlib.Core.Bool.{Bool, true, false, not, _&&_, _||_, true≢false}
 use mathlib.Core.List.{List, [], _∷_, _++_, map}
 use native.Mathlib.Nat.{zero-add}
 use native.Mathlib.Omega.{arith}
 use borrow.Author.Tests.{ltb-true, ltb-false, leb-true, eqb-true, not-false}
-use lib.Dec.{lit<, leb, ltb, eqb}
-use lib.ListN.{length, getD}
+use lib.Dec.{lit<, ltb, eqb}
+use lib.ListN.{length}
 use Rattle.basics.specs.Bools.{both-true, neither-true}
 use Rattle.plan.specs.declared.Record.{Record}
 use Rattle.plan.specs.declared.Channel.{Channel}
 use Rattle.plan.specs.Lawful.{Each}
 use Rattle.plan.specs.Record.{materialFits}
-use Rattle.plan.specs.Plan.{Plan, nodeCount, channelCount, channelAt, entering, numbersFrom, keepIf, isSource}
+use Rattle.plan.specs.Plan.{Plan, nodeCount, channelCount, channelAt, entering, numbersFrom, keepIf}
 use Rattle.plan.specs.Check.{planFits}
 use Rattle.plan.specs.Fits.{RecordFits}
 use Rattle.plan.proofs.FitsLaws.{fitting}
 use Rattle.rules.specs.Lists.{anyOf, joined, upTo}
 use Rattle.rules.specs.Line.{logLimit, queueLimit, heldLimit, targetLimit, stepLimit, Origin, fed, made, Message, Entry, Held, Target, Node, Lane, Line, nodeAt, laneAt, senderOf, parents}
 use Rattle.rules.specs.Replay.{entryAt}
-use Rattle.rules.specs.Damaged.{someNode, someChannel, planBroken, misshapen, stepsPast, workedOn, recordPastLimits, nodePastLimits, channelPastLimits, isParent, notParent, beforeNotParent, nodeWrongParent, channelWrongParent, originTimes, nodeNamedTimes, nodeOtherTimes, channelNamedTimes, channelOtherTimes, nodeTimePast, channelTimePast, nodeTimeZero, channelTimeZero, originWrong, isFed, beforeWrong, nodeMakerWrong, channelMakerWrong, logWrong, pastClock, heldWrong, heldNotPassed, queueWrong, markMissing, markOnEnd, marksJoined, replayWrong, nodeHolds, channelHolds, nodeDamaged, channelDamaged, damaged}
+use Rattle.rules.specs.Damaged.{someNode, someChannel, planBroken, misshapen, stepsPast, workedOn, recordPastLimits, nodePastLimits, channelPastLimits, isParent, notParent, beforeNotParent, nodeWrongParent, channelWrongParent, originTimes, nodeNamedTimes, nodeOtherTimes, channelNamedTimes, channelOtherTimes, nodeTimePast, channelTimePast, nodeTimeZero, channelTimeZero, originWrong, beforeWrong, nodeMakerWrong, channelMakerWrong, logWrong, pastClock, heldWrong, heldNotPassed, queueWrong, markMissing, markOnEnd, marksJoined, replayWrong, nodeHolds, channelHolds, nodeDamaged, channelDamaged, damaged}
 use Rattle.rules.proofs.PlanOrder.{ordered-channels}
 use Rattle.state.specs.Lane.{heardCount}
 use Rattle.state.specs.Fits.{TimeFits, OriginFits, MessageFits, EntryFits, HeldFits, TargetFits, NodeFits, LaneFits, LineFits}
@@ -106,10 +106,10 @@ module _ (p : Plan) (e : planFits p ≡ true) where
           let rest = each-both A D (λ e. A e × D e) (λ e r q. (r, q)) es (none-each (λ (e : Entry). recordPastLimits (e .what)) es a) (each-joined Within times es d) in
           each-both (λ e. B e × C e) (λ e. A e × D e) WorkFits
           (λ e s t.
-              let u = neither-true (notParent p n (e .origin)) (beforeNotParent p (e .origin) (e .before)) (s .0) in
-              let v = neither-true (originWrong p n (e .origin)) (beforeWrong p (e .origin) (e .before)) (s .1) in
-              let w = each-split Within (originTimes (e .origin)) (originTimes (e .before)) (t .1) in
-              (record-fits (e .what) (t .0), (origin-fits n (e .origin) (u .0) (w .0), before-fits (e .origin) (e .before) (u .1) (v .1) (w .1))))
+          let u = neither-true (notParent p n (e .origin)) (beforeNotParent p (e .origin) (e .before)) (s .0) in
+          let v = neither-true (originWrong p n (e .origin)) (beforeWrong p (e .origin) (e .before)) (s .1) in
+          let w = each-split Within (originTimes (e .origin)) (originTimes (e .before)) (t .1) in
+          (record-fits (e .what) (t .0), (origin-fits n (e .origin) (u .0) (w .0), before-fits (e .origin) (e .before) (u .1) (v .1) (w .1))))
           es names rest
 
       target-fits : anyOf (λ (t : Target). not (isParent p n (t .parent))) (x .targets) ≡ false → Each Within (joined (map (λ (t : Target). t .time ∷ t .parentTime ∷ []) (x .targets))) → Each TargetFits (x .targets)
@@ -138,7 +138,7 @@ module _ (p : Plan) (e : planFits p ≡ true) where
             log = (
               ltb-false logLimit (length (x .log)) (c .0),
               each-both WorkFits (λ (e : Entry). Within (e .time)) EntryFits (λ e f t. record { what = f .0; time = time-fits (e .time) t; origin = f .1 .0; before = f .1 .1 }) (x .log) (work .0)
-              (each-unmap Within (λ (e : Entry). e .time) (x .log) (logged .0)),
+                  (each-unmap Within (λ (e : Entry). e .time) (x .log) (logged .0)),
             );
             held = (
               ltb-false heldLimit (length (x .held)) (c .1),
@@ -157,7 +157,7 @@ module _ (p : Plan) (e : planFits p ≡ true) where
           let C : Message → Type 0 = λ m. notParent p (channelAt p b .sender) (m .origin) ≡ false in
           let D : Message → Type 0 = λ m. Each Within (m .time ∷ originTimes (m .origin)) in
           let tests = each-both A C (λ m. A m × C m) (λ m r q. (r, q)) (x .queue) (none-each (λ (m : Message). recordPastLimits (m .what)) (x .queue) a)
-              (none-each (λ (m : Message). notParent p (channelAt p b .sender) (m .origin)) (x .queue) c)
+          (none-each (λ (m : Message). notParent p (channelAt p b .sender) (m .origin)) (x .queue) c)
           in
           each-both (λ m. A m × C m) D MessageFits
           (λ m t h. record { what = record-fits (m .what) (t .0); time = time-fits (m .time) (h .0); origin = origin-fits (channelAt p b .sender) (m .origin) (t .1) (h .1) }) (x .queue) tests

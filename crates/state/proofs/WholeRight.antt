@@ -3,19 +3,19 @@ use Prim.Native.Nat.{ℕ, zero, suc, _+_, _*_, _-_, _≤_, _<_}
 use mathlib.Core.Path.{_≡_, refl, sym, ap, ap₂, subst, subst₂, _∙_}
 use mathlib.Core.Logic.{_↔_, Iff·trans, Iff·and, Iff·rfl}
 use mathlib.Core.List.{List, [], _∷_, _++_, map}
-use native.Mathlib.Nat.{suc-mul, mul-suc, mul-comm, add-comm, zero-add}
+use native.Mathlib.Nat.{suc-mul, add-comm, zero-add}
 use native.Mathlib.Omega.{arith}
-use lib.Dec.{lit<, lit≤}
+use lib.Dec.{lit≤}
 use lib.ListN.{length, getD, take, drop, replicate}
 use lib.Seq.{drop-drop, take-take, take-all}
 use Rattle.plan.specs.declared.Channel.{Channel}
 use Rattle.plan.specs.Layout.{Layout, bytesOf, spelled, number, pair, slots, padded, writeSlots, readSlots}
-use Rattle.plan.specs.Lawful.{Bytes, Zeros}
-use Rattle.plan.specs.Plan.{Plan, planOf, planBytes, planLayout, planNodes, planChannels, planSize, headNumbers, nodeCount, channelCount, channelAt, noChannel}
+use Rattle.plan.specs.Lawful.{Bytes}
+use Rattle.plan.specs.Plan.{Plan, planOf, planBytes, planLayout, planNodes, planChannels, planSize, headNumbers, channelAt, noChannel}
 use Rattle.plan.proofs.LayoutLaws.{slots-front}
-use Rattle.plan.proofs.PlanLaws.{plan-size, node-count, channel-count}
-use Rattle.rules.specs.Line.{Node, Lane, Line}
-use Rattle.state.specs.Sound.{Right, Sound}
+use Rattle.plan.proofs.PlanLaws.{node-count, channel-count}
+use Rattle.rules.specs.Line.{Lane, Line}
+use Rattle.state.specs.Sound.{Sound}
 use Rattle.state.specs.Sizes.{stateSize, pageSize, planArea, stepsAt, countSize, stepsRest, nodePages, pageAt, laneBlocks, blockSize, blocksAt, blockAt, tailAt, tailSize}
 use Rattle.state.specs.Node.{nodeLayout}
 use Rattle.state.specs.Lane.{laneLayout, padHeard, cutHeard, heardCount, cutLanes}
@@ -24,9 +24,9 @@ use Rattle.state.specs.Right.{ZerosAt, wordAt, NodeRight, LaneRight, Sta
 use Rattle.state.proofs.SoundLaws.{number-sound, pair-sound, slots-sound}
 use Rattle.state.proofs.BlockLaws.{node-sound, lane-sound}
 use Rattle.state.proofs.LineLaws.{plan-sound, plan-part-sound, steps-part-sound, nodes-part-sound, lanes-part-sound, state-size}
-use Rattle.state.proofs.InPlace.{Counted, line-plan, line-steps, line-nodes, line-lanes, plan-long, steps-end, nodes-long, nodes-end}
+use Rattle.state.proofs.InPlace.{Counted, line-plan, line-steps, line-nodes, line-lanes, plan-long, steps-end, nodes-end}
 use Rattle.state.proofs.RightLaws.{append-cut, zeros-same}
-use Rattle.state.proofs.RightAt.{RightAt, iff-at, part-long, part-first, part-second, number-at, slots-at}
+use Rattle.state.proofs.RightAt.{RightAt, part-long, part-first, part-second, number-at, slots-at}
 use Rattle.state.proofs.BlockRight.{laneWith, node-right, lane-right}
 
 -- ---- written at an offset
@@ -160,7 +160,7 @@ module _ (s : List ℕ) (long : length s ≡ stateSize) (k : Bytes s) (few : Cou
   steps-part =
       let whole = padded-written (number-sound countSize) (wordAt stepsAt s) stepsAt s stepsRest (omega arith) in
       let word : WrittenAt (number countSize) (wordAt stepsAt s) stepsAt s =
-          ap (λ (t : List ℕ). bytesOf 4 (spelled 0 t)) (sym (take-take 4 4 (drop stepsAt s) (lit≤ tt))) ∙ number-at countSize stepsAt s (omega arith) k
+      ap (λ (t : List ℕ). bytesOf 4 (spelled 0 t)) (sym (take-take 4 4 (drop stepsAt s) (lit≤ tt))) ∙ number-at countSize stepsAt s (omega arith) k
       in
       (λ q. whole .0 q .1, λ z. whole .1 (word, z))
 
@@ -170,13 +170,13 @@ module _ (s : List ℕ) (long : length s ≡ stateSize) (k : Bytes s) (few : Cou
       let rest = (nodePages - n) * pageSize in
       let whole = padded-written (slots-sound node-sound n) (readSlots nodeLayout n (drop pageSize s)) pageSize s rest (omega (arith, few .nodes)) in
       let front : writeSlots nodeLayout n (readSlots nodeLayout n (take (n * pageSize) (drop pageSize s))) ≡ writeSlots nodeLayout n (readSlots nodeLayout n (drop pageSize s)) =
-          ap (writeSlots nodeLayout n) (slots-front nodeLayout n (drop pageSize s))
+      ap (writeSlots nodeLayout n) (slots-front nodeLayout n (drop pageSize s))
       in
       let each = slots-at node-sound n pageSize s (omega (arith, few .nodes)) in
       let one : (i : ℕ) → i < n → RightAt nodeLayout (pageSize + pageSize * i) s ↔ NodeRight (pageAt i) s =
-          λ i h.
-              let at : pageSize + pageSize * i ≡ pageAt i = omega arith in
-              Iff·trans (node-right s k (pageSize + pageSize * i) (omega (arith, few .nodes))) (subst (λ (j : ℕ). NodeRight j s) at, subst (λ (j : ℕ). NodeRight j s) (sym at))
+      λ i h.
+      let at : pageSize + pageSize * i ≡ pageAt i = omega arith in
+      Iff·trans (node-right s k (pageSize + pageSize * i) (omega (arith, few .nodes))) (subst (λ (j : ℕ). NodeRight j s) at, subst (λ (j : ℕ). NodeRight j s) (sym at))
       in
       Iff·trans whole
       (Iff·and
@@ -191,7 +191,7 @@ module _ (s : List ℕ) (long : length s ≡ stateSize) (k : Bytes s) (few : Cou
       let whole = padded-written (slots-sound lane-sound m) (lanesOf p (p .channels) m (drop blocksAt s)) blocksAt s rest (omega (arith, few .channels)) in
       let each = lanes-written p (p .channels) m (channel-count s) blocksAt s in
       let one : (b : ℕ) → b < m → RightAt (laneWith (heardCount p (channelAt p b))) (blockAt b) s ↔ LaneRight (heardCount p (channelAt p b)) (blockAt b) s =
-          λ b h. lane-right s k (blockAt b) (omega (arith, few .channels)) (heardCount p (channelAt p b))
+      λ b h. lane-right s k (blockAt b) (omega (arith, few .channels)) (heardCount p (channelAt p b))
       in
       Iff·trans whole
       (Iff·and

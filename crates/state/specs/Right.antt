@@ -2,7 +2,7 @@
 use Prim.Native.Nat.{ℕ, _+_, _*_, _-_, _≤_, _<_}
 use mathlib.Core.Path.{_≡_}
 use mathlib.Core.List.{List}
-use lib.ListN.{length, getD, take, drop}
+use lib.ListN.{getD, take, drop}
 use Rattle.plan.specs.Layout.{spelled}
 use Rattle.plan.specs.Lawful.{Zeros}
 use Rattle.plan.specs.Plan.{planOf, planBytes, planSize, planNodes, planChannels, channelAt}
