@@ -1,13 +1,13 @@
 -- Each way to build a layout keeps it sound.
-use Prim.Native.Nat.{ℕ, _+_, _*_, _^_, _≤_, _<_}
-use mathlib.Core.Path.{_≡_, refl, sym, ap, ap₂, _∙_}
-use mathlib.Core.List.{List, [], _∷_}
+use Prim.Native.Nat.{ℕ, _+_, _^_, _<_}
+use mathlib.Core.Path.{_≡_, refl, ap, _∙_}
+use mathlib.Core.List.{List}
 use native.Mathlib.Nat.{add-sub-cancel-left}
 use native.Mathlib.Omega.{arith}
-use lib.ListN.{length, take, drop}
+use lib.ListN.{take, drop}
 use lib.Seq.{take-take}
 use Rattle.plan.specs.Layout.{Layout, number, fields, via, pair, zeros, slots, upToSlots, padded}
-use Rattle.plan.specs.Lawful.{Bytes, FieldsFit, SlotsFit, UpToFit, Lawful}
+use Rattle.plan.specs.Lawful.{FieldsFit, SlotsFit, UpToFit, Lawful}
 use Rattle.plan.proofs.BytesLaws.{drop-take}
 use Rattle.plan.proofs.LayoutLaws.{number-lawful, fields-lawful, fields-front, pair-lawful, zeros-lawful, slots-lawful, slots-front, upTo-lawful}
 use Rattle.state.specs.Sound.{Right, Sound}

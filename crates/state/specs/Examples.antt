@@ -6,7 +6,6 @@ use mathlib.Core.List.{List, [], _∷_, _++_}
 use lib.ListN.{take, set, replicate}
 use Rattle.plan.specs.declared.Rule.the-variants.{Keep}
 use Rattle.plan.specs.declared.Record.{Record}
-use Rattle.plan.specs.declared.Channel.{Channel}
 use Rattle.rules.specs.Line.{fed, made, up, replay, Line, freshNode, initialLine}
 use Rattle.state.specs.State.{lineBytes, lineOf, stateAnswer}
 

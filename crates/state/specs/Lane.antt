@@ -1,6 +1,6 @@
 -- A channel's block: mark, taken, heard, queue.
 use Prim.Native.Nat.{ℕ, _+_, _*_}
-use mathlib.Core.List.{List, [], _∷_, _++_, map}
+use mathlib.Core.List.{List, [], _∷_, _++_}
 use mathlib.Core.Path.{_≡_, refl}
 use lib.ListN.{length, getD, take, drop, replicate}
 use Rattle.plan.specs.declared.Channel.{Channel}

@@ -32,8 +32,8 @@ crashOf (suc n) = true
 abbrev pub nodeWidths : List ℕ
 nodeWidths = 1 ∷ 1 ∷ 2 ∷ 4 ∷ []
 
-abbrev pub nodeNumbers : Node → List ℕ
-nodeNumbers x = statusNumber (x .status) ∷ crashNumber (x .crashed) ∷ 0 ∷ x .time ∷ []
+abbrev pub nodeHeadNumbers : Node → List ℕ
+nodeHeadNumbers x = statusNumber (x .status) ∷ crashNumber (x .crashed) ∷ 0 ∷ x .time ∷ []
 
 unfoldable pub nodeFields : Layout (List ℕ)
 unfolding fields
@@ -56,7 +56,7 @@ abbrev pub NodeParts : Type 0
 NodeParts = List ℕ × (List Entry × (List Held × List Target))
 
 abbrev pub nodeSeen : Node → NodeParts
-nodeSeen x = (nodeNumbers x, (x .log, (x .held, x .targets)))
+nodeSeen x = (nodeHeadNumbers x, (x .log, (x .held, x .targets)))
 
 abbrev pub nodeFrom : NodeParts → Node
 nodeFrom p = record { status = statusOf (getD (p .0) 0 0); crashed = crashOf (getD (p .0) 1 0); time = getD (p .0) 3 0; log = p .1 .0; held = p .1 .1 .0; targets = p .1 .1 .1 }

@@ -1,0 +1,277 @@
+-- A line that is not damaged fits the layout.
+use Prim.Native.Nat.{ℕ, suc, _+_, _^_, _≤_, _<_}
+use mathlib.Core.Path.{_≡_, refl, sym, ap, _∙_}
+use mathlib.Core.Bool.{Bool, true, false, not, _&&_, _||_, true≢false}
+use mathlib.Core.List.{List, [], _∷_, _++_, map}
+use native.Mathlib.Nat.{zero-add}
+use native.Mathlib.Omega.{arith}
+use borrow.Author.Tests.{ltb-true, ltb-false, leb-true, eqb-true, not-false}
+use lib.Dec.{lit<, ltb, eqb}
+use lib.ListN.{length}
+use Rattle.basics.specs.Bools.{both-true, neither-true}
+use Rattle.plan.specs.declared.Record.{Record}
+use Rattle.plan.specs.declared.Channel.{Channel}
+use Rattle.plan.specs.Lawful.{Each}
+use Rattle.plan.specs.Record.{materialFits}
+use Rattle.plan.specs.Plan.{Plan, nodeCount, channelCount, channelAt, entering, numbersFrom, keepIf}
+use Rattle.plan.specs.Check.{planFits}
+use Rattle.plan.specs.Fits.{RecordFits}
+use Rattle.plan.proofs.FitsLaws.{fitting}
+use Rattle.rules.specs.Lists.{anyOf, joined, upTo}
+use Rattle.rules.specs.Line.{logLimit, queueLimit, heldLimit, targetLimit, stepLimit, Origin, fed, made, Message, Entry, Held, Target, Node, Lane, Line, nodeAt, laneAt, senderOf, parents}
+use Rattle.rules.specs.Replay.{entryAt}
+use Rattle.rules.specs.Damaged.{someNode, someChannel, planBroken, misshapen, stepsPast, workedOn, recordPastLimits, nodePastLimits, channelPastLimits, isParent, notParent, beforeNotParent, nodeWrongParent, channelWrongParent, originTimes, nodeNamedTimes, nodeOtherTimes, channelNamedTimes, channelOtherTimes, nodeTimePast, channelTimePast, nodeTimeZero, channelTimeZero, originWrong, beforeWrong, nodeMakerWrong, channelMakerWrong, logWrong, pastClock, heldWrong, heldNotPassed, queueWrong, markMissing, markOnEnd, marksJoined, replayWrong, nodeHolds, channelHolds, nodeDamaged, channelDamaged, damaged}
+use Rattle.rules.proofs.PlanOrder.{ordered-channels}
+use Rattle.state.specs.Lane.{heardCount}
+use Rattle.state.specs.Fits.{TimeFits, OriginFits, MessageFits, EntryFits, HeldFits, TargetFits, NodeFits, LaneFits, LineFits}
+use Rattle.state.proofs.ListLaws.{each-map, each-imply, each-split, each-joined, each-unmap, each-both, found-each, none-each, none-numbered}
+
+-- ---- parents
+
+numbers-within : {A : Type 0} (f : A → Bool) (k : ℕ) (xs : List A) → Each (λ (b : ℕ). b < k + length xs) (numbersFrom k f xs)
+numbers-within f k [] = tt
+numbers-within f k (x ∷ xs) =
+    one (f x) (each-imply (λ (b : ℕ). b < suc k + length xs) (λ (b : ℕ). b < k + suc (length xs)) (λ b h. omega arith) (numbersFrom (suc k) f xs) (numbers-within f (suc k) xs))
+  where
+    one : (t : Bool) → Each (λ (b : ℕ). b < k + suc (length xs)) (numbersFrom (suc k) f xs) → Each (λ (b : ℕ). b < k + suc (length xs)) (keepIf t k (numbersFrom (suc k) f xs))
+    one true h = (omega arith, h)
+    one false h = h
+
+module _ (p : Plan) (e : planFits p ≡ true) where
+  -- Every parent is a node.
+  parents-few : (n : ℕ) → Each (λ (q : ℕ). q < nodeCount p) (parents p n)
+  unfolding parents entering
+  parents-few n =
+      let o = ordered-channels p (fitting p e .channels) in
+      each-map (λ (b : ℕ). b < 0 + channelCount p) (λ (q : ℕ). q < nodeCount p) (λ (b : ℕ). channelAt p b .sender) (λ b h. omega (arith, o .forward b (omega arith), o .inside b (omega arith)))
+      (entering p n) (numbers-within (λ (c : Channel). eqb (c .receiver) n) 0 (p .channels))
+
+  parent-few : (n s : ℕ) → isParent p n s ≡ true → suc s < 256
+  parent-few n s q =
+      let few = fitting p e .nodesMost in
+      found-each (λ (r : ℕ). r < nodeCount p) (λ (r : ℕ). eqb r s) (suc s < 256) (λ r t h. omega (arith, eqb-true r s t)) (parents p n) q (parents-few n)
+
+  -- ---- what something was made from
+
+  module _ (steps : ℕ) (below : steps ≤ stepLimit) where
+    abbrev Within : ℕ → Type 0
+    Within t = t ≤ steps
+
+    time-fits : (t : ℕ) → Within t → TimeFits t
+    time-fits t h = omega arith
+
+    origin-fits : (n : ℕ) (o : Origin) → notParent p n o ≡ false → Each Within (originTimes o) → OriginFits o
+    origin-fits n fed q h = (lit< tt, (lit< tt, tt))
+    origin-fits n (made s t) q h = (parent-few n s (not-false (isParent p n s) q), (time-fits t (h .0), tt))
+
+    before-fits : (o before : Origin) → beforeNotParent p o before ≡ false → beforeWrong p o before ≡ false → Each Within (originTimes before) → OriginFits before
+    before-fits fed fed q r h = (lit< tt, (lit< tt, tt))
+    before-fits fed (made s t) q r h = absurd (true≢false r)
+    before-fits (made s t) before q r h = origin-fits s before q h
+
+    record-fits : (r : Record) → recordPastLimits r ≡ false → RecordFits r
+    record-fits r q =
+        let a = both-true (materialFits (r .material) && ltb (r .piece) (2 ^ 32)) (ltb (r .mass) (2 ^ 16)) (not-false _ q) in
+        let b = both-true (materialFits (r .material)) (ltb (r .piece) (2 ^ 32)) (a .0) in
+        (ltb-true (r .piece) (2 ^ 32) (b .1), (omega (arith, leb-true (r .material) 15 (b .0)), (lit< tt, (ltb-true (r .mass) (2 ^ 16) (a .1), tt))))
+
+    times-within : (ts : List ℕ) → anyOf (ltb steps) ts ≡ false → Each Within ts
+    times-within ts q = each-imply (λ (t : ℕ). ltb steps t ≡ false) Within (λ t r. ltb-false steps t r) ts (none-each (ltb steps) ts q)
+
+    -- ---- a node
+
+    module _ (n : ℕ) (x : Node) where
+      abbrev named : Entry → Bool
+      named e = notParent p n (e .origin) || beforeNotParent p (e .origin) (e .before)
+
+      abbrev maker : Entry → Bool
+      maker e = originWrong p n (e .origin) || beforeWrong p (e .origin) (e .before)
+
+      abbrev times : Entry → List ℕ
+      times e = originTimes (e .origin) ++ originTimes (e .before)
+
+      -- An entry, its own time aside.
+      abbrev WorkFits : Entry → Type 0
+      WorkFits e = RecordFits (e .what) × (OriginFits (e .origin) × OriginFits (e .before))
+
+      work-fits : anyOf (λ (e : Entry). recordPastLimits (e .what)) (workedOn x) ≡ false → anyOf named (workedOn x) ≡ false → anyOf maker (workedOn x) ≡ false
+          → Each Within (joined (map times (workedOn x))) → Each WorkFits (workedOn x)
+      work-fits a b c d =
+          let es = workedOn x in
+          let A : Entry → Type 0 = λ e. recordPastLimits (e .what) ≡ false in
+          let B : Entry → Type 0 = λ e. named e ≡ false in
+          let C : Entry → Type 0 = λ e. maker e ≡ false in
+          let D : Entry → Type 0 = λ e. Each Within (times e) in
+          let names = each-both B C (λ e. B e × C e) (λ e r q. (r, q)) es (none-each named es b) (none-each maker es c) in
+          let rest = each-both A D (λ e. A e × D e) (λ e r q. (r, q)) es (none-each (λ (e : Entry). recordPastLimits (e .what)) es a) (each-joined Within times es d) in
+          each-both (λ e. B e × C e) (λ e. A e × D e) WorkFits
+          (λ e s t.
+          let u = neither-true (notParent p n (e .origin)) (beforeNotParent p (e .origin) (e .before)) (s .0) in
+          let v = neither-true (originWrong p n (e .origin)) (beforeWrong p (e .origin) (e .before)) (s .1) in
+          let w = each-split Within (originTimes (e .origin)) (originTimes (e .before)) (t .1) in
+          (record-fits (e .what) (t .0), (origin-fits n (e .origin) (u .0) (w .0), before-fits (e .origin) (e .before) (u .1) (v .1) (w .1))))
+          es names rest
+
+      target-fits : anyOf (λ (t : Target). not (isParent p n (t .parent))) (x .targets) ≡ false → Each Within (joined (map (λ (t : Target). t .time ∷ t .parentTime ∷ []) (x .targets))) → Each TargetFits (x .targets)
+      target-fits a d =
+          let P : Target → Type 0 = λ t. not (isParent p n (t .parent)) ≡ false in
+          let D : Target → Type 0 = λ t. Each Within (t .time ∷ t .parentTime ∷ []) in
+          each-both P D TargetFits
+          (λ t q h. record { time = time-fits (t .time) (h .0); parent = omega (arith, parent-few n (t .parent) (not-false (isParent p n (t .parent)) q)); parentTime = time-fits (t .parentTime) (h .1 .0) })
+          (x .targets) (none-each (λ (t : Target). not (isParent p n (t .parent))) (x .targets) a) (each-joined Within (λ (t : Target). t .time ∷ t .parentTime ∷ []) (x .targets) d)
+
+      node-fits : nodePastLimits x ≡ false → nodeWrongParent p n x ≡ false → nodeTimePast steps x ≡ false → nodeMakerWrong p n x ≡ false → NodeFits x
+      unfolding nodePastLimits nodeWrongParent nodeTimePast nodeMakerWrong
+      node-fits limits wrong past made-wrong =
+          let long : Bool = ltb logLimit (length (x .log)) in
+          let full : Bool = ltb heldLimit (length (x .held)) in
+          let many : Bool = ltb targetLimit (length (x .targets)) in
+          let a = neither-true (long || full || many) (anyOf (λ (e : Entry). recordPastLimits (e .what)) (workedOn x)) limits in
+          let b = neither-true (long || full) many (a .0) in
+          let c = neither-true long full (b .0) in
+          let w = neither-true (anyOf named (workedOn x)) (anyOf (λ (t : Target). not (isParent p n (t .parent))) (x .targets)) wrong in
+          let all = each-split Within (nodeNamedTimes x) (nodeOtherTimes x) (times-within (nodeNamedTimes x ++ nodeOtherTimes x) past) in
+          let logged = each-split Within (map (λ (e : Entry). e .time) (x .log)) (joined (map times (workedOn x))) (all .0) in
+          let work = each-split WorkFits (x .log) (map (entryAt 0) (x .held)) (work-fits (a .1) (w .0) made-wrong (logged .1)) in
+          record {
+            time = time-fits (x .time) (all .1 .0);
+            log = (
+              ltb-false logLimit (length (x .log)) (c .0),
+              each-both WorkFits (λ (e : Entry). Within (e .time)) EntryFits (λ e f t. record { what = f .0; time = time-fits (e .time) t; origin = f .1 .0; before = f .1 .1 }) (x .log) (work .0)
+                  (each-unmap Within (λ (e : Entry). e .time) (x .log) (logged .0)),
+            );
+            held = (
+              ltb-false heldLimit (length (x .held)) (c .1),
+              each-imply (λ (h : Held). WorkFits (entryAt 0 h)) HeldFits (λ h f. record { what = f .0; sender = omega (arith, f .1 .0 .0); time = f .1 .0 .1 .0; before = f .1 .1 }) (x .held) (each-unmap WorkFits (entryAt 0) (x .held) (work .1)),
+            );
+            targets = (ltb-false targetLimit (length (x .targets)) (b .1), target-fits (w .1) (all .1 .1));
+          }
+
+    -- ---- a lane
+
+    module _ (b : ℕ) (x : Lane) where
+      message-fits : anyOf (λ (m : Message). recordPastLimits (m .what)) (x .queue) ≡ false → anyOf (λ (m : Message). notParent p (channelAt p b .sender) (m .origin)) (x .queue) ≡ false
+          → Each Within (channelNamedTimes x) → Each MessageFits (x .queue)
+      message-fits a c d =
+          let A : Message → Type 0 = λ m. recordPastLimits (m .what) ≡ false in
+          let C : Message → Type 0 = λ m. notParent p (channelAt p b .sender) (m .origin) ≡ false in
+          let D : Message → Type 0 = λ m. Each Within (m .time ∷ originTimes (m .origin)) in
+          let tests = each-both A C (λ m. A m × C m) (λ m r q. (r, q)) (x .queue) (none-each (λ (m : Message). recordPastLimits (m .what)) (x .queue) a)
+          (none-each (λ (m : Message). notParent p (channelAt p b .sender) (m .origin)) (x .queue) c)
+          in
+          each-both (λ m. A m × C m) D MessageFits
+          (λ m t h. record { what = record-fits (m .what) (t .0); time = time-fits (m .time) (h .0); origin = origin-fits (channelAt p b .sender) (m .origin) (t .1) (h .1) }) (x .queue) tests
+          (each-joined Within (λ (m : Message). m .time ∷ originTimes (m .origin)) (x .queue) d)
+
+      lane-fits : channelPastLimits x ≡ false → channelWrongParent p b x ≡ false → channelTimePast steps x ≡ false → LaneFits x
+      unfolding channelPastLimits channelWrongParent channelTimePast
+      lane-fits limits wrong past =
+          let a = neither-true (ltb queueLimit (length (x .queue))) (anyOf (λ (m : Message). recordPastLimits (m .what)) (x .queue)) limits in
+          let all = each-split Within (channelNamedTimes x) (channelOtherTimes x) (times-within (channelNamedTimes x ++ channelOtherTimes x) past) in
+          record {
+            mark = time-fits (x .mark) (all .1 .0);
+            taken = time-fits (x .taken) (all .1 .1 .0);
+            heard = each-imply Within TimeFits time-fits (x .heard) (all .1 .1 .1);
+            queue = (ltb-false queueLimit (length (x .queue)) (a .0), message-fits (a .1) wrong (all .0));
+          }
+
+-- ---- the line
+
+-- The first of a node's conditions, and of a channel's.
+first-five : (a b c d e f g h i j k m n : Bool) → (a || b || c || d || e || f || g || h || i || j || k || m || n) ≡ false → (a ≡ false) × ((b ≡ false) × ((c ≡ false) × (e ≡ false)))
+first-five true b c d e f g h i j k m n q = absurd (true≢false q)
+first-five false true c d e f g h i j k m n q = absurd (true≢false q)
+first-five false false true d e f g h i j k m n q = absurd (true≢false q)
+first-five false false false true e f g h i j k m n q = absurd (true≢false q)
+first-five false false false false true f g h i j k m n q = absurd (true≢false q)
+first-five false false false false false f g h i j k m n q = (refl, (refl, (refl, refl)))
+
+first-three : (a b c d e f g h : Bool) → (a || b || c || d || e || f || g || h) ≡ false → (a ≡ false) × ((b ≡ false) × (c ≡ false))
+first-three true b c d e f g h q = absurd (true≢false q)
+first-three false true c d e f g h q = absurd (true≢false q)
+first-three false false true d e f g h q = absurd (true≢false q)
+first-three false false false d e f g h q = (refl, (refl, refl))
+
+node-conditions : (l : Line) (n : ℕ) → nodeDamaged l n ≡ false
+    → (nodePastLimits (nodeAt l n) ≡ false) × ((nodeWrongParent (l .plan) n (nodeAt l n) ≡ false) × ((nodeTimePast (l .steps) (nodeAt l n) ≡ false) × (nodeMakerWrong (l .plan) n (nodeAt l n) ≡ false)))
+unfolding nodeDamaged
+node-conditions l n q =
+    let x = nodeAt l n in
+    first-five (nodePastLimits x) (nodeWrongParent (l .plan) n x) (nodeTimePast (l .steps) x) (nodeTimeZero x) (nodeMakerWrong (l .plan) n x) (logWrong x) (pastClock l n)
+    (heldWrong l n) (heldNotPassed (l .plan) n x) (markMissing x) (markOnEnd (l .plan) n x) (replayWrong l n) (nodeHolds x) q
+
+channel-conditions : (l : Line) (b : ℕ) → channelDamaged l b ≡ false
+    → (channelPastLimits (laneAt l b) ≡ false) × ((channelWrongParent (l .plan) b (laneAt l b) ≡ false) × (channelTimePast (l .steps) (laneAt l b) ≡ false))
+unfolding channelDamaged
+channel-conditions l b q =
+    let s = laneAt l b in
+    first-three (channelPastLimits s) (channelWrongParent (l .plan) b s) (channelTimePast (l .steps) s) (channelTimeZero s) (channelMakerWrong (l .plan) b s) (queueWrong l b) (marksJoined l b) (channelHolds l b) q
+
+-- What is known of a line that is not damaged.
+record Whole (l : Line) : Type 0 where
+  plan : planBroken l ≡ false
+  shape : misshapen l ≡ false
+  steps : stepsPast l ≡ false
+  node : (n : ℕ) → n < nodeCount (l .plan) → nodeDamaged l n ≡ false
+  channel : (b : ℕ) → b < channelCount (l .plan) → channelDamaged l b ≡ false
+
+by-number : (f : ℕ → Bool) (m : ℕ) → anyOf f (upTo 0 m) ≡ false → (i : ℕ) → i < m → f i ≡ false
+by-number f m q i h = ap f (sym (zero-add i)) ∙ none-numbered f 0 m q i h
+
+whole : (l : Line) → damaged l ≡ false → Whole l
+unfolding damaged
+whole l q =
+    let nodes : Bool = someNode l (nodeDamaged l) in
+    let channels : Bool = someChannel l (channelDamaged l) in
+    let a = neither-true (planBroken l || misshapen l || stepsPast l || nodes) channels q in
+    let b = neither-true (planBroken l || misshapen l || stepsPast l) nodes (a .0) in
+    let c = neither-true (planBroken l || misshapen l) (stepsPast l) (b .0) in
+    let d = neither-true (planBroken l) (misshapen l) (c .0) in
+    record {
+      plan = d .0;
+      shape = d .1;
+      steps = c .1;
+      node = by-number (nodeDamaged l) (nodeCount (l .plan)) (b .1);
+      channel = by-number (channelDamaged l) (channelCount (l .plan)) (a .1);
+    }
+
+plan-whole : (l : Line) → planBroken l ≡ false → planFits (l .plan) ≡ true
+unfolding planBroken
+plan-whole l q = not-false (planFits (l .plan)) q
+
+steps-few : (l : Line) → stepsPast l ≡ false → l .steps ≤ stepLimit
+unfolding stepsPast
+steps-few l q = ltb-false stepLimit (l .steps) q
+
+-- A node for each rule, a lane for each channel, an entry heard for each parent of its sender.
+shaped : (l : Line) → misshapen l ≡ false
+    → (length (l .nodes) ≡ nodeCount (l .plan)) × ((length (l .lanes) ≡ channelCount (l .plan)) × ((b : ℕ) → b < channelCount (l .plan) → length (laneAt l b .heard) ≡ heardCount (l .plan) (channelAt (l .plan) b)))
+unfolding misshapen heardCount
+shaped l q =
+    let nodes : Bool = eqb (length (l .nodes)) (nodeCount (l .plan)) in
+    let lanes : Bool = eqb (length (l .lanes)) (channelCount (l .plan)) in
+    let short : ℕ → Bool = λ b. not (eqb (length (laneAt l b .heard)) (length (parents (l .plan) (senderOf l b)))) in
+    let a = neither-true (not nodes || not lanes) (someChannel l short) q in
+    let b = neither-true (not nodes) (not lanes) (a .0) in (
+      eqb-true (length (l .nodes)) (nodeCount (l .plan)) (not-false nodes (b .0)),
+      (
+        eqb-true (length (l .lanes)) (channelCount (l .plan)) (not-false lanes (b .1)),
+        λ c h. eqb-true (length (laneAt l c .heard)) (length (parents (l .plan) (senderOf l c))) (not-false _ (by-number short (channelCount (l .plan)) (a .1) c h)),
+      ),
+    )
+
+pub undamaged-fits : (l : Line) → damaged l ≡ false → LineFits l
+undamaged-fits l q =
+    let w = whole l q in
+    let fits = plan-whole l (w .plan) in
+    let few = steps-few l (w .steps) in
+    let shape = shaped l (w .shape) in
+    record {
+      plan = fits;
+      steps = omega arith;
+      nodes = shape .0;
+      lanes = shape .1 .0;
+      node = λ n h. let c = node-conditions l n (w .node n h) in node-fits (l .plan) fits (l .steps) few n (nodeAt l n) (c .0) (c .1 .0) (c .1 .1 .0) (c .1 .1 .1);
+      lane = λ b h. let c = channel-conditions l b (w .channel b h) in lane-fits (l .plan) fits (l .steps) few b (laneAt l b) (c .0) (c .1 .0) (c .1 .1);
+      heard = shape .1 .1;
+    }
