@@ -1,0 +1,54 @@
+-- The whole state as the check goes over it. `check-answer` of the proofs says that it is `stateAnswer`; the outer contract does not rest on believing this.
+use Prim.Native.Nat.{ℕ, _+_, _*_, _-_}
+use mathlib.Core.Bool.{Bool, not, _&&_, _||_}
+use mathlib.Core.List.{List}
+use lib.ListN.{take}
+use lib.Dec.{leb, eqb}
+use Rattle.plan.specs.Plan.{planOf, planSize, planNodes, planChannels, channelAt}
+use Rattle.plan.specs.Check.{planRefusal}
+use Rattle.rules.specs.Lists.{allOf, upTo}
+use Rattle.rules.specs.Line.{stepLimit, Line, nodeAt}
+use Rattle.rules.specs.Step.{replaying}
+use Rattle.state.specs.Sizes.{planArea, stepsAt, countSize, stepsRest, pageAt, pageSize, nodePages, blockAt, blockSize, laneBlocks, tailAt, tailSize}
+use Rattle.state.specs.Lane.{heardCount}
+use Rattle.state.specs.State.{lineOf}
+use Rattle.items.specs.Items.{countsRight, logRight, heldAllRight, targetRight, statusRight, replayRight, channelRight}
+use Rattle.line.specs.Exact.{zeroAt, pageExact, blockExact}
+
+-- The stored plan would not be refused, and nothing stands behind it.
+unfoldable pub planExact : List ℕ → Bool
+planExact s =
+    let size = planSize (planNodes s) (planChannels s) in
+    eqb (planRefusal (take size s)) 0 && zeroAt size (planArea - size) s
+
+-- Nothing stands behind the step count, in the pages of nodes and the blocks of channels that the plan does not have, and at the end.
+unfoldable pub restExact : List ℕ → Bool
+restExact s =
+    zeroAt (stepsAt + countSize) stepsRest s && zeroAt (pageAt (planNodes s)) (pageSize * (nodePages - planNodes s)) s
+    && zeroAt (blockAt (planChannels s)) (blockSize * (laneBlocks - planChannels s)) s && zeroAt tailAt tailSize s
+
+-- A node, its replay aside; and its replay.
+unfoldable pub nodePlain : Line → ℕ → Bool
+unfolding countsRight logRight heldAllRight targetRight statusRight
+nodePlain l n =
+    let x = nodeAt l n in
+    countsRight x && leb (x .time) (l .steps) && logRight l n (x .log) && heldAllRight l n (x .held) && allOf (targetRight l n) (x .targets) && statusRight (l .plan) n x
+
+unfoldable pub replayPlain : Line → ℕ → Bool
+unfolding replayRight
+replayPlain l n = not (replaying l n) || replayRight l n
+
+unfoldable pub nodeChecked : List ℕ → ℕ → Bool
+unfolding pageExact nodePlain
+nodeChecked s n = pageExact (pageAt n) s && nodePlain (lineOf s) n
+
+unfoldable pub channelChecked : List ℕ → ℕ → Bool
+unfolding blockExact channelRight heardCount
+channelChecked s b = blockExact (heardCount (planOf s) (channelAt (planOf s) b)) (blockAt b) s && channelRight (lineOf s) b
+
+-- All of it, of a state of the right size.
+unfoldable pub stateChecked : List ℕ → Bool
+unfolding planExact restExact nodeChecked channelChecked replayPlain
+stateChecked s =
+    planExact s && restExact s && leb (lineOf s .steps) stepLimit && allOf (nodeChecked s) (upTo 0 (planNodes s)) && allOf (channelChecked s) (upTo 0 (planChannels s))
+    && allOf (replayPlain (lineOf s)) (upTo 0 (planNodes s))
