@@ -4,8 +4,10 @@ use mathlib.Core.Path.{_≡_, refl, sym, ap, subst, _∙_}
 use mathlib.Core.Logic.{_↔_}
 use mathlib.Core.Bool.{Bool, true, false, not, _&&_, _||_, true≢false}
 use mathlib.Core.List.{List, [], _∷_}
+use native.Mathlib.Nat.{zero-add}
 use native.Mathlib.Omega.{arith}
 use lib.ListN.{length, getD, take, drop}
+use lib.Seq.{drop-drop}
 use lib.Dec.{leb, eqb}
 use borrow.Author.Tests.{eq-eqb, eqb-true, le-leb, leb-true, ne-eqb}
 use Rattle.plan.specs.Lawful.{Zeros}
@@ -104,3 +106,69 @@ module _ (s : List ℕ) where
       stands-as (and-stands (and-stands (and-stands (and-stands head logs) held) targets) (zero-stands (a + 3604) 492 s))
       (λ r. record { status = r .0 .0 .0 .0 .0 .0; crashed = r .0 .0 .0 .0 .0 .1; unused = r .0 .0 .0 .0 .1; log = r .0 .0 .0 .1; held = r .0 .0 .1; targets = r .0 .1; rest = r .1 })
       (λ r. ((((((r .status, r .crashed), r .unused), r .log), r .held), r .targets), r .rest))
+
+-- Zeros in two parts, and word by word.
+zeros-split : (n m : ℕ) (t : List ℕ) → Zeros (take (n + m) t) ↔ (Zeros (take n t) × Zeros (take m (drop n t)))
+zeros-split zero m t = (
+  λ z. (tt, subst (λ (k : ℕ). Zeros (take k t)) (zero-add m) z),
+  λ r. subst (λ (k : ℕ). Zeros (take k t)) (sym (zero-add m)) (r .1),
+)
+zeros-split (suc n) m [] = (
+  λ z. (tt, subst (λ (x : List ℕ). Zeros x) (sym (take-none m)) tt),
+  λ r. subst (λ (x : List ℕ). Zeros x) (sym (take-none (suc n + m))) tt,
+)
+  where
+    take-none : (k : ℕ) → take {A = ℕ} k [] ≡ []
+    take-none zero = refl
+    take-none (suc k) = refl
+zeros-split (suc n) m (b ∷ t) =
+    let rest = zeros-split n m t in (
+      λ z. (let y = subst (λ (k : ℕ). Zeros (take k (b ∷ t))) step z in let r = rest .0 (y .1) in ((y .0, r .0), r .1)),
+      λ r. subst (λ (k : ℕ). Zeros (take k (b ∷ t))) (sym step) (r .0 .0, rest .1 (r .0 .1, r .1)),
+    )
+  where
+    step : suc n + m ≡ suc (n + m)
+    step = omega arith
+
+zeros-words : (n a : ℕ) (s : List ℕ) → ZerosAt a (4 * n) s ↔ ((i : ℕ) → i < n → wordAt (a + 4 * i) s ≡ 0)
+zeros-words zero a s = (λ z i h. (let no : ⊥ = omega arith in absurd no), λ f. tt)
+zeros-words (suc n) a s =
+    let split = zeros-split 4 (4 * n) (drop a s) in
+    let word = spelled-zero (take 4 (drop a s)) in
+    let rest = zeros-words n (a + 4) s in (
+      λ z.
+          (let (x, y) = split .0 (subst (λ (k : ℕ). Zeros (take k (drop a s))) size z) in
+          at (word .1 x) (rest .0 (subst (λ (t : List ℕ). Zeros (take (4 * n) t)) (drop-drop 4 a s) y))),
+      λ f.
+          subst (λ (k : ℕ). Zeros (take k (drop a s))) (sym size)
+          (split .1 (word .0 (subst (λ (k : ℕ). wordAt k s ≡ 0) start (f 0 (omega arith))), subst (λ (t : List ℕ). Zeros (take (4 * n) t)) (sym (drop-drop 4 a s)) (rest .1 (λ i h. subst (λ (k : ℕ). wordAt k s ≡ 0) (next i) (f (suc i) (omega arith)))))),
+    )
+  where
+    size : 4 * suc n ≡ 4 + 4 * n
+    size = omega arith
+
+    start : a + 4 * 0 ≡ a
+    start = omega arith
+
+    next : (i : ℕ) → a + 4 * suc i ≡ a + 4 + 4 * i
+    next i = omega arith
+
+    at : wordAt a s ≡ 0 → ((i : ℕ) → i < n → wordAt (a + 4 + 4 * i) s ≡ 0) → (i : ℕ) → i < suc n → wordAt (a + 4 * i) s ≡ 0
+    at x f zero h = subst (λ (k : ℕ). wordAt k s ≡ 0) (sym start) x
+    at x f (suc i) h = subst (λ (k : ℕ). wordAt k s ≡ 0) (sym (next i)) (f i (omega arith))
+
+-- A block on which so many are heard.
+pub block-stands : (s : List ℕ) (count a : ℕ) → count ≤ parentLimit → Stands (blockExact count a s) (LaneRight count a s)
+unfolding blockExact
+block-stands s count a few =
+    let words = zeros-words (parentLimit - count) (a + heardAt + 4 * count) s in
+    let heard = stands-as (zero-stands (a + heardAt + 4 * count) (4 * (parentLimit - count)) s) (λ z. words .0 z) (λ f. words .1 f) in
+    stands-as (and-stands (and-stands heard (list-stands s messageExact MessageRight (message-stands s) queueLimit messageSize (a + 24))) (zero-stands (a + 188) 132 s))
+    (λ r. record { heard = λ i l h. subst (λ (k : ℕ). wordAt k s ≡ 0) (there i l) (r .0 .0 (i - count) (omega arith)); queue = r .0 .1; rest = r .1 })
+    (λ r. ((λ i h. subst (λ (k : ℕ). wordAt k s ≡ 0) (back i) (r .heard (count + i) (omega arith) (omega arith)), r .queue), r .rest))
+  where
+    there : (i : ℕ) → count ≤ i → a + heardAt + 4 * count + 4 * (i - count) ≡ a + heardAt + 4 * i
+    there i l = omega arith
+
+    back : (i : ℕ) → a + heardAt + 4 * (count + i) ≡ a + heardAt + 4 * count + 4 * i
+    back i = omega arith
