@@ -9,7 +9,7 @@ use lib.ListN.{length, getD, take, drop, length-take}
 use lib.Dec.{leb, eqb}
 use borrow.Author.Tests.{eq-eqb, eqb-true, le-leb, leb-true}
 use Rattle.plan.specs.Lawful.{Bytes}
-use Rattle.plan.specs.Plan.{Plan, planOf, planSize, planNodes, planChannels, nodeCount, channelCount, channelAt}
+use Rattle.plan.specs.Plan.{Plan, planOf, planBytes, planSize, planNodes, planChannels, nodeCount, channelCount, channelAt}
 use Rattle.plan.specs.Check.{planRefusal, planFits}
 use Rattle.plan.proofs.PlanLaws.{node-count, channel-count}
 use Rattle.plan.proofs.FitsLaws.{fitting}
@@ -19,10 +19,10 @@ use Rattle.rules.specs.Line.{stepLimit, Lane, Line, nodeAt, laneAt, nodeNumbers
 use Rattle.rules.specs.Step.{replaying}
 use Rattle.rules.specs.Damaged.{damaged}
 use Rattle.rules.proofs.Members.{all-in, in-up-to}
-use Rattle.state.specs.Sizes.{stateSize, planArea, pageAt, blockAt, parentLimit, nodePages, laneBlocks}
+use Rattle.state.specs.Sizes.{stateSize, planArea, stepsAt, countSize, stepsRest, pageAt, pageSize, blockAt, blockSize, parentLimit, nodePages, laneBlocks, tailAt, tailSize}
 use Rattle.state.specs.Lane.{laneLayout, cutHeard, heardCount}
 use Rattle.state.specs.State.{lineOf, stateAnswer}
-use Rattle.state.specs.Right.{StateRight, NodeRight, LaneRight}
+use Rattle.state.specs.Right.{ZerosAt, StateRight}
 use Rattle.state.proofs.InPlace.{Counted, line-plan, nodes-counted, lanes-counted, lane-in, blockOf}
 use Rattle.state.proofs.FieldLaws.{heard-four}
 use Rattle.state.proofs.HeardLaws.{heard-few}
@@ -97,3 +97,91 @@ module _ (s : List ℕ) (fits : planFits (planOf s) ≡ true) where
             (b, (λ n h. nodes .0 c n (omega (arith, h, same)), λ k h. channels .0 d k (omega (arith, h, same′))))),
         λ r. rw (p, shaped, r .0, nodes .1 (λ n h. r .1 .0 n (omega (arith, h, same))), channels .1 (λ k h. r .1 .1 k (omega (arith, h, same′)))),
       )
+
+  -- The line is not damaged exactly where it is right.
+  undamaged-stands : Stands (lineRight l) (damaged l ≡ false)
+  undamaged-stands = (λ e. line-items l ∙ ap not e, λ e. not-not (lineRight l) (sym (line-items l) ∙ e))
+    where
+      not-not : (b : Bool) → not b ≡ false → b ≡ true
+      not-not true e = refl
+      not-not false e = absurd (true≢false e)
+
+  -- Bytes and line together, node by node and channel by channel.
+  abbrev Found : Type 0
+  Found = (restExact s ≡ true) × ((leb (l .steps) stepLimit ≡ true) × (((n : ℕ) → n < planNodes s → nodeChecked s n ≡ true) × (((b : ℕ) → b < planChannels s → channelChecked s b ≡ true) × ((n : ℕ) → n < planNodes s → replayPlain l n ≡ true))))
+
+  rest-stands : Stands (restExact s) (((ZerosAt (stepsAt + countSize) stepsRest s × ZerosAt (pageAt (planNodes s)) (pageSize * (nodePages - planNodes s)) s) × ZerosAt (blockAt (planChannels s)) (blockSize * (laneBlocks - planChannels s)) s) × ZerosAt tailAt tailSize s)
+  unfolding restExact
+  rest-stands =
+      and-stands (and-stands (and-stands (zero-stands (stepsAt + countSize) stepsRest s) (zero-stands (pageAt (planNodes s)) (pageSize * (nodePages - planNodes s)) s)) (zero-stands (blockAt (planChannels s)) (blockSize * (laneBlocks - planChannels s)) s))
+      (zero-stands tailAt tailSize s)
+
+  abbrev size : ℕ
+  size = planSize (planNodes s) (planChannels s)
+
+  found-right : planBytes (planOf s) ≡ take size s → ZerosAt size (planArea - size) s → Found → StateRight s × (damaged l ≡ false)
+  unfolding nodeChecked channelChecked
+  found-right bytes behind (rest, (steps, (nodes, (channels, replays)))) =
+      let (((a, b), c), d) = rest-stands .0 rest in
+      let node : (n : ℕ) → n < planNodes s → (pageExact (pageAt n) s ≡ true) × (nodePlain l n ≡ true) = λ n h. both-true (pageExact (pageAt n) s) (nodePlain l n) (nodes n h) in
+      let channel : (k : ℕ) → k < planChannels s → (blockExact (heardCount (planOf s) (channelAt (planOf s) k)) (blockAt k) s ≡ true) × (channelRight l k ≡ true) =
+      λ k h. both-true (blockExact (heardCount (planOf s) (channelAt (planOf s) k)) (blockAt k) s) (channelRight l k) (channels k h) in (
+        record {
+          plan = bytes;
+          planRest = behind;
+          stepsRest = a;
+          node = λ n h. page-stands s (pageAt n) .0 (node n h .0);
+          nodesRest = b;
+          lane = λ k h. block-stands s (heardCount (planOf s) (channelAt (planOf s) k)) (blockAt k) (few-heard k h) .0 (channel k h .0);
+          lanesRest = c;
+          tail = d;
+        },
+        undamaged-stands .0 (line-stands .1 (steps, (λ n h. node-parts l n .1 (node n h .1, replays n h), λ k h. channel k h .1))),
+      )
+
+  right-found : StateRight s × (damaged l ≡ false) → Found
+  unfolding nodeChecked channelChecked
+  right-found (r, e) =
+      let (steps, (nodes, channels)) = line-stands .0 (undamaged-stands .1 e) in (
+        rest-stands .1 (((r .stepsRest, r .nodesRest), r .lanesRest), r .tail),
+        (
+          steps,
+          (
+            λ n h. and-true (page-stands s (pageAt n) .1 (r .node n h)) (node-parts l n .0 (nodes n h) .0),
+            (λ k h. and-true (block-stands s (heardCount (planOf s) (channelAt (planOf s) k)) (blockAt k) (few-heard k h) .1 (r .lane k h)) (channels k h), λ n h. node-parts l n .0 (nodes n h) .1),
+          ),
+        ),
+      )
+    where
+      and-true : {a b : Bool} → a ≡ true → b ≡ true → (a && b) ≡ true
+      and-true {a} {b} x y = rw (x, y)
+
+-- The check's test, taken apart.
+checked-parts : (s : List ℕ) → Stands (stateChecked s)
+    ((((((planExact s ≡ true) × (restExact s ≡ true)) × (leb (lineOf s .steps) stepLimit ≡ true)) × ((n : ℕ) → n < planNodes s → nodeChecked s n ≡ true)) × ((b : ℕ) → b < planChannels s → channelChecked s b ≡ true)) × ((n : ℕ) → n < planNodes s → replayPlain (lineOf s) n ≡ true))
+unfolding stateChecked
+checked-parts s =
+    and-stands (and-stands (and-stands (and-stands (and-stands same same) same) (all-stands (nodeChecked s) (planNodes s))) (all-stands (channelChecked s) (planChannels s))) (all-stands (replayPlain (lineOf s)) (planNodes s))
+  where
+    same : {b : Bool} → Stands b (b ≡ true)
+    same = (λ e. e, λ e. e)
+
+plan-stands : (s : List ℕ) → Stands (planExact s) ((planRefusal (storedPlan s) ≡ 0) × ZerosAt (planSize (planNodes s) (planChannels s)) (planArea - planSize (planNodes s) (planChannels s)) s)
+unfolding planExact
+plan-stands s = and-stands (eqb-stands (planRefusal (storedPlan s)) 0) (zero-stands (planSize (planNodes s) (planChannels s)) (planArea - planSize (planNodes s) (planChannels s)) s)
+
+-- The check finds nothing exactly where the answer is 0.
+pub check-answer : (s : List ℕ) → length s ≡ stateSize → Bytes s → Stands (stateChecked s) (stateAnswer s ≡ 0)
+check-answer s long bytes =
+    let known = state-checked s long bytes in (
+      λ e.
+          (let (((((p, rest), steps), nodes), channels), replays) = checked-parts s .0 e in
+          let (accepted, behind) = plan-stands s .0 p in
+          let (fits, same) = stored-accepted s bytes .0 accepted in
+          known .1 (accepted, found-right s fits same behind (rest, (steps, (nodes, (channels, replays)))))),
+      λ z.
+          (let (accepted, (right, undamaged)) = known .0 z in
+          let (fits, same) = stored-accepted s bytes .0 accepted in
+          let (rest, (steps, (nodes, (channels, replays)))) = right-found s fits (right, undamaged) in
+          checked-parts s .1 (((((plan-stands s .1 (accepted, right .planRest), rest), steps), nodes), channels), replays)),
+    )
