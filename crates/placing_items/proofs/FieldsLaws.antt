@@ -49,15 +49,18 @@ module _ (of : Item → ℕ) (items : List Item) where
       ∙ ap padded (sym (map-append of (take i items) (getD items i d ∷ [])) ∙ ap (map of) (sym (take-suc items i d l))))
 
 -- ---- the arrays
--- One more item, where there is room.
-pub next-item : (items : List Item) (i : ℕ) (d : Item) → i < length items → i < mostItems → withItem (fieldsOf (take i items)) i (getD items i d) ≡ fieldsOf (take (suc i) items)
+first-item : (items : List Item) (i : ℕ) (d : Item) → i < length items → i < mostItems → withItem (fieldsOf (take i items)) i (getD items i d) ≡ fieldsOf (take (suc i) items)
 unfolding fieldsOf
-next-item items i d l m = λ t. record {
+first-item items i d l m = λ t. record {
   rows = next-field (λ (x : Item). x .row) items i d l m t;
   times = next-field (λ (x : Item). x .time) items i d l m t;
   fixed = next-field (λ (x : Item). x .fixed) items i d l m t;
   floors = next-field (λ (x : Item). x .floor) items i d l m t;
 }
+
+-- One more item, where there is room.
+pub next-item : (items : List Item) (i : ℕ) (d : Item) → i < length items → i < mostItems → withItem (fieldsOf (take i items)) i (getD items i d) ≡ fieldsOf (take (i + 1) items)
+next-item items i d l m = let one : suc i ≡ i + 1 = omega arith in first-item items i d l m ∙ ap (λ (k : ℕ). fieldsOf (take k items)) one
 
 -- Once the items or the places end, the first 64 items are in.
 pub all-items : (items : List Item) (i : ℕ) → i ≤ mostItems → i ≤ length items → (length items ≤ i) ⊎ (mostItems ≤ i) → take i items ≡ take mostItems items
