@@ -1,5 +1,5 @@
 -- The items' arrays grow by one item at a time, and give the lists back; so the answer of the arrays is that of the items.
-use Prim.Native.Nat.{ℕ, zero, suc, _+_, _-_, _<_, _≤_}
+use Prim.Native.Nat.{ℕ, suc, _+_, _-_, _<_, _≤_}
 use mathlib.Core.Path.{_≡_, refl, sym, ap, _∙_, subst}
 use mathlib.Core.Logic.{_⊎_, inl, inr}
 use mathlib.Core.Bool.{Bool, true, false, not, _&&_}
@@ -8,14 +8,12 @@ use native.Mathlib.Omega.{arith}
 use native.Mathlib.Decide.{decLe}
 use lib.ListN.{length, getD, set, take, drop, replicate, length-append, length-replicate, length-map}
 use lib.Seq.{take-suc, take-all, take-append-seam, set-append-seam, append-snoc, length-take-le}
-use lib.Dec.{leb}
 use borrow.Author.Tests.{lt-leb}
 use Rattle.placing.specs.Item.{itemsOf}
-use Rattle.placing.specs.Table.{mostItems, boundsFit, tableFits, itemsFit, lengthsAgree, malformed}
+use Rattle.placing.specs.Table.{mostItems, tableFits, lengthsAgree, malformed}
 use Rattle.placing.specs.Answer.{answer, columnsLeft}
-use Rattle.placing.proofs.Promise.{Outcome, promise}
+use Rattle.placing.proofs.Promise.{promise}
 use Rattle.placing_items.specs.declared.Item.{Item}
-use Rattle.placing_items.specs.declared.Fields.{Fields}
 use Rattle.placing_items.specs.Fields.{rowsOf, timesOf, fixedOf, floorsOf, padded, fieldsOf, withItem, Whole, Answered}
 
 -- ---- one list
@@ -106,7 +104,7 @@ module _ (low high : ℕ) (items : List Item) (columns : List ℕ) (number : ℕ
   many-items m e =
       let outcome = promise low high (rowsOf items) (timesOf items) (fixedOf items) (floorsOf items) columns in
       let is : answer low high (rowsOf items) (timesOf items) (fixedOf items) (floorsOf items) columns ≡ 22 =
-          outcome .malformed .1 (too-many low high (rowsOf items) (timesOf items) (fixedOf items) (floorsOf items) (omega (arith, m, length-map items (λ (x : Item). x .row)))) in
+      outcome .malformed .1 (too-many low high (rowsOf items) (timesOf items) (fixedOf items) (floorsOf items) (omega (arith, m, length-map items (λ (x : Item). x .row)))) in
       (e .0 ∙ sym is, e .1 ∙ sym (outcome .refused (λ z. omega (arith, is, z))))
 
   few-items : length items ≤ mostItems → Answered low high (fieldsOf (take mostItems items)) (length items) columns number left → ItemsAnswered

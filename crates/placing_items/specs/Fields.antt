@@ -1,8 +1,10 @@
 -- A slice of items as four lists, one for each field.
 use Prim.Native.Nat.{ℕ, _-_, _<_, _≤_}
-use mathlib.Core.Path.{_≡_}
-use mathlib.Core.List.{List, map, _++_}
+use mathlib.Core.Path.{_≡_, refl, ap}
+use mathlib.Core.List.{List, [], _∷_, map, _++_}
 use lib.ListN.{length, set, take, replicate}
+use Rattle.placing.specs.Item as placing
+use Rattle.placing.specs.Item.{itemsOf}
 use Rattle.placing.specs.Table.{mostItems}
 use Rattle.placing.specs.Answer.{answer, columnsLeft}
 use Rattle.placing_items.specs.declared.Item.{Item}
@@ -19,6 +21,15 @@ fixedOf items = map (λ (x : Item). x .fixed) items
 
 abbrev pub floorsOf : List Item → List ℕ
 floorsOf items = map (λ (x : Item). x .floor) items
+
+-- The item of the placing's definitions with the same fields.
+abbrev pub itemOf : Item → placing.Item
+itemOf x = record { row = x .row; time = x .time; fixed = x .fixed; floor = x .floor }
+
+-- The table that the four lists hold is the items, in their order.
+pub table-is : (items : List Item) → itemsOf (rowsOf items) (timesOf items) (fixedOf items) (floorsOf items) ≡ map itemOf items
+table-is [] = refl
+table-is (x ∷ items) = ap (λ (table : List placing.Item). itemOf x ∷ table) (table-is items)
 
 -- 64 numbers: these, then 0.
 unfoldable pub padded : List ℕ → List ℕ
