@@ -41,16 +41,15 @@ fn no_fields() -> Fields
 }
 
 // An item's fields at place i.
-fn with_item(f: Fields, i: usize, x: Item) -> Fields
+fn with_item(mut f: Fields, i: usize, x: Item) -> Fields
     requires { ⌜ i < mostItems ⌝ }
     ensures { λ r. ⌜ r ≡ withItem f i x ⌝ }
 {
-    let mut g = f;
-    g.rows[i] = x.row;
-    g.times[i] = x.time;
-    g.fixed[i] = x.fixed;
-    g.floors[i] = x.floor;
-    g
+    f.rows[i] = x.row;
+    f.times[i] = x.time;
+    f.fixed[i] = x.fixed;
+    f.floors[i] = x.floor;
+    f
 }
 
 // The fields of the first 64 items.
