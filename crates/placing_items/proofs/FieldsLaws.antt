@@ -6,7 +6,7 @@ use mathlib.Core.Bool.{Bool, true, false, not, _&&_}
 use mathlib.Core.List.{List, [], _∷_, map, _++_, map-append}
 use native.Mathlib.Omega.{arith}
 use native.Mathlib.Decide.{decLe}
-use lib.ListN.{length, getD, set, take, drop, replicate, length-append, length-replicate, length-map}
+use lib.ListN.{length, getD, set, take, replicate, length-append, length-replicate, length-map}
 use lib.Seq.{take-suc, take-all, take-append-seam, set-append-seam, append-snoc, length-take-le}
 use borrow.Author.Tests.{lt-leb}
 use Rattle.placing.specs.Item.{itemsOf}
@@ -14,7 +14,7 @@ use Rattle.placing.specs.Table.{mostItems, tableFits, lengthsAgree, malformed}
 use Rattle.placing.specs.Answer.{answer, columnsLeft}
 use Rattle.placing.proofs.Promise.{promise}
 use Rattle.placing_items.specs.declared.Item.{Item}
-use Rattle.placing_items.specs.Fields.{rowsOf, timesOf, fixedOf, floorsOf, padded, fieldsOf, withItem, Whole, Answered}
+use Rattle.placing_items.specs.Fields.{rowsOf, timesOf, fixedOf, floorsOf, itemOf, table-is, padded, fieldsOf, withItem, Whole, Answered}
 
 -- ---- one list
 pub length-padded : (xs : List ℕ) → length xs ≤ mostItems → length (padded xs) ≡ mostItems
@@ -73,20 +73,17 @@ whole-fields items l = record { rows = of (λ (x : Item). x .row); times = of (�
     of f = length-padded (map f items) (omega (arith, l, length-map items f))
 
 -- ---- the answer
-length-table : (rows times fixed floors : List ℕ) → length (itemsOf rows times fixed floors) ≡ length rows
-length-table [] times fixed floors = refl
-length-table (r ∷ rows) times fixed floors = ap suc (length-table rows (drop 1 times) (drop 1 fixed) (drop 1 floors))
-
--- More than 64 items are malformed, whatever else holds.
 not-fit : (agree : Bool) → not (agree && false) ≡ true
 not-fit true = refl
 not-fit false = refl
 
-too-many : (low high : ℕ) (rows times fixed floors : List ℕ) → mostItems < length rows → malformed low high rows times fixed floors ≡ true
+-- More than 64 items are malformed, whatever else holds.
+too-many : (low high : ℕ) (items : List Item) → mostItems < length items → malformed low high (rowsOf items) (timesOf items) (fixedOf items) (floorsOf items) ≡ true
 unfolding malformed tableFits
-too-many low high rows times fixed floors m =
-    let table = itemsOf rows times fixed floors in
-    rw (lt-leb (length table) mostItems (omega (arith, m, length-table rows times fixed floors))) (not-fit (lengthsAgree rows times fixed floors))
+too-many low high items m =
+    let table = itemsOf (rowsOf items) (timesOf items) (fixedOf items) (floorsOf items) in
+    let long : length table ≡ length items = ap length (table-is items) ∙ length-map items itemOf in
+    rw (lt-leb (length table) mostItems (omega (arith, m, long))) (not-fit (lengthsAgree (rowsOf items) (timesOf items) (fixedOf items) (floorsOf items)))
 
 -- What the arrays give of the first n items is the items' own field.
 own-field : (of : Item → ℕ) (items : List Item) → length items ≤ mostItems → take (length items) (padded (map of (take mostItems items))) ≡ map of items
@@ -104,7 +101,7 @@ module _ (low high : ℕ) (items : List Item) (columns : List ℕ) (number : ℕ
   many-items m e =
       let outcome = promise low high (rowsOf items) (timesOf items) (fixedOf items) (floorsOf items) columns in
       let is : answer low high (rowsOf items) (timesOf items) (fixedOf items) (floorsOf items) columns ≡ 22 =
-      outcome .malformed .1 (too-many low high (rowsOf items) (timesOf items) (fixedOf items) (floorsOf items) (omega (arith, m, length-map items (λ (x : Item). x .row)))) in
+      outcome .malformed .1 (too-many low high items m) in
       (e .0 ∙ sym is, e .1 ∙ sym (outcome .refused (λ z. omega (arith, is, z))))
 
   few-items : length items ≤ mostItems → Answered low high (fieldsOf (take mostItems items)) (length items) columns number left → ItemsAnswered

@@ -231,7 +231,7 @@ module _ {M : Type 1} (𝓤 : URA M) (H : Heap 𝓤) (A : Atoms 𝓤) (W : Given
           tests ! (load ! (from ! (stop !)) (look ! 7 refl))
           -- the test holds: one item more
           (λ held.
-          assigns ! (bin ! (load ! (from ! (stop !)) (look ! 15 refl)) (lit ! tt) (record { fits = (bytes-fit held) })) (from ! (stop !)) (store ! 13 refl (tt, record { fits = (bytes-fit held) })) $
+          assigns ! (bin ! (load ! (from ! (stop !)) (look ! 15 refl)) (lit ! tt) (record { fits = bytes-fit held })) (from ! (stop !)) (store ! 13 refl (tt, record { fits = bytes-fit held })) $
           assigns ! (bin ! (load ! (from ! (fld ! refl (stop !))) (look-in ! 19 (sub ! 0 refl (whole !)))) (load ! (from ! (stop !)) (look ! 13 refl)) tt) (from ! (stop !)) (init ! 5 refl (tt, tt)) $
           rewrite ! 5 (λ (p : ℕ). ‵ (fat fullShare tyPtr l₈ 0 (vptr b p))) (sym (place-is 16 o i)) refl $
           -- the slice is looked into for item i, and shut again
@@ -248,7 +248,7 @@ module _ {M : Type 1} (𝓤 : URA M) (H : Heap 𝓤) (A : Atoms 𝓤) (W : Given
           split ! $ move ! (1 ∷ []) $ use1 W (raw (fact 𝓤 (r ≡ withItem f i item))) (stored 𝓤 H A mem run f i item r) $ heard ! (r ≡ withItem f i item) (λ is. split ! $ drop ! $
           peeks ! F.the-row (Is F.the-row) (shows 𝓤 H A F.the-row) r (w ∷ []) (λ typed.
           land ! (from ! (stop !)) (store ! 17 refl (LL.lawful F.the-type F′.the-laws 𝓤 H A W .typed r _ typed .0)) $
-          assigns-last ! (bin ! (load ! (from ! (stop !)) (look ! 15 refl)) (lit ! tt) (record { fits = (next-fits held) })) (from ! (stop !)) (store ! 15 refl (tt, record { fits = (next-fits held) })) $
+          assigns-last ! (bin ! (load ! (from ! (stop !)) (look ! 15 refl)) (lit ! tt) (record { fits = next-fits held })) (from ! (stop !)) (store ! 15 refl (tt, record { fits = next-fits held })) $
           forget ! 3 refl $ forget ! 5 refl $ forget ! 7 refl $ forget ! 9 refl $ forget ! 11 refl $ forget ! 13 refl $
           rewrite ! 0 (λ (h : Fields). ‵ (Own h w)) (is ∙ next-item ys i past (within held) (few held)) refl $ again ! Nearer At s (i + 1, omega (arith, within held), omega (arith, few held), w) (omega (arith, within held)))))))))
           -- it fails: the loop is left, and f is the result
