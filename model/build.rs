@@ -10,7 +10,7 @@ fn main() {
     let package = env::var("CARGO_MANIFEST_DIR").expect("set by cargo");
     let libraries = Path::new(&package).join(given);
     println!("cargo:rerun-if-env-changed=CEMENTLEDGE_LIB");
-    for library in ["libplacing.a", "libplan.a"] {
+    for library in ["libplacing.a", "libplacing_items.a", "libplan.a"] {
         println!(
             "cargo:rerun-if-changed={}",
             libraries.join(library).display()

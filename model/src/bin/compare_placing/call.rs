@@ -7,6 +7,7 @@ use model::placing::{self, Item};
 use model::random::Random;
 
 use crate::engine::placing_place;
+use crate::items::{placing_place_items, WORDS_OF_AN_ITEM};
 
 /// The first `lent` numbers are passed; the others lie right behind them.
 #[derive(Clone)]
@@ -83,10 +84,12 @@ impl Call {
         (answer, columns)
     }
 
-    /// Calls engine and model. Both answer alike, leave the same columns, and
-    /// the engine changes nothing else in the memory around what it was lent.
+    /// Calls engine and model, and the engine a second time through its slice
+    /// of items, where the slices have one length. All answer alike, leave the
+    /// same columns, and the engine changes nothing else in the memory around
+    /// what it was lent.
     pub fn compare(&self, random: &mut Random) -> Result<(u32, Vec<u32>), String> {
-        let (expected, expected_columns) = self.expected();
+        let expected = self.expected();
         let mut rows = Memory::around(random, &self.rows);
         let mut times = Memory::around(random, &self.times);
         let mut fixed = Memory::around(random, &self.fixed);
@@ -108,32 +111,75 @@ impl Call {
                 self.columns.lent,
             )
         };
+        let inputs = [
+            ("rows", &rows),
+            ("times", &times),
+            ("fixed", &fixed),
+            ("floors", &floors),
+        ];
+        self.hold("four slices", &expected, answer, &columns, &inputs)?;
+        if let Some(items) = self.items() {
+            let mut items = Memory::around(random, &items);
+            let mut columns = Memory::around(random, &self.columns);
+            let answer = unsafe {
+                placing_place_items(
+                    self.low,
+                    self.high,
+                    items.pointer().cast(),
+                    self.rows.lent,
+                    columns.pointer(),
+                    self.columns.lent,
+                )
+            };
+            let inputs = [("items", &items)];
+            self.hold("a slice of items", &expected, answer, &columns, &inputs)?;
+        }
+        Ok(expected)
+    }
+
+    /// The slices as items, one after the other, where they have one length.
+    pub fn items(&self) -> Option<Numbers> {
+        let parts = [&self.rows, &self.times, &self.fixed, &self.floors];
+        if parts.iter().any(|part| part.lent != self.rows.lent) {
+            return None;
+        }
+        let held = parts.iter().map(|part| part.held.len()).min().unwrap_or(0);
+        let words = (0..held).flat_map(|index| parts.map(|part| part.held[index]));
+        Some(Numbers {
+            held: words.collect(),
+            lent: self.rows.lent * WORDS_OF_AN_ITEM,
+        })
+    }
+
+    fn hold(
+        &self,
+        form: &str,
+        (expected, expected_columns): &(u32, Vec<u32>),
+        answer: u32,
+        columns: &Memory,
+        inputs: &[(&str, &Memory)],
+    ) -> Result<(), String> {
         let left = columns.lent(self.columns.lent);
         let told = |what: &str| {
             format!(
-                "{what}\n{self}model  {expected} {expected_columns:?}\nengine {answer} {left:?}"
+                "{form}: {what}\n{self}model  {expected} {expected_columns:?}\nengine {answer} {left:?}"
             )
         };
-        if answer != expected {
+        if answer != *expected {
             return Err(told("answers differ"));
         }
         if left != expected_columns {
             return Err(told("columns differ"));
         }
-        if !columns.unchanged_but(&expected_columns) {
+        if !columns.unchanged_but(expected_columns) {
             return Err(told("memory around the columns changed"));
         }
-        for (name, input) in [
-            ("rows", &rows),
-            ("times", &times),
-            ("fixed", &fixed),
-            ("floors", &floors),
-        ] {
+        for (name, input) in inputs {
             if !input.unchanged_but(&[]) {
                 return Err(told(&format!("memory of or around {name} changed")));
             }
         }
-        Ok((expected, expected_columns))
+        Ok(())
     }
 }
 

@@ -5,6 +5,7 @@
 mod call;
 mod engine;
 mod fault;
+mod items;
 
 use std::process::exit;
 use std::{env, fs};
@@ -29,6 +30,7 @@ const LEAST_CALLS: usize = 1_000;
 struct Run {
     random: Random,
     answers: [usize; 4],
+    calls_with_items: usize,
 }
 
 impl Run {
@@ -41,6 +43,7 @@ impl Run {
             .position(|each| *each == answer)
             .expect("the model gives no other answer");
         self.answers[kind] += 1;
+        self.calls_with_items += usize::from(call.items().is_some());
         (answer, columns)
     }
 
@@ -213,6 +216,7 @@ fn main() {
     let mut run = Run {
         random: Random::new(1),
         answers: [0; 4],
+        calls_with_items: 0,
     };
     let lines = run.kept_vectors(&path);
     run.small_tables();
@@ -230,6 +234,11 @@ fn main() {
     println!(
         "answers: {accepted} of 0, {malformed} of 22, {short_output} of 23, {no_placing} of 24"
     );
+    println!(
+        "{} of the calls also as a slice of items",
+        run.calls_with_items
+    );
+    assert!(run.calls_with_items >= LEAST_CALLS, "too few as items");
     for calls in run.answers {
         assert!(calls >= LEAST_CALLS, "an answer came too seldom");
     }
