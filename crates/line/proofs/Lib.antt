@@ -3,4 +3,4 @@ pub mod BytesLaws
 pub mod StartBytes
 pub mod LoadLaws
 pub mod ExactLaws
-pub mod CheckLaws
+pub mod WholeLaws

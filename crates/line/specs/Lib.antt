@@ -2,4 +2,6 @@
 pub mod Zero
 pub mod Load
 pub mod Exact
-pub mod Check
+pub mod Ready
+pub mod NodeCheck
+pub mod Whole

@@ -31,7 +31,8 @@ use Rattle.state.proofs.AcceptedState.{state-checked}
 use Rattle.items.specs.Items.{nodeRight, channelRight, shapeRight, lineRight, replayRight}
 use Rattle.items.proofs.LineItems.{line-items}
 use Rattle.line.specs.Exact.{pageExact, blockExact}
-use Rattle.line.specs.Check.{planExact, restExact, nodePlain, replayPlain, nodeChecked, channelChecked, stateChecked}
+use Rattle.line.specs.NodeCheck.{nodePlain}
+use Rattle.line.specs.Whole.{planExact, restExact, replayPlain, nodeChecked, channelChecked, stateChecked}
 use Rattle.line.proofs.ExactLaws.{Stands, and-stands, stands-as, leb-stands, eqb-stands, zero-stands, page-stands, block-stands}
 
 -- A test of each of some numbers.

@@ -7,13 +7,14 @@ use lib.Dec.{leb, eqb}
 use Rattle.plan.specs.Plan.{planOf, planSize, planNodes, planChannels, channelAt}
 use Rattle.plan.specs.Check.{planRefusal}
 use Rattle.rules.specs.Lists.{allOf, upTo}
-use Rattle.rules.specs.Line.{stepLimit, Line, nodeAt}
+use Rattle.rules.specs.Line.{stepLimit, Line}
 use Rattle.rules.specs.Step.{replaying}
 use Rattle.state.specs.Sizes.{planArea, stepsAt, countSize, stepsRest, pageAt, pageSize, nodePages, blockAt, blockSize, laneBlocks, tailAt, tailSize}
 use Rattle.state.specs.Lane.{heardCount}
 use Rattle.state.specs.State.{lineOf}
-use Rattle.items.specs.Items.{countsRight, logRight, heldAllRight, targetRight, statusRight, replayRight, channelRight}
+use Rattle.items.specs.Items.{replayRight, channelRight}
 use Rattle.line.specs.Exact.{zeroAt, pageExact, blockExact}
+use Rattle.line.specs.NodeCheck.{nodePlain}
 
 -- The stored plan would not be refused, and nothing stands behind it.
 unfoldable pub planExact : List ℕ → Bool
@@ -27,13 +28,7 @@ restExact s =
     zeroAt (stepsAt + countSize) stepsRest s && zeroAt (pageAt (planNodes s)) (pageSize * (nodePages - planNodes s)) s
     && zeroAt (blockAt (planChannels s)) (blockSize * (laneBlocks - planChannels s)) s && zeroAt tailAt tailSize s
 
--- A node, its replay aside; and its replay.
-unfoldable pub nodePlain : Line → ℕ → Bool
-unfolding countsRight logRight heldAllRight targetRight statusRight
-nodePlain l n =
-    let x = nodeAt l n in
-    countsRight x && leb (x .time) (l .steps) && logRight l n (x .log) && heldAllRight l n (x .held) && allOf (targetRight l n) (x .targets) && statusRight (l .plan) n x
-
+-- What a replay asks of a node.
 unfoldable pub replayPlain : Line → ℕ → Bool
 unfolding replayRight
 replayPlain l n = not (replaying l n) || replayRight l n
