@@ -7,7 +7,7 @@ use native.Mathlib.Omega.{arith}
 use lib.Dec.{lit<}
 use lib.ListN.{length, getD, take, drop, replicate, length-append, length-take, length-drop, length-replicate, replicate-append-replicate, drop-of-length-le, take-append-drop}
 use lib.Seq.{take-at, drop-at, length-take-le, take-take, drop-drop, take-all}
-use Rattle.plan.specs.Layout.{Layout, bytesOf, spelled, number, sumOf, writeFields, readFields, fields, via, pair, zeros, writeSlots, readSlots, slots, upToSlots}
+use Rattle.plan.specs.Layout.{Layout, bytesOf, spelled, number, sumOf, writeFields, readFields, fields, via, pair, zeros, writeSlots, readSlots, slots, upToSlots, padded}
 use Rattle.plan.specs.Lawful.{Bytes, Each, EachSlot, FieldsFit, Zeros, SlotsFit, UpToFit, UpToRight, Lawful}
 use Rattle.plan.proofs.NumberLaws.{length-bytesOf, bytes-bytesOf, spelled-below, number-read, bytes-written}
 use Rattle.plan.proofs.BytesLaws.{bytes-take, bytes-drop, bytes-append, drop-take, each-take}
@@ -139,6 +139,19 @@ zeros-lawful n = record {
   readBack = λ u h. refl;
   writeBack = λ s e h z. zeros-written n s e z;
 }
+
+module _ {A : Type 0} {l : Layout A} {Fits : A → Type 0} {Right : List ℕ → Type 0} where
+  pub padded-lawful : Lawful l Fits Right → (n : ℕ) → Lawful (padded n l) Fits (λ s. Right (take (l .size) s) × Zeros (drop (l .size) s))
+  unfolding padded
+  padded-lawful lawful n =
+      let parts = pair-lawful lawful (zeros-lawful n) in
+      record {
+        sized = λ a. parts .sized (a, tt);
+        bytes = λ a. parts .bytes (a, tt);
+        fits = λ s h. parts .fits s h .0;
+        readBack = λ a h. ap (λ (p : A × Unit {0}). p .0) (parts .readBack (a, tt) (h, tt));
+        writeBack = parts .writeBack;
+      }
 
 -- ---- slots
 

@@ -9,7 +9,7 @@ use lib.Seq.{take-take}
 use Rattle.plan.specs.Layout.{Layout, number, fields, via, pair, zeros, slots, upToSlots, padded}
 use Rattle.plan.specs.Lawful.{FieldsFit, SlotsFit, UpToFit, Lawful}
 use Rattle.plan.proofs.BytesLaws.{drop-take}
-use Rattle.plan.proofs.LayoutLaws.{number-lawful, fields-lawful, fields-front, pair-lawful, zeros-lawful, slots-lawful, slots-front, upTo-lawful}
+use Rattle.plan.proofs.LayoutLaws.{number-lawful, fields-lawful, fields-front, pair-lawful, zeros-lawful, padded-lawful, slots-lawful, slots-front, upTo-lawful}
 use Rattle.state.specs.Sound.{Right, Sound}
 
 -- From a lawful layout, and back.
@@ -53,7 +53,7 @@ module _ {A B : Type 0} {l : Layout B} {FitsB : B → Type 0} (inner : Sound l F
 module _ {A : Type 0} {l : Layout A} {Fits : A → Type 0} (inner : Sound l Fits) where
   pub padded-sound : (n : ℕ) → Sound (padded n l) Fits
   unfolding padded
-  padded-sound n = via-sound (pair-sound inner (zeros-sound n)) (λ a. (a, tt)) (λ p. p .0) (λ a h. (h, tt)) (λ a h. refl) (λ p h. h .0)
+  padded-sound n = sound (padded-lawful (lawful inner) n) (λ s. ap (λ (p : A × Unit {0}). p .0) (pair-sound inner (zeros-sound n) .front s))
 
   pub slots-sound : (n : ℕ) → Sound (slots n l) (SlotsFit n Fits)
   unfolding slots
