@@ -75,7 +75,7 @@ passed l f e =
 not-down : (s : Status) → isDown s ≡ false → s ≢ down
 not-down s e q = true≢false (sym (ap isDown q) ∙ e)
 
-is-down : (s : Status) → isDown s ≡ true → s ≡ down
+pub is-down : (s : Status) → isDown s ≡ true → s ≡ down
 is-down up e = absurd (true≢false (sym e))
 is-down down e = refl
 is-down replay e = absurd (true≢false (sym e))

@@ -49,7 +49,7 @@ up-or-replay replay d = inr refl
 first-again : (b : ℕ) (m : Message) (rest : List Message) (l : Line) → replaying l (receiverOf l b) ≡ true → takenFirst b (m ∷ rest) l ≡ endedIfComplete (receiverOf l b) (takenReplaying b m (takenLane b m rest l))
 first-again b m rest l e = rw (e, takenFirst)
 
-first-up : (b : ℕ) (m : Message) (rest : List Message) (l : Line) → replaying l (receiverOf l b) ≡ false → takenFirst b (m ∷ rest) l ≡ some (takenUp b m (takenLane b m rest l))
+pub first-up : (b : ℕ) (m : Message) (rest : List Message) (l : Line) → replaying l (receiverOf l b) ≡ false → takenFirst b (m ∷ rest) l ≡ some (takenUp b m (takenLane b m rest l))
 first-up b m rest l e = rw (e, takenFirst)
 
 module _ (l : Line) (g : Ghost) (cut base : ℕ → ℕ) (fed : List Act) (receipts : List Receipt) (crashes : List ℕ) (inv : Inv l g cut base fed receipts crashes) where

@@ -17,6 +17,7 @@ use Rattle.rules.specs.Recover.{triple}
 use Rattle.rules.specs.Clock.{raiseHeard, takenFrom}
 use Rattle.rules.specs.Step.{replaying, firstRecord, toHold, takeLacks, madeBy, takenUp, takenLane, takenFirst, takenLine, effect}
 use Rattle.rules.specs.Damaged.{isParent, pastHeard}
+use Rattle.rules.proofs.StepInv.{first-up}
 use Rattle.rules.proofs.Rising.{Rises, more, Within, within-first}
 use Rattle.rules.proofs.Members.{In, here, there, in-map}
 use Rattle.rules.proofs.LineLaws.{lane-there, lane-else}
@@ -43,9 +44,6 @@ triple-else n s t (made q u) d = rw (ne-eqb s n d)
 
 empty-not : {m : Message} {rest : List Message} → [] ≡ m ∷ rest → ⊥
 empty-not q = let z : _≡_ {A = ℕ} 0 1 = cc in omega arith
-
-first-up : (b : ℕ) (m : Message) (rest : List Message) (l : Line) → replaying l (receiverOf l b) ≡ false → takenFirst b (m ∷ rest) l ≡ some (takenUp b m (takenLane b m rest l))
-first-up b m rest l e = rw (e, takenFirst)
 
 -- The sender of a channel is a parent of its receiver.
 pub enters-parent : (p : Plan) (n b : ℕ) → Enters p n b → isParent p n (channelAt p b .sender) ≡ true

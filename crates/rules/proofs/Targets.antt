@@ -88,7 +88,7 @@ module _ (l : Line) (n : ℕ) where
   low-high = least-greatest (childTimes l n)
 
 -- A target in its place: it and those that were there.
-same-target : (t u : Target) → sameTarget t u ≡ true → t ≡ u
+pub same-target : (t u : Target) → sameTarget t u ≡ true → t ≡ u
 same-target t u e =
     let (ab, c) = both-true (eqb (t .time) (u .time) && eqb (t .parent) (u .parent)) (eqb (t .parentTime) (u .parentTime)) e in
     let (a, b) = both-true (eqb (t .time) (u .time)) (eqb (t .parent) (u .parent)) ab in

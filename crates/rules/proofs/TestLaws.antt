@@ -14,11 +14,6 @@ use Rattle.rules.specs.Damaged.{rises, risesTo}
 use Rattle.rules.proofs.Members.{In, here, there, in-none, in-first}
 use Rattle.rules.proofs.Rising.{Rises, none, more, Within, none-in, more-in}
 
--- A test that none passes.
-pub none-of : {A : Type 0} (f : A → Bool) {x : A} {xs : List A} → anyOf f xs ≡ false → In x xs → f x ≡ false
-none-of f {x = x} e (here {xs = xs}) = neither-true (f x) (anyOf f xs) e .0
-none-of f e (there {y = y} {xs = xs} i) = none-of f (neither-true (f y) (anyOf f xs) e .1) i
-
 pub none-by : {A : Type 0} (f : A → Bool) (xs : List A) → ((x : A) → In x xs → f x ≡ false) → anyOf f xs ≡ false
 none-by f [] h = refl
 none-by f (x ∷ xs) h = rw (h x here, none-by f xs (λ y i. h y (there i)))
@@ -91,7 +86,3 @@ is-replay up e = absurd (true≢false (sym e))
 is-replay down e = absurd (true≢false (sym e))
 is-replay replay e = refl
 
-pub is-down : (s : Status) → isDown s ≡ true → s ≡ down
-is-down up e = absurd (true≢false (sym e))
-is-down down e = refl
-is-down replay e = absurd (true≢false (sym e))

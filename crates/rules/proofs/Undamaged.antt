@@ -19,12 +19,13 @@ use Rattle.rules.specs.Recover.{sameTarget, targetsOf, conflict, recover
 use Rattle.rules.specs.Replay.{heldByRow, replayEnd, endedIfComplete}
 use Rattle.rules.specs.Step.{replaying, recoveredLine, recoverGives}
 use Rattle.rules.specs.Damaged.{someNode, someChannel, planBroken, misshapen, workedOn, stepsPast, nodePastLimits, nodeWrongParent, nodeTimePast, nodeTimeZero, nodeMakerWrong, rises, logWrong, pastHeard, pastLane, pastClock, heldWrong, heldNotPassed, markMissing, markOnEnd, sameTargets, replaysAs, replayWrong, nodeHolds, nodeDamaged, channelDamaged, damaged}
+use Rattle.rules.proofs.Targets.{same-target}
 use Rattle.rules.proofs.Rising.{Rises}
-use Rattle.rules.proofs.Members.{In, here, there, in-none, in-first, in-up-to}
+use Rattle.rules.proofs.Members.{In, here, there, in-none, in-first, in-up-to, none-any}
 use Rattle.rules.proofs.Joins.{in-entering, entering-in}
 use Rattle.rules.proofs.Inv.{Shape, Ordered, Enters}
 use Rattle.rules.proofs.PlanOrder.{ordered-channels}
-use Rattle.rules.proofs.TestLaws.{is-replay, none-of, none-by, up-to-in, all-false, unless, by-unless, rises-of, of-rises}
+use Rattle.rules.proofs.TestLaws.{is-replay, none-by, up-to-in, all-false, unless, by-unless, rises-of, of-rises}
 use Rattle.rules.proofs.Standing.{heldTime, Covers, heldFrom, NodeSound, Replays, Sound}
 use Rattle.rules.proofs.Restored.{restoredNode, recovered-is, restored-node, restored-shape, restored-complete, ended-up}
 use Rattle.rules.proofs.UndamagedChannel.{channel-sound, sound-channel}
@@ -59,7 +60,7 @@ module _ (l : Line) (n : ℕ) where
   unfolding pastClock
   clock-of q e i b h =
       covers-of l b (e .origin) (e .before)
-      (none-of (λ (c : ℕ). pastLane l c (e .origin) (e .before)) (none-of (λ (d : Entry). anyOf (λ (c : ℕ). pastLane l c (d .origin) (d .before)) (entering (l .plan) n)) q i) (in-entering (l .plan) n b (h .0) (h .1)))
+      (none-any (λ (c : ℕ). pastLane l c (e .origin) (e .before)) (none-any (λ (d : Entry). anyOf (λ (c : ℕ). pastLane l c (d .origin) (d .before)) (entering (l .plan) n)) q i) (in-entering (l .plan) n b (h .0) (h .1)))
 
   of-clock : ((e : Entry) → In e (workedOn (nodeAt l n)) → (b : ℕ) → Enters (l .plan) n b → Covers (l .plan) b (laneAt l b) (e .origin) (e .before)) → pastClock l n ≡ false
   unfolding pastClock
@@ -71,7 +72,7 @@ module _ (l : Line) (n : ℕ) where
   unfolding heldWrong
   rows-of e b h =
       let row = heldFrom (channelAt (l .plan) b .sender) (nodeAt l n .held) in
-      rises-of heldTime 0 row (not-false (rises 0 (map heldTime row)) (none-of (λ (hs : List Held). not (rises 0 (map heldTime hs))) e (in-rows (nodeAt l n .held) l (in-entering (l .plan) n b (h .0) (h .1)))))
+      rises-of heldTime 0 row (not-false (rises 0 (map heldTime row)) (none-any (λ (hs : List Held). not (rises 0 (map heldTime hs))) e (in-rows (nodeAt l n .held) l (in-entering (l .plan) n b (h .0) (h .1)))))
 
   of-rows : ((b : ℕ) → Enters (l .plan) n b → Rises heldTime 0 (heldFrom (channelAt (l .plan) b .sender) (nodeAt l n .held))) → heldWrong l n ≡ false
   unfolding heldWrong
@@ -80,12 +81,6 @@ module _ (l : Line) (n : ℕ) where
       (λ row i. (let (b, j, q) = rows-in (nodeAt l n .held) l (entering (l .plan) n) i in ap (λ (hs : List Held). not (rises 0 (map heldTime hs))) q ∙ ap not (of-rises heldTime (f b (entering-in (l .plan) n b j)))))
 
 -- Targets in the same order are the same.
-same-target : (t u : Target) → sameTarget t u ≡ true → t ≡ u
-same-target t u e =
-    let (ab, c) = both-true (eqb (t .time) (u .time) && eqb (t .parent) (u .parent)) (eqb (t .parentTime) (u .parentTime)) e in
-    let (a, b) = both-true (eqb (t .time) (u .time)) (eqb (t .parent) (u .parent)) ab in
-    λ i. record { time = eqb-true (t .time) (u .time) a i; parent = eqb-true (t .parent) (u .parent) b i; parentTime = eqb-true (t .parentTime) (u .parentTime) c i }
-
 same-targets : (ts us : List Target) → sameTargets ts us ≡ true → ts ≡ us
 same-targets [] [] e = refl
 same-targets [] (u ∷ us) e = absurd (true≢false (sym e))
@@ -229,7 +224,7 @@ module _ (l : Line) where
         λ b h.
             (let heard = length (laneAt l b .heard) in
             let long = length (parents (l .plan) (senderOf l b)) in
-            eqb-true heard long (not-false (eqb heard long) (none-of wrongLength d (in-up-to 0 (channelCount (l .plan)) b (omega arith) (omega arith))))),
+            eqb-true heard long (not-false (eqb heard long) (none-any wrongLength d (in-up-to 0 (channelCount (l .plan)) b (omega arith) (omega arith))))),
       )
 
   of-shaped : Shape l → ((b : ℕ) → b < channelCount (l .plan) → length (laneAt l b .heard) ≡ length (parents (l .plan) (senderOf l b))) → misshapen l ≡ false
@@ -266,14 +261,14 @@ module _ (l : Line) where
       let fits = fits-plan plan in
       let (shape, long) = shaped shapes in
       let node : (n : ℕ) (h : n < nodeCount (l .plan)) → NodeSound l n × (nodeAt l n .status ≡ replay → Replays l n) =
-      λ n h. node-sound l n (ordered-fit (l .plan) fits) shape h (none-of (nodeDamaged l) nodes (in-up-to 0 (nodeCount (l .plan)) n (omega arith) (omega arith))) in
+      λ n h. node-sound l n (ordered-fit (l .plan) fits) shape h (none-any (nodeDamaged l) nodes (in-up-to 0 (nodeCount (l .plan)) n (omega arith) (omega arith))) in
       record {
         standing = record {
           plan-fits = fits;
           shape = shape;
           steps = steps-within steps;
           nodes = λ n h. node n h .0;
-          channels = λ b h. channel-sound l b (long b h) (none-of (channelDamaged l) channels (in-up-to 0 (channelCount (l .plan)) b (omega arith) (omega arith)));
+          channels = λ b h. channel-sound l b (long b h) (none-any (channelDamaged l) channels (in-up-to 0 (channelCount (l .plan)) b (omega arith) (omega arith)));
         };
         replays = λ n h. node n h .1;
       }

@@ -14,9 +14,10 @@ use Rattle.rules.specs.Lists.{isEmpty, anyOf}
 use Rattle.rules.specs.Line.{queueLimit, Message, down, replay, Lane, Line, nodeAt, laneAt, parents, senderOf, receiverOf, isDown, isReplay}
 use Rattle.rules.specs.Step.{endDown, nodeDown, replaying}
 use Rattle.rules.specs.Damaged.{recordPastLimits, channelPastLimits, notParent, channelWrongParent, originTimes, channelNamedTimes, channelOtherTimes, channelTimePast, channelTimeZero, originWrong, channelMakerWrong, rises, risesTo, queueWrong, marksJoined, channelHolds, channelDamaged}
-use Rattle.rules.proofs.Members.{In, here, there, in-first, in-left, in-right, append-in, in-map, map-in, in-joined, joined-in}
+use Rattle.rules.proofs.Accepted.{is-down}
+use Rattle.rules.proofs.Members.{In, here, there, in-first, in-left, in-right, append-in, in-map, map-in, in-joined, joined-in, none-any}
 use Rattle.rules.proofs.Inv.{timeOf}
-use Rattle.rules.proofs.TestLaws.{is-down, is-replay, none-of, none-by, all-false, unless, by-unless, empty-is, to-of, of-to}
+use Rattle.rules.proofs.TestLaws.{is-replay, none-by, all-false, unless, by-unless, empty-is, to-of, of-to}
 use Rattle.rules.proofs.Standing.{LaneFits, Flows, ChannelSound}
 use Rattle.rules.proofs.UndamagedNode.{origin-fits, fits-parent, fits-maker, fits-times}
 
@@ -32,23 +33,23 @@ module _ (p : Plan) (steps b : ℕ) (s : Lane) where
   unfolding channelPastLimits
   few-messages e =
       let (a, c) = neither-true (ltb queueLimit (length (s .queue))) (anyOf (λ (m : Message). recordPastLimits (m .what)) (s .queue)) e in
-      (ltb-false queueLimit (length (s .queue)) a, λ m i. none-of (λ (m : Message). recordPastLimits (m .what)) c i)
+      (ltb-false queueLimit (length (s .queue)) a, λ m i. none-any (λ (m : Message). recordPastLimits (m .what)) c i)
 
   message-parents : channelWrongParent p b s ≡ false → (m : Message) → In m (s .queue) → notParent p sender (m .origin) ≡ false
   unfolding channelWrongParent
-  message-parents e m i = none-of (λ (m : Message). notParent p sender (m .origin)) e i
+  message-parents e m i = none-any (λ (m : Message). notParent p sender (m .origin)) e i
 
   lane-times : channelTimePast steps s ≡ false → (t : ℕ) → In t (channelNamedTimes s ++ channelOtherTimes s) → t ≤ steps
   unfolding channelTimePast
-  lane-times e t i = ltb-false steps t (none-of (ltb steps) e i)
+  lane-times e t i = ltb-false steps t (none-any (ltb steps) e i)
 
   lane-above : channelTimeZero s ≡ false → (t : ℕ) → In t (channelNamedTimes s) → 0 < t
   unfolding channelTimeZero
-  lane-above e t i = let d = eqb-false 0 t (none-of (eqb 0) e i) in omega arith
+  lane-above e t i = let d = eqb-false 0 t (none-any (eqb 0) e i) in omega arith
 
   message-makers : channelMakerWrong p b s ≡ false → (m : Message) → In m (s .queue) → originWrong p sender (m .origin) ≡ false
   unfolding channelMakerWrong
-  message-makers e m i = none-of (λ (m : Message). originWrong p sender (m .origin)) e i
+  message-makers e m i = none-any (λ (m : Message). originWrong p sender (m .origin)) e i
 
   lane-fits : length (s .heard) ≡ length (parents p sender) → channelPastLimits s ≡ false → channelWrongParent p b s ≡ false → channelTimePast steps s ≡ false → channelTimeZero s ≡ false → channelMakerWrong p b s ≡ false → LaneFits p steps b s
   lane-fits long few parent past zeros maker =
@@ -149,7 +150,7 @@ module _ (l : Line) (b : ℕ) where
         λ q.
             (let (x, y) = both-true (eqb (lane .mark) 0) (isEmpty (lane .queue)) (not-false clean (unless (endDown l b) (not clean) a q)) in
             (eqb-true (lane .mark) 0 x, empty-is (lane .queue) y)),
-        λ q t i. (let z = ltb-false 0 t (none-of (ltb 0) (unless (nodeDown l (receiverOf l b)) (anyOf (ltb 0) heard) c (ap isDown q)) i) in omega arith),
+        λ q t i. (let z = ltb-false 0 t (none-any (ltb 0) (unless (nodeDown l (receiverOf l b)) (anyOf (ltb 0) heard) c (ap isDown q)) i) in omega arith),
         λ q. empty-is (lane .queue) (not-false (isEmpty (lane .queue)) (unless (replaying l (senderOf l b)) (not (isEmpty (lane .queue))) d (ap isReplay q))),
       )
 

@@ -15,9 +15,9 @@ use Rattle.rules.specs.Line.{logLimit, heldLimit, targetLimit, Origin, f
 use Rattle.rules.specs.Replay.{passedOn}
 use Rattle.rules.specs.Damaged.{workedOn, recordPastLimits, nodePastLimits, isParent, notParent, beforeNotParent, nodeWrongParent, originTimes, nodeNamedTimes, nodeOtherTimes, nodeTimePast, nodeTimeZero, originWrong, isFed, beforeWrong, nodeMakerWrong, risesTo, logWrong, heldNotPassed, markMissing, markOnEnd, holdsByStatus, nodeHolds}
 use Rattle.rules.proofs.Rising.{Rises, Within}
-use Rattle.rules.proofs.Members.{In, here, there, in-none, in-first, in-left, in-right, append-in, in-map, map-in, in-joined, joined-in, rises-in, within-in}
+use Rattle.rules.proofs.Members.{In, here, there, in-none, in-first, in-left, in-right, append-in, in-map, map-in, in-joined, joined-in, rises-in, within-in, none-any}
 use Rattle.rules.proofs.InvLaws.{up-not-down, up-not-replay}
-use Rattle.rules.proofs.TestLaws.{none-of, none-by, all-false, unless, by-unless, empty-is, to-of, of-to}
+use Rattle.rules.proofs.TestLaws.{none-by, all-false, unless, by-unless, empty-is, to-of, of-to}
 use Rattle.rules.proofs.Standing.{entryTime, OriginFits, BeforeFits, TargetFits, Empties, NodeFits}
 
 -- Every time that an origin names is above 0 and not past the steps.
@@ -119,26 +119,26 @@ module _ (p : Plan) (steps n : ℕ) (x : Node) where
   counts e =
       let pasts : Bool = anyOf (λ (d : Entry). recordPastLimits (d .what)) (workedOn x) in
       let (a, (b, (c, (d, _)))) = all-false (ltb logLimit (length (x .log))) (ltb heldLimit (length (x .held)) ∷ ltb targetLimit (length (x .targets)) ∷ pasts ∷ []) e in
-      (ltb-false logLimit (length (x .log)) a, ltb-false heldLimit (length (x .held)) b, ltb-false targetLimit (length (x .targets)) c, λ f i. none-of (λ (d : Entry). recordPastLimits (d .what)) d i)
+      (ltb-false logLimit (length (x .log)) a, ltb-false heldLimit (length (x .held)) b, ltb-false targetLimit (length (x .targets)) c, λ f i. none-any (λ (d : Entry). recordPastLimits (d .what)) d i)
 
   named-parents : nodeWrongParent p n x ≡ false → ((e : Entry) → In e (workedOn x) → (notParent p n (e .origin) ≡ false) × (beforeNotParent p (e .origin) (e .before) ≡ false)) × ((t : Target) → In t (x .targets) → isParent p n (t .parent) ≡ true)
   unfolding nodeWrongParent
   named-parents e =
       let wrong : Entry → Bool = λ d. notParent p n (d .origin) || beforeNotParent p (d .origin) (d .before) in
       let (a, b) = neither-true (anyOf wrong (workedOn x)) (anyOf (λ (t : Target). not (isParent p n (t .parent))) (x .targets)) e in
-      (λ f i. neither-true (notParent p n (f .origin)) (beforeNotParent p (f .origin) (f .before)) (none-of wrong a i), λ t i. not-false (isParent p n (t .parent)) (none-of (λ (u : Target). not (isParent p n (u .parent))) b i))
+      (λ f i. neither-true (notParent p n (f .origin)) (beforeNotParent p (f .origin) (f .before)) (none-any wrong a i), λ t i. not-false (isParent p n (t .parent)) (none-any (λ (u : Target). not (isParent p n (u .parent))) b i))
 
   times-in : nodeTimePast steps x ≡ false → (t : ℕ) → In t (nodeNamedTimes x ++ nodeOtherTimes x) → t ≤ steps
   unfolding nodeTimePast
-  times-in e t i = ltb-false steps t (none-of (ltb steps) e i)
+  times-in e t i = ltb-false steps t (none-any (ltb steps) e i)
 
   times-above : nodeTimeZero x ≡ false → (t : ℕ) → In t (nodeNamedTimes x) → 0 < t
   unfolding nodeTimeZero
-  times-above e t i = let d = eqb-false 0 t (none-of (eqb 0) e i) in omega arith
+  times-above e t i = let d = eqb-false 0 t (none-any (eqb 0) e i) in omega arith
 
   makers : nodeMakerWrong p n x ≡ false → (e : Entry) → In e (workedOn x) → (originWrong p n (e .origin) ≡ false) × (beforeWrong p (e .origin) (e .before) ≡ false)
   unfolding nodeMakerWrong
-  makers e f i = neither-true (originWrong p n (f .origin)) (beforeWrong p (f .origin) (f .before)) (none-of (λ (d : Entry). originWrong p n (d .origin) || beforeWrong p (d .origin) (d .before)) e i)
+  makers e f i = neither-true (originWrong p n (f .origin)) (beforeWrong p (f .origin) (f .before)) (none-any (λ (d : Entry). originWrong p n (d .origin) || beforeWrong p (d .origin) (d .before)) e i)
 
   log-rises : logWrong x ≡ false → Rises entryTime 0 (x .log) × Within entryTime (x .time) (x .log)
   unfolding logWrong
@@ -146,7 +146,7 @@ module _ (p : Plan) (steps n : ℕ) (x : Node) where
 
   all-passed : heldNotPassed p n x ≡ false → (h : Held) → In h (x .held) → passedOn p n (h .what) ≡ true
   unfolding heldNotPassed
-  all-passed e h i = not-false (passedOn p n (h .what)) (none-of (λ (k : Held). not (passedOn p n (k .what))) e i)
+  all-passed e h i = not-false (passedOn p n (h .what)) (none-any (λ (k : Held). not (passedOn p n (k .what))) e i)
 
   marks : markMissing x ≡ false → x .crashed ≡ false → x .status ≡ up
   unfolding markMissing
