@@ -85,4 +85,3 @@ pub is-replay : (s : Status) → isReplay s ≡ true → s ≡ replay
 is-replay up e = absurd (true≢false (sym e))
 is-replay down e = absurd (true≢false (sym e))
 is-replay replay e = refl
-
