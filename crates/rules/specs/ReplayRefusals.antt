@@ -8,6 +8,7 @@ use Rattle.plan.specs.declared.Rule.the-variants.{Keep, Relabel}
 use Rattle.plan.specs.Plan.{Plan}
 use Rattle.rules.specs.Lists.{upTo, joined}
 use Rattle.rules.specs.Line.{fed, made, Message, Entry, Held, Target, Status, up, down, replay, Node, Lane, Line, nodeAt, laneAt, initialLine}
+use Rattle.rules.specs.Recover.{sortTargets}
 use Rattle.rules.specs.Step.{step}
 use Rattle.rules.specs.Damaged.{damaged}
 use Rattle.rules.specs.Claim.{Story, startOf, storyFrom, told}
@@ -51,9 +52,13 @@ sameTime = line Keep (around downNode (upNode 2 (entry 1 2 0 1 ∷ entry 2 2 0 2
 abbrev sameInput : Line
 sameInput = line Keep (around downNode (upNode 2 (entry 1 1 0 1 ∷ entry 2 2 0 1 ∷ [])) (upNode 0 []) (upNode 0 [])) (none ∷ none ∷ lane 0 2 (1 ∷ 0 ∷ []) [] ∷ lane 0 0 (0 ∷ 0 ∷ []) [] ∷ lane 0 0 (0 ∷ 0 ∷ []) [] ∷ [])
 
+-- the last two of three: one time two inputs; one input two times
+abbrev lastTwo : ℕ → ℕ → Line
+lastTwo b u = line Keep (around downNode (upNode 3 (entry 1 1 0 1 ∷ entry 2 2 0 2 ∷ entry 3 b 0 u ∷ [])) (upNode 0 []) (upNode 0 [])) (none ∷ none ∷ lane 0 3 (3 ∷ 0 ∷ []) [] ∷ lane 0 0 (0 ∷ 0 ∷ []) [] ∷ lane 0 0 (0 ∷ 0 ∷ []) [] ∷ [])
+
 -- the same time of different parents is no conflict
-abbrev twoParents : Line
-twoParents = line Keep (around downNode (upNode 2 (entry 1 1 0 1 ∷ entry 2 2 1 1 ∷ [])) (upNode 0 []) (upNode 0 [])) (none ∷ none ∷ lane 0 2 (1 ∷ 1 ∷ []) [] ∷ lane 0 0 (0 ∷ 0 ∷ []) [] ∷ lane 0 0 (0 ∷ 0 ∷ []) [] ∷ [])
+abbrev twoParents : ℕ → ℕ → Line
+twoParents a c = line Keep (around downNode (upNode 2 (entry 1 1 a 1 ∷ entry 2 2 c 1 ∷ [])) (upNode 0 []) (upNode 0 [])) (none ∷ none ∷ lane 0 2 (1 ∷ 1 ∷ []) [] ∷ lane 0 0 (0 ∷ 0 ∷ []) [] ∷ lane 0 0 (0 ∷ 0 ∷ []) [] ∷ [])
 
 abbrev atOnce : Line
 atOnce = line Keep (around downNode (upNode 1 (entry 1 2 0 3 ∷ [])) (upNode 1 (entry 1 1 0 5 ∷ [])) (upNode 0 [])) (none ∷ none ∷ lane 0 2 (3 ∷ 0 ∷ []) [] ∷ lane 0 1 (5 ∷ 0 ∷ []) [] ∷ lane 0 1 (0 ∷ 0 ∷ []) [] ∷ [])
@@ -65,9 +70,12 @@ noTarget = line Keep (around downNode (upNode 1 (entry 1 1 0 3 ∷ [])) (upNode 
 abbrev goals : List Target
 goals = record { time = 2; parent = 0; parentTime = 1 } ∷ []
 
--- node 2 replays for the target (2, 0, 1); what comes first on the channel from 0
+-- node 2 replays for the target (2, 0, 1); its entry for 1; what it holds, and what comes first on the channel from 0
+abbrev waitsAt : ℕ → Rule → List Held → Message → Line
+waitsAt t r hs m = line r (around (replays 0 hs goals) (upNode 1 (entry 1 2 0 1 ∷ [])) (upNode 0 []) (upNode 0 [])) (lane 9 0 [] (m ∷ []) ∷ lane t t [] [] ∷ lane 2 2 (1 ∷ 0 ∷ []) [] ∷ lane 0 0 (0 ∷ 0 ∷ []) [] ∷ lane 0 0 (0 ∷ 0 ∷ []) [] ∷ [])
+
 abbrev waits : Rule → List Held → Message → Line
-waits r hs m = line r (around (replays 0 hs goals) (upNode 1 (entry 1 2 0 1 ∷ [])) (upNode 0 []) (upNode 0 [])) (lane 9 0 [] (m ∷ []) ∷ none ∷ lane 2 2 (1 ∷ 0 ∷ []) [] ∷ lane 0 0 (0 ∷ 0 ∷ []) [] ∷ lane 0 0 (0 ∷ 0 ∷ []) [] ∷ [])
+waits = waitsAt 0
 
 abbrev message : ℕ → ℕ → Message
 message material t = record { what = piece 1 material; time = t; origin = fed }
@@ -93,8 +101,12 @@ abbrev heldFrom : ℕ → ℕ → List Held
 heldFrom zero t = []
 heldFrom (suc n) t = record { what = piece 1 1; sender = 1; time = suc t; before = fed } ∷ heldFrom n (suc t)
 
-abbrev full : ℕ → Line
-full material = line Keep (around (replays 0 (heldFrom 64 0) (record { time = 9; parent = 0; parentTime = 70 } ∷ record { time = 10; parent = 1; parentTime = 66 } ∷ [])) (upNode 2 (entry 1 9 0 70 ∷ entry 2 10 1 66 ∷ [])) (upNode 0 []) (upNode 0 [])) (lane 70 0 [] (message material 4 ∷ []) ∷ lane 64 64 [] [] ∷ lane 10 10 (70 ∷ 66 ∷ []) [] ∷ lane 0 0 (0 ∷ 0 ∷ []) [] ∷ lane 0 0 (0 ∷ 0 ∷ []) [] ∷ [])
+abbrev full : Rule → ℕ → Line
+full r material = line r (around (replays 0 (heldFrom 64 0) (record { time = 9; parent = 0; parentTime = 70 } ∷ record { time = 10; parent = 1; parentTime = 66 } ∷ [])) (upNode 2 (entry 1 9 0 70 ∷ entry 2 10 1 66 ∷ [])) (upNode 0 []) (upNode 0 [])) (lane 70 0 [] (message material 4 ∷ []) ∷ lane 64 64 [] [] ∷ lane 10 10 (70 ∷ 66 ∷ []) [] ∷ lane 0 0 (0 ∷ 0 ∷ []) [] ∷ lane 0 0 (0 ∷ 0 ∷ []) [] ∷ [])
+
+-- the same, but no target from node 0
+abbrev fullOther : Line
+fullOther = line Keep (around (replays 0 (heldFrom 64 0) (record { time = 10; parent = 1; parentTime = 66 } ∷ [])) (upNode 1 (entry 1 10 1 66 ∷ [])) (upNode 0 []) (upNode 0 [])) (lane 70 0 [] (message 1 4 ∷ []) ∷ lane 64 64 [] [] ∷ lane 10 10 (0 ∷ 66 ∷ []) [] ∷ lane 0 0 (0 ∷ 0 ∷ []) [] ∷ lane 0 0 (0 ∷ 0 ∷ []) [] ∷ [])
 
 -- an up router with a full log
 abbrev ownFrom : ℕ → ℕ → List Entry
@@ -119,14 +131,25 @@ gives l f =
     let a = step l f in
     bit (damaged l) ∷ a .number ∷ bit (damaged (a .line)) ∷ statusNumber (nodeAt (a .line) 2 .status) ∷ nodeAt (a .line) 2 .time ∷ map (λ (e : Entry). e .time) (nodeAt (a .line) 2 .log)
 
-recover-answers : map (λ (l : Line). gives l (frame 5 2)) (sameTime ∷ sameInput ∷ twoParents ∷ atOnce ∷ noTarget ∷ many 24 ∷ many 25 ∷ manyMixed ∷ [])
-    ≡ (0 ∷ 24 ∷ 0 ∷ 1 ∷ 0 ∷ []) ∷ (0 ∷ 24 ∷ 0 ∷ 1 ∷ 0 ∷ []) ∷ (0 ∷ 0 ∷ 0 ∷ 2 ∷ 0 ∷ []) ∷ (0 ∷ 24 ∷ 0 ∷ 1 ∷ 0 ∷ []) ∷ (0 ∷ 0 ∷ 0 ∷ 0 ∷ 1 ∷ []) ∷ (0 ∷ 0 ∷ 0 ∷ 2 ∷ 0 ∷ []) ∷ (0 ∷ 21 ∷ 0 ∷ 1 ∷ 0 ∷ []) ∷ (0 ∷ 21 ∷ 0 ∷ 1 ∷ 0 ∷ []) ∷ []
+recover-answers : map (λ (l : Line). gives l (frame 5 2)) (sameTime ∷ sameInput ∷ lastTwo 2 3 ∷ lastTwo 3 2 ∷ twoParents 0 1 ∷ atOnce ∷ noTarget ∷ many 24 ∷ many 25 ∷ manyMixed ∷ [])
+    ≡ (0 ∷ 24 ∷ 0 ∷ 1 ∷ 0 ∷ []) ∷ (0 ∷ 24 ∷ 0 ∷ 1 ∷ 0 ∷ []) ∷ (0 ∷ 24 ∷ 0 ∷ 1 ∷ 0 ∷ []) ∷ (0 ∷ 24 ∷ 0 ∷ 1 ∷ 0 ∷ []) ∷ (0 ∷ 0 ∷ 0 ∷ 2 ∷ 0 ∷ []) ∷ (0 ∷ 24 ∷ 0 ∷ 1 ∷ 0 ∷ []) ∷ (0 ∷ 0 ∷ 0 ∷ 0 ∷ 1 ∷ []) ∷ (0 ∷ 0 ∷ 0 ∷ 2 ∷ 0 ∷ []) ∷ (0 ∷ 21 ∷ 0 ∷ 1 ∷ 0 ∷ []) ∷ (0 ∷ 21 ∷ 0 ∷ 1 ∷ 0 ∷ []) ∷ []
 unfolding gives
 recover-answers = refl
 
--- time skipped; target dropped; rule keeps it from being dropped (relabel 3 to 1); no placing; held list full: 21; dropped needs no space; log full
-take-answers : map (λ (l : Line). gives l (frame 3 0)) (waits Keep [] (message 1 5) ∷ waits Keep [] (message 3 1) ∷ waits (Relabel 3 1) [] (message 3 1) ∷ waits (Relabel 1 1) [] (message 1 1) ∷ tight ∷ full 1 ∷ full 3 ∷ fullLog ∷ [])
-    ≡ (0 ∷ 24 ∷ 0 ∷ 2 ∷ 0 ∷ []) ∷ (0 ∷ 24 ∷ 0 ∷ 2 ∷ 0 ∷ []) ∷ (0 ∷ 0 ∷ 0 ∷ 0 ∷ 2 ∷ 2 ∷ []) ∷ (0 ∷ 0 ∷ 0 ∷ 0 ∷ 2 ∷ 2 ∷ []) ∷ (0 ∷ 24 ∷ 0 ∷ 2 ∷ 0 ∷ []) ∷ (0 ∷ 21 ∷ 0 ∷ 2 ∷ 0 ∷ []) ∷ (0 ∷ 0 ∷ 0 ∷ 2 ∷ 0 ∷ []) ∷ (0 ∷ 21 ∷ 0 ∷ 0 ∷ 64 ∷ upTo 1 64) ∷ []
+-- targets are stored by B-time, then parent, then the parent's time, each once
+abbrev target : ℕ → ℕ → ℕ → Target
+target t a u = record { time = t; parent = a; parentTime = u }
+
+stored-by-time : nodeAt (step (twoParents 1 0) (frame 5 2) .line) 2 .targets ≡ target 1 1 1 ∷ target 2 0 1 ∷ []
+unfolding step
+stored-by-time = refl
+
+stored-order : sortTargets [] (target 2 1 1 ∷ target 2 0 3 ∷ target 3 0 1 ∷ target 2 0 1 ∷ target 1 1 1 ∷ target 2 0 3 ∷ []) ≡ target 1 1 1 ∷ target 2 0 1 ∷ target 2 0 3 ∷ target 2 1 1 ∷ target 3 0 1 ∷ []
+stored-order = refl
+
+-- time skipped; target dropped, the same time held of another parent or not; rule keeps it from being dropped (relabel 3 to 1); no placing; held list full: 21; dropped needs no space; both by the record after the rule; 20 before 21; log full
+take-answers : map (λ (l : Line). gives l (frame 3 0)) (waits Keep [] (message 1 5) ∷ waits Keep [] (message 3 1) ∷ waitsAt 1 Keep (record { what = piece 4 2; sender = 1; time = 1; before = fed } ∷ []) (message 3 1) ∷ waits (Relabel 3 1) [] (message 3 1) ∷ waits (Relabel 1 1) [] (message 1 1) ∷ tight ∷ full Keep 1 ∷ full Keep 3 ∷ full (Relabel 3 1) 3 ∷ full (Relabel 1 3) 1 ∷ fullOther ∷ fullLog ∷ [])
+    ≡ (0 ∷ 24 ∷ 0 ∷ 2 ∷ 0 ∷ []) ∷ (0 ∷ 24 ∷ 0 ∷ 2 ∷ 0 ∷ []) ∷ (0 ∷ 24 ∷ 0 ∷ 2 ∷ 0 ∷ []) ∷ (0 ∷ 0 ∷ 0 ∷ 0 ∷ 2 ∷ 2 ∷ []) ∷ (0 ∷ 0 ∷ 0 ∷ 0 ∷ 2 ∷ 2 ∷ []) ∷ (0 ∷ 24 ∷ 0 ∷ 2 ∷ 0 ∷ []) ∷ (0 ∷ 21 ∷ 0 ∷ 2 ∷ 0 ∷ []) ∷ (0 ∷ 0 ∷ 0 ∷ 2 ∷ 0 ∷ []) ∷ (0 ∷ 21 ∷ 0 ∷ 2 ∷ 0 ∷ []) ∷ (0 ∷ 0 ∷ 0 ∷ 2 ∷ 0 ∷ []) ∷ (0 ∷ 20 ∷ 0 ∷ 2 ∷ 0 ∷ []) ∷ (0 ∷ 21 ∷ 0 ∷ 0 ∷ 64 ∷ upTo 1 64) ∷ []
 unfolding gives
 take-answers = refl
 
@@ -142,11 +165,22 @@ floor-decides : logNumbers (nodeAt (floorStory .line) 2 .log) ≡ 1 ∷ 1 ∷ 3 
 unfolding floorStory
 floor-decides = refl
 
+-- 0 to 1 to 2, 2 to 3 and 4; 0 to 1 takes no material 3. Node 2 replays the message that 1 made at 1 from 0's at 2: its log entry keeps both.
+unfoldable pub keptStory : Story
+unfolding initialLine told
+keptStory =
+    storyFrom (startOf (initialLine (record { rules = Keep ∷ Keep ∷ Keep ∷ Keep ∷ Keep ∷ []; channels = channel 0 1 2 ∷ channel 1 2 2 ∷ channel 2 3 2 ∷ channel 2 4 2 ∷ [] })))
+    (feedFrame 0 1 3 ∷ feedFrame 0 1 1 ∷ (joined (map moved (0 ∷ 1 ∷ 2 ∷ [])) ++ frame 4 2 ∷ frame 5 2 ∷ moved 1))
+
+before-is-kept : nodeAt (keptStory .line) 2 .log ≡ record { what = piece 1 1; time = 1; origin = made 1 1; before = made 0 2 } ∷ []
+unfolding keptStory
+before-is-kept = refl
+
 -- a crash of the replaying node
 unfoldable pub again : List ℕ
 unfolding step damaged
 again =
-    let a = step (full 1) (frame 4 2) in
+    let a = step (full Keep 1) (frame 4 2) in
     a .number ∷ bit (damaged (a .line)) ∷ statusNumber (nodeAt (a .line) 2 .status) ∷ nodeAt (a .line) 2 .time ∷ laneAt (a .line) 0 .mark ∷ laneAt (a .line) 1 .taken ∷ laneAt (a .line) 2 .mark ∷ laneAt (a .line) 2 .taken ∷ laneAt (a .line) 2 .heard
 
 replaying-node-crashes : again ≡ 0 ∷ 0 ∷ 1 ∷ 0 ∷ 0 ∷ 0 ∷ 0 ∷ 10 ∷ 70 ∷ 66 ∷ []
