@@ -1,5 +1,5 @@
 -- Refusals 21 and 24 of a replay, on undamaged lines that no sheet is known to lead to, and a floor that decides. Each row has damaged before, the answer, damaged after, and node 2's status, time and logged times.
-use Prim.Native.Nat.{ℕ, zero, suc}
+use Prim.Native.Nat.{ℕ, zero, suc, _+_}
 use mathlib.Core.Path.{_≡_, refl}
 use mathlib.Core.Bool.{Bool, true, false}
 use mathlib.Core.List.{List, [], _∷_, _++_, map}
@@ -13,7 +13,7 @@ use Rattle.rules.specs.Step.{step}
 use Rattle.rules.specs.Damaged.{damaged}
 use Rattle.rules.specs.Claim.{Story, startOf, storyFrom, told}
 use Rattle.rules.specs.Marked.{channel, feedFrame, frame, moved, logNumbers}
-use Rattle.rules.specs.DamagedLines.{piece}
+use Rattle.rules.specs.DamagedLines.{piece, target, met, deepBegun}
 
 -- 0 and 1 to 2, which has a rule; 2 sends material 1 to 3, materials 1 and 2 to 4, material 2 to 5
 abbrev plan : Rule → Plan
@@ -68,7 +68,7 @@ abbrev noTarget : Line
 noTarget = line Keep (around downNode (upNode 1 (entry 1 1 0 3 ∷ [])) (upNode 1 (entry 1 1 0 5 ∷ [])) (upNode 0 [])) (none ∷ none ∷ lane 0 7 (3 ∷ 0 ∷ []) [] ∷ lane 0 1 (5 ∷ 0 ∷ []) [] ∷ lane 0 2 (0 ∷ 0 ∷ []) [] ∷ [])
 
 abbrev goals : List Target
-goals = record { time = 2; parent = 0; parentTime = 1 } ∷ []
+goals = target 2 0 1 ∷ []
 
 -- node 2 replays for the target (2, 0, 1); its entry for 1; what it holds, and what comes first on the channel from 0
 abbrev waitsAt : ℕ → Rule → List Held → Message → Line
@@ -82,7 +82,7 @@ message material t = record { what = piece 1 material; time = t; origin = fed }
 
 -- no placing: time 1 free before time 2 at column 1
 abbrev tight : Line
-tight = line Keep (around (replays 0 (record { what = piece 5 2; sender = 0; time = 1; before = fed } ∷ []) (record { time = 1; parent = 0; parentTime = 2 } ∷ [])) (upNode 1 (entry 1 1 0 2 ∷ [])) (upNode 0 []) (upNode 0 [])) (lane 9 1 [] (message 1 2 ∷ []) ∷ none ∷ lane 1 1 (2 ∷ 0 ∷ []) [] ∷ lane 0 0 (0 ∷ 0 ∷ []) [] ∷ lane 0 0 (0 ∷ 0 ∷ []) [] ∷ [])
+tight = line Keep (around (replays 0 (record { what = piece 5 2; sender = 0; time = 1; before = fed } ∷ []) (target 1 0 2 ∷ [])) (upNode 1 (entry 1 1 0 2 ∷ [])) (upNode 0 []) (upNode 0 [])) (lane 9 1 [] (message 1 2 ∷ []) ∷ none ∷ lane 1 1 (2 ∷ 0 ∷ []) [] ∷ lane 0 0 (0 ∷ 0 ∷ []) [] ∷ lane 0 0 (0 ∷ 0 ∷ []) [] ∷ [])
 
 -- so many targets over children 3 and 4
 abbrev entriesFrom : ℕ → ℕ → ℕ → List Entry
@@ -91,6 +91,10 @@ entriesFrom (suc n) t b = entry (suc t) b 0 b ∷ entriesFrom n (suc t) (suc b)
 
 abbrev many : ℕ → Line
 many n = line Keep (around downNode (upNode 40 (entriesFrom 40 0 1)) (upNode n (entriesFrom n 0 41)) (upNode 0 [])) (none ∷ none ∷ lane 0 100 (100 ∷ 0 ∷ []) [] ∷ lane 0 100 (100 ∷ 0 ∷ []) [] ∷ lane 0 0 (0 ∷ 0 ∷ []) [] ∷ [])
+
+-- node 2 replaying for them
+abbrev manyReplaying : ℕ → Line
+manyReplaying n = line Keep (around (replays 0 [] (map (λ (t : ℕ). target t 0 t) (upTo 1 (40 + n)))) (upNode 40 (entriesFrom 40 0 1)) (upNode n (entriesFrom n 0 41)) (upNode 0 [])) (none ∷ none ∷ lane 100 100 (100 ∷ 0 ∷ []) [] ∷ lane 100 100 (100 ∷ 0 ∷ []) [] ∷ lane 0 0 (0 ∷ 0 ∷ []) [] ∷ [])
 
 -- over 64 and in conflict
 abbrev manyMixed : Line
@@ -102,11 +106,11 @@ heldFrom zero t = []
 heldFrom (suc n) t = record { what = piece 1 1; sender = 1; time = suc t; before = fed } ∷ heldFrom n (suc t)
 
 abbrev full : Rule → ℕ → Line
-full r material = line r (around (replays 0 (heldFrom 64 0) (record { time = 9; parent = 0; parentTime = 70 } ∷ record { time = 10; parent = 1; parentTime = 66 } ∷ [])) (upNode 2 (entry 1 9 0 70 ∷ entry 2 10 1 66 ∷ [])) (upNode 0 []) (upNode 0 [])) (lane 70 0 [] (message material 4 ∷ []) ∷ lane 64 64 [] [] ∷ lane 10 10 (70 ∷ 66 ∷ []) [] ∷ lane 0 0 (0 ∷ 0 ∷ []) [] ∷ lane 0 0 (0 ∷ 0 ∷ []) [] ∷ [])
+full r material = line r (around (replays 0 (heldFrom 64 0) (target 9 0 70 ∷ target 10 1 66 ∷ [])) (upNode 2 (entry 1 9 0 70 ∷ entry 2 10 1 66 ∷ [])) (upNode 0 []) (upNode 0 [])) (lane 70 0 [] (message material 4 ∷ []) ∷ lane 64 64 [] [] ∷ lane 10 10 (70 ∷ 66 ∷ []) [] ∷ lane 0 0 (0 ∷ 0 ∷ []) [] ∷ lane 0 0 (0 ∷ 0 ∷ []) [] ∷ [])
 
 -- the same, but no target from node 0
 abbrev fullOther : Line
-fullOther = line Keep (around (replays 0 (heldFrom 64 0) (record { time = 10; parent = 1; parentTime = 66 } ∷ [])) (upNode 1 (entry 1 10 1 66 ∷ [])) (upNode 0 []) (upNode 0 [])) (lane 70 0 [] (message 1 4 ∷ []) ∷ lane 64 64 [] [] ∷ lane 10 10 (0 ∷ 66 ∷ []) [] ∷ lane 0 0 (0 ∷ 0 ∷ []) [] ∷ lane 0 0 (0 ∷ 0 ∷ []) [] ∷ [])
+fullOther = line Keep (around (replays 0 (heldFrom 64 0) (target 10 1 66 ∷ [])) (upNode 1 (entry 1 10 1 66 ∷ [])) (upNode 0 []) (upNode 0 [])) (lane 70 0 [] (message 1 4 ∷ []) ∷ lane 64 64 [] [] ∷ lane 10 10 (0 ∷ 66 ∷ []) [] ∷ lane 0 0 (0 ∷ 0 ∷ []) [] ∷ lane 0 0 (0 ∷ 0 ∷ []) [] ∷ [])
 
 -- an up router with a full log
 abbrev ownFrom : ℕ → ℕ → List Entry
@@ -136,10 +140,12 @@ recover-answers : map (λ (l : Line). gives l (frame 5 2)) (sameTime ∷ sameInp
 unfolding gives
 recover-answers = refl
 
--- targets are stored by B-time, then parent, then the parent's time, each once
-abbrev target : ℕ → ℕ → ℕ → Target
-target t a u = record { time = t; parent = a; parentTime = u }
+-- "what Recover would give": of 65 targets 21, and so a line that replays for them is damaged, by their number too
+past-the-targets : map met (manyReplaying 24 ∷ manyReplaying 25 ∷ []) ≡ [] ∷ (4 ∷ 15 ∷ []) ∷ []
+unfolding met
+past-the-targets = refl
 
+-- targets are stored by B-time, then parent, then the parent's time, each once
 stored-by-time : nodeAt (step (twoParents 1 0) (frame 5 2) .line) 2 .targets ≡ target 1 1 1 ∷ target 2 0 1 ∷ []
 unfolding step
 stored-by-time = refl
@@ -165,12 +171,10 @@ floor-decides : logNumbers (nodeAt (floorStory .line) 2 .log) ≡ 1 ∷ 1 ∷ 3 
 unfolding floorStory
 floor-decides = refl
 
--- 0 to 1 to 2, 2 to 3 and 4; 0 to 1 takes no material 3. Node 2 replays the message that 1 made at 1 from 0's at 2: its log entry keeps both.
+-- Node 2 replays the message that 1 made at 1 from 0's at 2: its log entry keeps both.
 unfoldable pub keptStory : Story
-unfolding initialLine told
-keptStory =
-    storyFrom (startOf (initialLine (record { rules = Keep ∷ Keep ∷ Keep ∷ Keep ∷ Keep ∷ []; channels = channel 0 1 2 ∷ channel 1 2 2 ∷ channel 2 3 2 ∷ channel 2 4 2 ∷ [] })))
-    (feedFrame 0 1 3 ∷ feedFrame 0 1 1 ∷ (joined (map moved (0 ∷ 1 ∷ 2 ∷ [])) ++ frame 4 2 ∷ frame 5 2 ∷ moved 1))
+unfolding deepBegun told
+keptStory = storyFrom deepBegun (moved 1)
 
 before-is-kept : nodeAt (keptStory .line) 2 .log ≡ record { what = piece 1 1; time = 1; origin = made 1 1; before = made 0 2 } ∷ []
 unfolding keptStory
