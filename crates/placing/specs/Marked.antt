@@ -1,7 +1,8 @@
--- The marked sheets P3 to P8 of document 01, one case each, and one of ours.
-use Prim.Native.Nat.{ℕ}
+-- The marked sheets P3 to P8 of document 01, one case each; its examples of 22, 23 and 24; one of ours.
+use Prim.Native.Nat.{ℕ, zero, suc}
 use mathlib.Core.Path.{_≡_, refl}
-use mathlib.Core.List.{List, [], _∷_, map}
+use mathlib.Core.List.{List, [], _∷_, _++_, map}
+use lib.ListN.{replicate}
 use Rattle.placing.specs.Item.{Item}
 use Rattle.placing.specs.Answer.{answer, columnsLeft, unplaceable, chosenColumns}
 use Rattle.placing.specs.Table.{malformed, lengthsAgree, tableFits, boundsFit, itemFits, fixedFits, comesAfter}
@@ -50,6 +51,31 @@ marked =
     ∷ case 4 4 (free 0 1 0 ∷ []) (9 ∷ []) 24 (9 ∷ [])
     ∷ []
 
+-- So many free items of row 0, at times from t on, and so many columns from t on.
+abbrev freeFrom : ℕ → ℕ → List Item
+freeFrom zero t = []
+freeFrom (suc n) t = free 0 t 0 ∷ freeFrom n (suc t)
+
+abbrev columnsFrom : ℕ → ℕ → List ℕ
+columnsFrom zero t = []
+columnsFrom (suc n) t = t ∷ columnsFrom n (suc t)
+
+-- The examples in document 01's table of numbers, each before one that is accepted and one in which the next number applies too.
+unfoldable pub numbered : List Case
+numbered =
+    -- 22: "65 items"; 64 items; 65 items and no place
+    case 0 65 (freeFrom 65 1) (replicate 65 9) 22 (replicate 65 9)
+    ∷ case 0 65 (freeFrom 64 1) (replicate 65 9) 0 (columnsFrom 64 1 ++ 9 ∷ [])
+    ∷ case 0 65 (freeFrom 65 1) [] 22 []
+    -- 23: "0 places, 1 item"; 1 place; 0 places, and no placing exists
+    ∷ case 0 4 (free 0 1 0 ∷ []) [] 23 []
+    ∷ case 0 4 (free 0 1 0 ∷ []) (9 ∷ []) 0 (1 ∷ [])
+    ∷ case 0 4 (free 0 1 5 ∷ []) [] 23 []
+    -- 24: "floor 5, last column 4"; floor 3
+    ∷ case 0 4 (free 0 1 5 ∷ []) (9 ∷ []) 24 (9 ∷ [])
+    ∷ case 0 4 (free 0 1 3 ∷ []) (9 ∷ []) 0 (4 ∷ [])
+    ∷ []
+
 -- Ours, not of the paper. With the fixed item counted, row 1's first item would have the last column 2 and go first.
 unfoldable pub ours : List Case
 ours =
@@ -70,6 +96,10 @@ markOf s =
 pub marks-hold : map (λ (x : Case). markOf (x .sheet)) marked ≡ map (λ (x : Case). x .mark) marked
 unfolding marked markOf
 marks-hold = refl
+
+pub numbered-hold : map (λ (x : Case). markOf (x .sheet)) numbered ≡ map (λ (x : Case). x .mark) numbered
+unfolding numbered markOf
+numbered-hold = refl
 
 pub ours-hold : map (λ (x : Case). markOf (x .sheet)) ours ≡ map (λ (x : Case). x .mark) ours
 unfolding ours markOf

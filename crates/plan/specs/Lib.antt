@@ -9,3 +9,4 @@ pub mod Mask
 pub mod Narrow
 pub mod Check
 pub mod Fits
+pub mod Examples

@@ -2,13 +2,14 @@
 use Prim.Native.Nat.{ℕ, suc}
 use mathlib.Core.Path.{_≡_, refl}
 use mathlib.Core.Bool.{Bool, true, false, not}
-use mathlib.Core.List.{List, [], _∷_, map}
+use mathlib.Core.List.{List, [], _∷_, _++_, map}
 use Rattle.plan.specs.declared.Record.{Record}
+use Rattle.plan.specs.declared.Rule.the-variants.{Keep}
 use Rattle.plan.specs.declared.Channel.{Channel}
-use Rattle.rules.specs.Line.{Origin, fed, made, Message, Entry, Held, Target, Node, Lane, Line, nodeAt, laneAt, withNode, withLane, initialLine}
-use Rattle.rules.specs.Lists.{isEmpty}
-use Rattle.rules.specs.Claim.{storyFrom, told}
-use Rattle.rules.specs.Marked.{frame, replayPlan, replayBegun, replayEnded}
+use Rattle.rules.specs.Line.{Origin, fed, made, Message, Entry, Held, Target, Status, replay, Node, Lane, Line, freshNode, noLane, nodeAt, laneAt, withNode, withLane, initialLine}
+use Rattle.rules.specs.Lists.{isEmpty, joined, upTo}
+use Rattle.rules.specs.Claim.{Story, startOf, storyFrom, told}
+use Rattle.rules.specs.Marked.{channel, feedFrame, frame, moved as twoSteps, replayPlan, replayBegun, replayEnded}
 use Rattle.rules.specs.Examples.{chain}
 use Rattle.rules.specs.Damaged.{someNode, someChannel, planBroken, misshapen, stepsPast, nodePastLimits, nodeWrongParent, nodeTimePast, nodeTimeZero, nodeMakerWrong, logWrong, pastClock, heldWrong, heldNotPassed, markMissing, markOnEnd, replayWrong, nodeHolds, channelPastLimits, channelWrongParent, channelTimePast, channelTimeZero, channelMakerWrong, queueWrong, marksJoined, channelHolds, damaged}
 
@@ -68,6 +69,27 @@ unfoldable pub fallen : Line
 unfolding replayEnded told
 fallen = storyFrom replayEnded (frame 4 2 ∷ []) .line
 
+-- the same plan, children 3 and 4 at times 2 and 1 of node 2, which has recovered: it replays from time 1
+unfoldable pub later : Line
+unfolding replayPlan initialLine told
+later = storyFrom (startOf (initialLine replayPlan)) (feedFrame 0 1 1 ∷ feedFrame 0 2 1 ∷ (joined (map twoSteps (0 ∷ 0 ∷ 2 ∷ 3 ∷ 2 ∷ [])) ++ frame 4 2 ∷ frame 5 2 ∷ [])) .line
+
+-- 0 to 1 to 2, 2 to 3 and 4; 0 to 1 takes no material 3. Node 2 replays for the message that 1 made at 1 from 0's at 2.
+unfoldable pub deepBegun : Story
+unfolding initialLine told
+deepBegun =
+    storyFrom (startOf (initialLine (record { rules = Keep ∷ Keep ∷ Keep ∷ Keep ∷ Keep ∷ []; channels = channel 0 1 2 ∷ channel 1 2 2 ∷ channel 2 3 2 ∷ channel 2 4 2 ∷ [] })))
+    (feedFrame 0 1 3 ∷ feedFrame 0 1 1 ∷ (joined (map twoSteps (0 ∷ 1 ∷ 2 ∷ [])) ++ frame 4 2 ∷ frame 5 2 ∷ []))
+
+unfoldable pub deep : Line
+unfolding deepBegun
+deep = deepBegun .line
+
+-- the chain, node 2 down
+unfoldable pub chainFallen : Line
+unfolding chain initialLine told
+chainFallen = storyFrom (startOf (initialLine chain)) (frame 4 2 ∷ []) .line
+
 abbrev node : ℕ → (Node → Node) → Line → Line
 node n f l = withNode n (f (nodeAt l n)) l
 
@@ -107,6 +129,62 @@ held material time = record { what = piece 1 material; sender = 0; time = time; 
 abbrev before : Origin → Entry → Entry
 before o e = record { what = e .what; time = e .time; origin = e .origin; before = o }
 
+abbrev origin : Origin → Entry → Entry
+origin o e = record { what = e .what; time = e .time; origin = o; before = e .before }
+
+abbrev at : ℕ → Entry → Entry
+at t e = record { what = e .what; time = t; origin = e .origin; before = e .before }
+
+abbrev of : Record → Entry → Entry
+of r e = record { what = r; time = e .time; origin = e .origin; before = e .before }
+
+abbrev withLog : List Entry → Node → Node
+withLog es x = record { status = x .status; crashed = x .crashed; time = x .time; log = es; held = x .held; targets = x .targets }
+
+abbrev standing : Status → Node → Node
+standing s x = record { status = s; crashed = x .crashed; time = x .time; log = x .log; held = x .held; targets = x .targets }
+
+abbrev queued : List Message → Lane → Lane
+queued ms s = record { mark = s .mark; taken = s .taken; heard = s .heard; queue = ms }
+
+abbrev hears : List ℕ → Lane → Lane
+hears hs s = record { mark = s .mark; taken = s .taken; heard = hs; queue = s .queue }
+
+abbrev shaped : List Node → List Lane → Line → Line
+shaped ns ls l = record { plan = l .plan; steps = l .steps; nodes = ns; lanes = ls }
+
+abbrev ownEntry : ℕ → Origin → Origin → Entry
+ownEntry t o b = record { what = piece 1 1; time = t; origin = o; before = b }
+
+abbrev message : ℕ → Origin → Message
+message t o = record { what = piece 1 1; time = t; origin = o }
+
+abbrev heldOf : ℕ → ℕ → Origin → Held
+heldOf sender t b = record { what = piece 1 1; sender = sender; time = t; before = b }
+
+abbrev pub target : ℕ → ℕ → ℕ → Target
+target t a u = record { time = t; parent = a; parentTime = u }
+
+-- So many entries of source 0, held records of node 2 from it, messages on channel 0, targets of node 2.
+abbrev longLog : ℕ → Line
+longLog n = steps 1_000_000 (node 0 (timed n) (node 0 (withLog (map (λ (t : ℕ). ownEntry t fed fed) (upTo 1 n))) (initialLine replayPlan)))
+
+abbrev longHeld : ℕ → Line
+longHeld n = steps 1_000_000 (node 2 (holds (map (held 1) (upTo 1 n))) (lane 0 (moved n n) begun))
+
+abbrev longQueue : ℕ → Line
+longQueue n = steps 1_000_000 (lane 0 (queued (map (λ (t : ℕ). message t fed) (upTo 1 n))) (lane 0 (moved n 0) (initialLine replayPlan)))
+
+abbrev manyTargets : ℕ → Line
+manyTargets n = steps 1_000_000 (node 2 (aims (map (λ (t : ℕ). target t 0 t) (upTo 1 n))) begun)
+
+-- Node 3's entry of another record; node 2 of `deep` holding what it waits for, as made from something.
+abbrev entryOf : Record → Line
+entryOf r = node 3 (logs (of r)) ended
+
+abbrev deepHeld : Origin → Line
+deepHeld o = node 2 (holds (heldOf 1 1 o ∷ [])) (lane 1 (hears (2 ∷ [])) (lane 1 (moved 1 1) deep))
+
 -- A line and the conditions that it meets.
 pub record Trial : Type 0 where
   pub line : Line
@@ -130,13 +208,13 @@ trials =
     ∷ trial (lane 0 (λ (s : Lane). record { mark = s .mark; taken = s .taken; heard = 0 ∷ s .heard; queue = s .queue }) begun) (2 ∷ [])
     ∷ trial (steps 1_000_001 begun) (3 ∷ [])
     -- a node
-    ∷ trial (node 3 (logs (λ (e : Entry). record { what = piece 1 16; time = e .time; origin = e .origin; before = e .before })) ended) (4 ∷ [])
+    ∷ trial (node 3 (logs (of (piece 1 16))) ended) (4 ∷ [])
     ∷ trial (node 3 (logs (before (made 3 1))) ended) (5 ∷ [])
     ∷ trial (node 0 (timed 100) ended) (6 ∷ [])
     ∷ trial (node 3 (logs (before (made 0 0))) ended) (7 ∷ [])
     ∷ trial (node 3 (logs (before fed)) ended) (8 ∷ [])
     ∷ trial (node 0 (timed 1) ended) (9 ∷ [])
-    ∷ trial (node 3 (logs (λ (e : Entry). record { what = e .what; time = e .time; origin = made 2 3; before = e .before })) ended) (10 ∷ [])
+    ∷ trial (node 3 (logs (origin (made 2 3))) ended) (10 ∷ [])
     ∷ trial (node 3 (logs (before (made 0 2))) ended) (10 ∷ [])
     ∷ trial (node 2 (holds (held 1 1 ∷ [])) begun) (10 ∷ [])
     ∷ trial (node 2 (holds (held 1 1 ∷ held 1 1 ∷ [])) (lane 0 (moved 1 1) begun)) (11 ∷ [])
@@ -145,7 +223,7 @@ trials =
     ∷ trial (node 3 (marked true) (initialLine replayPlan)) (14 ∷ [])
     ∷ trial (node 2 (timed 1) begun) (15 ∷ [])
     ∷ trial (node 2 (aims []) begun) (15 ∷ [])
-    ∷ trial (node 3 (aims (record { time = 1; parent = 2; parentTime = 1 } ∷ [])) begun) (16 ∷ [])
+    ∷ trial (node 3 (aims (target 1 2 1 ∷ [])) begun) (16 ∷ [])
     ∷ trial (node 2 (timed 1) fallen) (16 ∷ [])
     -- a channel
     ∷ trial (lane 0 (λ (s : Lane). record { mark = 1; taken = 0; heard = s .heard; queue = record { what = piece 1 16; time = 1; origin = fed } ∷ [] }) begun) (17 ∷ [])
@@ -163,10 +241,102 @@ trials =
     ∷ trial (node 3 (marked true) begun) (14 ∷ 23 ∷ [])
     ∷ []
 
+-- Each part of a condition.
+unfoldable pub parts : List Trial
+unfolding replayPlan initialLine begun ended fallen later deep chainFallen withNode withLane
+parts =
+    trial later []
+    ∷ trial (deepHeld (made 0 2)) []
+    ∷ trial chainFallen []
+    -- a node for each rule, a lane for each channel
+    ∷ trial (shaped (begun .nodes ++ freshNode ∷ []) (begun .lanes) begun) (2 ∷ [])
+    ∷ trial (shaped (begun .nodes) (begun .lanes ++ noLane ∷ []) begun) (2 ∷ [])
+    -- "64 log entries a node, 8 messages on a belt, 64 held records a node, 64 targets a node": as many, and one more. Recover would not give these targets.
+    ∷ trial (longLog 64) []
+    ∷ trial (longLog 65) (4 ∷ [])
+    ∷ trial (longHeld 64) []
+    ∷ trial (longHeld 65) (4 ∷ [])
+    ∷ trial (longQueue 8) []
+    ∷ trial (longQueue 9) (17 ∷ [])
+    ∷ trial (manyTargets 64) (15 ∷ [])
+    ∷ trial (manyTargets 65) (4 ∷ 15 ∷ [])
+    -- "a number is outside its limits": piece, material and mass, the greatest and one more; a held record's
+    ∷ trial (entryOf (record { piece = 4_294_967_295; material = 15; mass = 65_535 })) []
+    ∷ trial (entryOf (record { piece = 4_294_967_296; material = 1; mass = 0 })) (4 ∷ [])
+    ∷ trial (entryOf (record { piece = 1; material = 1; mass = 65_536 })) (4 ∷ [])
+    ∷ trial (node 2 (holds (record { what = piece 4_294_967_296 1; sender = 0; time = 1; before = fed } ∷ [])) (lane 0 (moved 1 1) begun)) (4 ∷ [])
+    -- "or names a node that is not the right parent": an entry's sender, a held record's, what it was made from, a target's (which Recover would not give)
+    ∷ trial (node 3 (logs (λ (e : Entry). origin (made 1 1) (before fed e))) ended) (5 ∷ [])
+    ∷ trial (node 2 (holds (heldOf 4 1 (made 2 1) ∷ [])) begun) (5 ∷ [])
+    ∷ trial (deepHeld (made 3 1)) (5 ∷ [])
+    ∷ trial (node 2 (aims (target 2 3 1 ∷ [])) begun) (5 ∷ 15 ∷ [])
+    -- "a time exceeds the accepted steps": an entry's, its sender's and what that was made from, a held record's, a target's; a message's, the clock's with the sender down
+    ∷ trial (node 3 (logs (at 100)) ended) (6 ∷ 9 ∷ [])
+    ∷ trial (node 3 (logs (origin (made 2 100))) ended) (6 ∷ 10 ∷ [])
+    ∷ trial (node 3 (logs (before (made 0 100))) ended) (6 ∷ 10 ∷ [])
+    ∷ trial (node 2 (holds (held 1 100 ∷ [])) begun) (6 ∷ 10 ∷ [])
+    ∷ trial (node 2 (aims (target 100 0 1 ∷ [])) begun) (6 ∷ 15 ∷ [])
+    ∷ trial (node 2 (aims (target 2 0 100 ∷ [])) begun) (6 ∷ 15 ∷ [])
+    ∷ trial (lane 3 (queued (message 100 (made 0 1) ∷ [])) ended) (19 ∷ 22 ∷ [])
+    ∷ trial (lane 3 (origins (made 0 100)) ended) (19 ∷ [])
+    ∷ trial (lane 2 (moved 0 100) fallen) (19 ∷ [])
+    ∷ trial (lane 2 (hears (100 ∷ 0 ∷ [])) ended) (19 ∷ [])
+    -- "a message's, a held record's or a named sender's time is 0"
+    ∷ trial (node 3 (logs (at 0)) ended) (7 ∷ 9 ∷ [])
+    ∷ trial (node 3 (logs (origin (made 2 0))) ended) (7 ∷ [])
+    ∷ trial (node 2 (holds (held 1 0 ∷ [])) begun) (7 ∷ 11 ∷ [])
+    ∷ trial (deepHeld (made 0 0)) (7 ∷ [])
+    ∷ trial (lane 3 (queued (message 0 (made 0 1) ∷ [])) ended) (20 ∷ 22 ∷ [])
+    -- "a made-from sender is missing where the maker is no infeed": an entry's, a held record's; "or present where it is one": a source's entry, what that was made from, and what a source's message was
+    ∷ trial (node 3 (logs (λ (e : Entry). origin fed (before fed e))) ended) (8 ∷ [])
+    ∷ trial (deepHeld fed) (8 ∷ [])
+    ∷ trial (node 0 (logs (origin (made 1 1))) ended) (5 ∷ 8 ∷ [])
+    ∷ trial (node 0 (logs (before (made 1 1))) ended) (8 ∷ [])
+    ∷ trial (node 2 (logs (before (made 1 1))) ended) (5 ∷ 8 ∷ [])
+    -- "log times don't rise strictly"
+    ∷ trial (node 0 (logs (at 1)) ended) (9 ∷ [])
+    -- "an entry's or held record's other times pass the node's clock"
+    ∷ trial (deepHeld (made 0 3)) (10 ∷ [])
+    -- "held times of a row": two rows held in turn
+    ∷ trial (node 2 (holds (heldOf 0 1 fed ∷ heldOf 1 1 fed ∷ heldOf 0 2 fed ∷ [])) (lane 0 (moved 2 2) (lane 1 (moved 1 1) begun))) []
+    ∷ trial (node 2 (holds (heldOf 0 2 fed ∷ heldOf 1 1 fed ∷ heldOf 0 1 fed ∷ [])) (lane 0 (moved 2 2) (lane 1 (moved 1 1) begun))) (11 ∷ [])
+    -- "message times don't rise strictly from above that entry": at the entry, twice one time
+    ∷ trial (lane 3 (moved 2 2) ended) (22 ∷ [])
+    ∷ trial (lane 3 (queued (message 2 (made 0 1) ∷ message 2 (made 0 1) ∷ [])) ended) (22 ∷ [])
+    -- "a down or replaying node lacks a crash mark, an infeed or outfeed bears one"
+    ∷ trial (node 2 (marked false) fallen) (13 ∷ [])
+    ∷ trial (node 0 (marked true) (initialLine replayPlan)) (14 ∷ [])
+    -- "what Recover would give": up; 24, one time with two inputs; fewer targets
+    ∷ trial (node 2 (standing replay) (node 2 (marked true) (initialLine replayPlan))) (15 ∷ [])
+    ∷ trial (node 2 (aims (target 2 0 1 ∷ target 2 1 1 ∷ [])) (lane 2 (hears (1 ∷ 1 ∷ [])) (node 3 (timed 2) (node 3 (withLog (ownEntry 1 (made 2 2) (made 0 1) ∷ ownEntry 2 (made 2 2) (made 1 1) ∷ [])) begun)))) (15 ∷ [])
+    ∷ trial (node 2 (aims (target 2 0 1 ∷ target 3 0 2 ∷ [])) begun) (15 ∷ [])
+    -- "a down node's belts or emptied parts": its log, held list and targets; on entering belts mark, message and heard times; on leaving ones a message
+    ∷ trial (node 2 (withLog (ownEntry 1 (made 0 1) fed ∷ [])) fallen) (9 ∷ 10 ∷ 16 ∷ [])
+    ∷ trial (node 2 (holds (held 1 1 ∷ [])) fallen) (10 ∷ 16 ∷ [])
+    ∷ trial (node 2 (aims (target 2 0 1 ∷ [])) fallen) (16 ∷ [])
+    ∷ trial (lane 0 (moved 1 0) fallen) (24 ∷ [])
+    ∷ trial (lane 0 (queued (message 1 fed ∷ [])) fallen) (24 ∷ [])
+    ∷ trial (lane 1 (hears (1 ∷ [])) chainFallen) (24 ∷ [])
+    ∷ trial (lane 3 (queued (message 1 (made 0 1) ∷ [])) fallen) (24 ∷ [])
+    -- "an up node's targets or held list"
+    ∷ trial (node 2 (holds (held 1 1 ∷ [])) ended) (16 ∷ [])
+    -- "a replaying node's log or leaving belts"
+    ∷ trial (node 2 (withLog (ownEntry 1 (made 0 1) fed ∷ [])) later) (16 ∷ [])
+    ∷ trial (lane 3 (queued (message 2 (made 0 1) ∷ [])) (lane 3 (moved 2 0) begun)) (24 ∷ [])
+    ∷ []
+
 each-condition : map (λ (t : Trial). met (t .line)) trials ≡ map (λ (t : Trial). t .meets) trials
 unfolding trials met
 each-condition = refl
 
+each-part : map (λ (t : Trial). met (t .line)) parts ≡ map (λ (t : Trial). t .meets) parts
+unfolding parts met
+each-part = refl
+
 any-of-them : map (λ (t : Trial). damaged (t .line)) trials ≡ map (λ (t : Trial). not (isEmpty (t .meets))) trials
 unfolding trials damaged
 any-of-them = refl
+
+any-part : map (λ (t : Trial). damaged (t .line)) parts ≡ map (λ (t : Trial). not (isEmpty (t .meets))) parts
+unfolding parts damaged
+any-part = refl

@@ -1,16 +1,17 @@
--- The examples in document 01's table of numbers, and some that tell readings apart, computed.
+-- Document 01's own examples of the numbers 1 to 7, 9 to 19 and 21, and some of ours that tell readings apart, computed. Its examples of 22 to 24 are in the placing's `Marked`, that of 8 in the state's `Examples`; P9 shows that of 20.
 use Prim.Native.Nat.{ℕ}
 use mathlib.Core.Path.{_≡_, refl}
 use mathlib.Core.List.{List, [], _∷_, _++_, map}
-use lib.ListN.{replicate}
+use lib.ListN.{length, replicate}
+use lib.Dec.{eqb}
 use Rattle.plan.specs.declared.Rule.the-variants.{Keep}
 use Rattle.plan.specs.Plan.{Plan}
 use Rattle.plan.specs.Check.{planRefusal}
-use Rattle.rules.specs.Lists.{joined}
+use Rattle.rules.specs.Lists.{keep, joined}
 use Rattle.rules.specs.Line.{made, initialLine}
 use Rattle.rules.specs.Clock.{raiseHeard}
 use Rattle.rules.specs.Claim.{startOf, storyFrom, told}
-use Rattle.rules.specs.Marked.{channel, feedFrame, frame}
+use Rattle.rules.specs.Marked.{channel, feedFrame, frame, moved, replayPlan, replayBegun, replayAfter}
 
 pub record Example : Type 0 where
   pub given : List ℕ
@@ -31,28 +32,52 @@ widePlan = 0 ∷ 59 ∷ 1 ∷ 6 ∷ 5 ∷ (replicate 24 0 ++ joined (map wideCha
 unfoldable pub chain : Plan
 chain = record { rules = Keep ∷ Keep ∷ Keep ∷ Keep ∷ []; channels = channel 0 1 65535 ∷ channel 1 2 65535 ∷ channel 2 3 65535 ∷ [] }
 
--- The answers to a list of frames on the chain, from a number of steps on.
-unfoldable pub answers : ℕ → List (List ℕ) → List ℕ
-unfolding chain initialLine told
-answers steps frames =
-    let l = initialLine chain in
+-- The answers to a list of frames on a plan, from a number of steps on; the same on the chain.
+unfoldable pub answersOn : Plan → ℕ → List (List ℕ) → List ℕ
+unfolding initialLine told
+answersOn p steps frames =
+    let l = initialLine p in
     storyFrom (startOf (record { plan = l .plan; steps = steps; nodes = l .nodes; lanes = l .lanes })) frames .numbers
 
+unfoldable pub answers : ℕ → List (List ℕ) → List ℕ
+unfolding chain answersOn
+answers = answersOn chain
+
 unfoldable pub exampleTable : List Example
-unfolding planRefusal answers
+unfolding planRefusal answers answersOn replayPlan replayBegun replayAfter told
 exampleTable =
     record { given = map planRefusal ((0 ∷ 5 ∷ 1 ∷ []) ∷ smallPlan 19 0 2 0 0 ∷ smallPlan 19 1 13 0 0 ∷ (0 ∷ 18 ∷ 1 ∷ 2 ∷ 1 ∷ replicate 13 0) ∷ smallPlan 19 1 2 3 0 ∷ smallPlan 19 1 2 0 1 ∷ widePlan ∷ smallPlan 19 1 2 0 0 ∷ []); expected = 1 ∷ 2 ∷ 3 ∷ 4 ∷ 5 ∷ 6 ∷ 7 ∷ 0 ∷ [] }
     -- 9, 10, 11: "`00 05 01 02`", "third byte 0", "Send of 13 bytes"
     ∷ record { given = answers 0 ((0 ∷ 5 ∷ 1 ∷ 2 ∷ []) ∷ (0 ∷ 5 ∷ 0 ∷ 2 ∷ 0 ∷ []) ∷ (0 ∷ 13 ∷ 1 ∷ 2 ∷ 0 ∷ replicate 8 0) ∷ []); expected = 9 ∷ 10 ∷ 11 ∷ [] }
+    -- 9: length field 6 of 5 bytes, 5 of 6, a frame of 4 bytes that says so; 9 comes before 10
+    ∷ record { given = answers 0 ((0 ∷ 6 ∷ 1 ∷ 2 ∷ 0 ∷ []) ∷ (0 ∷ 5 ∷ 1 ∷ 2 ∷ 0 ∷ 0 ∷ []) ∷ (0 ∷ 4 ∷ 1 ∷ 2 ∷ []) ∷ (0 ∷ 5 ∷ 0 ∷ 2 ∷ []) ∷ []); expected = replicate 4 9 }
+    -- 10: version 2; 10 comes before 11
+    ∷ record { given = answers 0 ((0 ∷ 5 ∷ 2 ∷ 2 ∷ 0 ∷ []) ∷ (0 ∷ 5 ∷ 0 ∷ 6 ∷ 0 ∷ []) ∷ []); expected = 10 ∷ 10 ∷ [] }
+    -- 11: kinds 0 and 6, a Feed of 5 bytes; 11 comes before 12
+    ∷ record { given = answers 0 (frame 0 0 ∷ frame 6 0 ∷ frame 1 0 ∷ []) ++ answers 1_000_000 (frame 6 0 ∷ []); expected = replicate 4 11 }
     -- 12: "one more Crash", before all that comes after it
     ∷ record { given = answers 1_000_000 (frame 4 1 ∷ frame 4 99 ∷ []); expected = 12 ∷ 12 ∷ [] }
     -- 13 to 18: "belt 24", "Crash 0", "Crash twice", "parent of a crashed node", "material 16", "empty belt"
     ∷ record { given = answers 0 (frame 2 24 ∷ frame 4 0 ∷ frame 4 2 ∷ frame 4 2 ∷ frame 4 1 ∷ feedFrame 0 1 16 ∷ frame 3 0 ∷ []); expected = 13 ∷ 14 ∷ 0 ∷ 15 ∷ 16 ∷ 17 ∷ 18 ∷ [] }
+    -- 13: node 4 of 4, belt 3 of 3, and before 14 and 17; node 3 is there: 14
+    ∷ record { given = answers 0 (feedFrame 4 1 1 ∷ frame 2 3 ∷ frame 3 3 ∷ frame 4 4 ∷ frame 5 4 ∷ feedFrame 9 1 16 ∷ feedFrame 3 1 1 ∷ frame 4 3 ∷ frame 5 3 ∷ []); expected = replicate 6 13 ++ replicate 3 14 }
+    -- 14 before 15: Recover of an infeed, which is up; before 17: Feed to node 1
+    ∷ record { given = answers 0 (frame 5 0 ∷ feedFrame 1 1 16 ∷ []); expected = 14 ∷ 14 ∷ [] }
+    -- 15: "Recover of a node not down"; node 1 down: "Send, Take with an end down", the receiver and then the sender; a Feed above it is accepted
+    ∷ record { given = answers 0 (frame 5 1 ∷ frame 4 1 ∷ frame 2 0 ∷ frame 3 0 ∷ frame 2 1 ∷ frame 3 1 ∷ feedFrame 0 1 1 ∷ []); expected = 15 ∷ 0 ∷ (replicate 4 15 ++ 0 ∷ []) }
+    -- 18: a replaying node has nothing to send
+    ∷ record { given = storyFrom (startOf (replayBegun .line)) (frame 2 2 ∷ frame 2 3 ∷ []) .numbers; expected = 18 ∷ 18 ∷ [] }
     -- 19: "ninth Send"; a full belt with nothing more to send is 18
     ∷ record { given = answers 0 (replicate 9 (feedFrame 0 1 1) ++ replicate 9 (frame 2 0)); expected = replicate 17 0 ++ 19 ∷ [] }
     ∷ record { given = answers 0 (replicate 8 (feedFrame 0 1 1) ++ replicate 9 (frame 2 0)); expected = replicate 16 0 ++ 18 ∷ [] }
     -- 21: "65th Feed"
     ∷ record { given = answers 0 (replicate 65 (feedFrame 0 1 1)); expected = replicate 64 0 ++ 21 ∷ [] }
+    -- 17 before 21
+    ∷ record { given = answers 0 (replicate 64 (feedFrame 0 1 1) ++ feedFrame 0 1 16 ∷ []); expected = replicate 64 0 ++ 17 ∷ [] }
+    -- node 2 has 64 log entries: a Send to it and its Crash need no space, a Take does
+    ∷ record { given = answersOn replayPlan 0 (replicate 64 (feedFrame 0 1 3) ++ (joined (replicate 64 (moved 0)) ++ feedFrame 1 1 3 ∷ frame 2 1 ∷ frame 3 1 ∷ frame 4 2 ∷ [])); expected = replicate 194 0 ++ 21 ∷ 0 ∷ [] }
+    -- "accepted steps": P9 has 25 answers 0
+    ∷ record { given = replayAfter .line .steps ∷ length (keep (eqb 0) (replayAfter .numbers)) ∷ []; expected = 25 ∷ 25 ∷ [] }
     -- a clock entry is raised: the greatest time heard stays
     ∷ record { given = raiseHeard (0 ∷ 1 ∷ []) (5 ∷ 2 ∷ []) (made 0 3); expected = 5 ∷ 2 ∷ [] }
     ∷ []

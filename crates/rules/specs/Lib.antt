@@ -15,3 +15,4 @@ pub mod Marked
 pub mod Examples
 pub mod DamagedLines
 pub mod ReplayRefusals
+pub mod ClaimExamples
