@@ -1,5 +1,9 @@
 //! Random plans and frames: mostly accepted, with many crashes and replays.
 
+mod disturb;
+
+pub use disturb::{disturb, retarget};
+
 use std::collections::BTreeSet;
 
 use super::{stepped, Frame, Line, Status};
