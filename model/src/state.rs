@@ -3,7 +3,10 @@
 
 pub mod direct;
 pub mod layout;
+pub mod practice;
 mod reading;
+#[cfg(test)]
+mod tests;
 mod writing;
 
 pub use layout::LENGTH;
