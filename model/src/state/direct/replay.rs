@@ -65,6 +65,8 @@ struct Targets {
     inputs: [u64; TARGETS.most],
     /// The greatest time of each row.
     greatest: [u32; Plan::MOST_AT_A_NODE],
+    /// Row times rise along each row, as they mostly do.
+    do_rows_rise: bool,
 }
 
 impl Targets {
@@ -74,6 +76,7 @@ impl Targets {
             times: [0; TARGETS.most],
             inputs: [0; TARGETS.most],
             greatest: [0; Plan::MOST_AT_A_NODE],
+            do_rows_rise: true,
         };
         let slots = &block[TARGETS.slot(0)..TARGETS.slot(targets.count)];
         let mut last = 0;
@@ -88,6 +91,7 @@ impl Targets {
             last = time;
             targets.times[index] = time;
             targets.inputs[index] = input(row, input_time);
+            targets.do_rows_rise &= input_time > targets.greatest[row];
             targets.greatest[row] = input_time.max(targets.greatest[row]);
         }
         is_zero(&block[TARGETS.slot(targets.count)..TARGETS.end()]).then_some(targets)
@@ -98,6 +102,9 @@ impl Targets {
     }
 
     fn do_inputs_differ(&self) -> bool {
+        if self.do_rows_rise {
+            return true;
+        }
         let mut inputs = self.inputs;
         let inputs = &mut inputs[..self.count];
         inputs.sort_unstable();

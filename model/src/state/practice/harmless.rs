@@ -210,29 +210,7 @@ pub const HARMLESS: &[Harmless] = &[
         }
         Some(())
     }),
-    harmless("up to 64 held records", |random, line| {
-        let (node, index) = pick::held(random, line, |_, _| true)?;
-        let first = line.nodes[node].buffered[index];
-        let steps = line.steps + 64;
-        if steps > Line::MOST_STEPS {
-            return None;
-        }
-        line.steps = steps;
-        let sender = first.made_from.sender;
-        let channel = pick::channel_between(line, sender, node);
-        let node = &mut line.nodes[node];
-        let taken = node.clock.taken(sender);
-        let room = Line::MOST_BUFFERED - node.buffered.len();
-        for time in (taken + 1..=steps).take(room) {
-            let mut held = first;
-            held.made_from.time = time;
-            node.buffered.push(held);
-        }
-        node.clock.raise_taken(sender, steps);
-        line.queues[channel].messages.clear();
-        line.queues[channel].mark = steps;
-        Some(())
-    }),
+    harmless("64 held records", hold_most),
     harmless("entry for a parent lower", |random, line| {
         // As low as what was made from it lets it be.
         let channel = pick::live_channel(random, line, |channel| {
@@ -258,3 +236,28 @@ pub const HARMLESS: &[Harmless] = &[
         Some(())
     }),
 ];
+
+/// A node that holds something holds as much as it can, all the rest from one
+/// parent.
+pub fn hold_most(random: &mut Random, line: &mut Line) -> Option<()> {
+    let (node, index) = pick::held(random, line, |_, _| true)?;
+    let steps = line.steps + Line::MOST_BUFFERED as u32;
+    if steps > Line::MOST_STEPS {
+        return None;
+    }
+    line.steps = steps;
+    let first = line.nodes[node].buffered[index];
+    let sender = first.made_from.sender;
+    let channel = pick::channel_between(line, sender, node);
+    let node = &mut line.nodes[node];
+    let room = Line::MOST_BUFFERED - node.buffered.len();
+    for time in (node.clock.taken(sender) + 1..).take(room) {
+        let mut held = first;
+        held.made_from.time = time;
+        node.buffered.push(held);
+    }
+    node.clock.raise_taken(sender, steps);
+    line.queues[channel].messages.clear();
+    line.queues[channel].mark = steps;
+    Some(())
+}

@@ -11,7 +11,7 @@ use crate::rule::Rule;
 
 /// Lines on the way of one run.
 pub fn lines(random: &mut Random) -> Vec<Line> {
-    if random.one_in(3) {
+    if random.one_in(2) {
         filled(random)
     } else {
         practised(random)
@@ -66,11 +66,13 @@ fn practised(random: &mut Random) -> Vec<Line> {
     let mut line = Line::of(drawn_plan(random));
     let mut practice = Practice::new(random);
     let mut lines = Vec::new();
-    let most = random.pick(&[20, 100, 400]);
+    let most = random.pick(&[32, 128, 400]);
     for _ in 0..random.between(0, most) {
         let frame = practice.frame(random, &line);
         step(&mut line, &frame);
-        if random.one_in(most / 4) {
+        // More often while something is held.
+        let holds = line.nodes.iter().any(|node| !node.buffered.is_empty());
+        if random.one_in(if holds { most / 16 } else { most / 4 }) {
             lines.push(line.clone());
         }
     }
@@ -99,8 +101,8 @@ fn filled(random: &mut Random) -> Vec<Line> {
         }
     }
     lines.push(line.clone());
-    for _ in 0..random.between(1, 3) {
-        for _ in 0..random.between(1, 60) {
+    for _ in 0..random.between(1, 4) {
+        for _ in 0..random.pick(&[2, 4, 8, 40]) {
             replay_on(random, &mut line);
         }
         lines.push(line.clone());

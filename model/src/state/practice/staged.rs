@@ -1,4 +1,5 @@
-//! Lines that hold as much as a line can, reached by frames.
+//! Lines that hold nothing, a little of everything, or as much as they can,
+//! reached by frames.
 
 use super::pick::channel_between;
 use crate::line::{step, Frame, Line, Status};
@@ -9,6 +10,38 @@ use crate::rule::Rule;
 /// Two nodes, one channel, no step.
 pub fn fresh() -> Line {
     Line::of(plan_of(2, vec![(0, 1)]))
+}
+
+/// A little of everything: node 3 replays and holds a record from node 1, node 7
+/// is down, messages wait before node 11.
+pub fn mixed() -> Line {
+    let replay = [(0, 1), (1, 3), (2, 3), (3, 4), (3, 5)];
+    let others = [(6, 7), (7, 8), (9, 10), (10, 11)];
+    let mut line = Line::of(plan_of(12, [&replay[..], &others[..]].concat()));
+    for piece in 1..=3 {
+        feed(&mut line, 0, piece);
+        pass(&mut line, 0);
+        pass(&mut line, 1);
+    }
+    feed(&mut line, 2, 4);
+    pass(&mut line, 2);
+    for channel in [3, 3, 3, 3, 4] {
+        pass(&mut line, channel);
+    }
+    restart(&mut line, 3);
+    pass(&mut line, 1);
+    accept(&mut line, Frame::Send { channel: 1 });
+    accept(&mut line, Frame::Send { channel: 2 });
+    feed(&mut line, 6, 5);
+    pass(&mut line, 5);
+    accept(&mut line, Frame::Crash { node: 7 });
+    for piece in 6..=9 {
+        feed(&mut line, 9, piece);
+        pass(&mut line, 7);
+        accept(&mut line, Frame::Send { channel: 8 });
+    }
+    accept(&mut line, Frame::Take { channel: 8 });
+    line
 }
 
 /// Twelve full logs and 24 full channels: two sources, then nodes that take
@@ -57,17 +90,15 @@ pub fn replaying() -> Line {
         }
     }
     for router in 4..8 {
-        accept(&mut line, Frame::Crash { node: router as u8 });
-        accept(&mut line, Frame::Recover { node: router as u8 });
+        restart(&mut line, router);
         take_in_turn(&mut line, router, Line::MOST_TARGETS - 1);
-        assert_eq!(line.nodes[router].status, Status::Replaying);
     }
     fill_channels(&mut line);
     line
 }
 
 /// Rules keep, channels take all.
-fn plan_of(node_count: usize, mut ends: Vec<(usize, usize)>) -> Plan {
+pub fn plan_of(node_count: usize, mut ends: Vec<(usize, usize)>) -> Plan {
     ends.sort_unstable();
     let channels = ends.into_iter().map(|(sender, receiver)| Channel {
         sender,
@@ -86,21 +117,30 @@ fn accept(line: &mut Line, frame: Frame) {
     assert_eq!(step(line, &frame.write()), 0, "{frame:?}");
 }
 
+fn feed(line: &mut Line, node: usize, piece: u32) {
+    let record = Record {
+        piece,
+        material: (piece % 16) as u8,
+        mass: (piece % 1000) as u16,
+    };
+    let frame = Frame::Feed {
+        node: node as u8,
+        record: record.write(),
+    };
+    accept(line, frame);
+}
+
 fn fill_source(line: &mut Line, node: usize) {
     for number in 0..Line::MOST_ENTRIES as u32 {
-        let record = Record {
-            piece: 1000 * node as u32 + number,
-            material: (number % 16) as u8,
-            mass: number as u16,
-        };
-        accept(
-            line,
-            Frame::Feed {
-                node: node as u8,
-                record: record.write(),
-            },
-        );
+        feed(line, node, 1000 * node as u32 + number);
     }
+}
+
+fn restart(line: &mut Line, router: usize) {
+    let node = router as u8;
+    accept(line, Frame::Crash { node });
+    accept(line, Frame::Recover { node });
+    assert_eq!(line.nodes[router].status, Status::Replaying);
 }
 
 fn pass(line: &mut Line, channel: usize) {

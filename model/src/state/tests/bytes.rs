@@ -91,7 +91,7 @@ fn replaying_routers() {
     assert_eq!(state[router + 8..router + 1548], [0; 1540]);
     // 63 held records; the second came from source 1, whose time was 1.
     assert_eq!(state[router + 1548..router + 1552], [0, 0, 0, 63]);
-    let second = [0, 0, 3, 232, 0, 0, 0, 0, 1, 0, 0, 0, 1, 0, 0, 0, 0, 0, 0, 0];
+    let second = [0, 0, 3, 232, 8, 0, 0, 0, 1, 0, 0, 0, 1, 0, 0, 0, 0, 0, 0, 0];
     assert_eq!(state[router + 1572..router + 1592], second);
     // 64 targets; the sixth is time 6, made from source 1's time 2.
     assert_eq!(state[router + 2832..router + 2836], [0, 0, 0, 64]);
@@ -128,7 +128,7 @@ fn numbers_of_senders() {
 
 #[test]
 fn places_fill_the_state() {
-    for line in [staged::fresh(), staged::full(), staged::replaying()] {
+    for line in [staged::fresh(), staged::mixed(), staged::replaying()] {
         let state = line_bytes(&line);
         let mut at = 0;
         for place in places(&line) {

@@ -7,7 +7,7 @@ use crate::line::Line;
 use crate::state::practice::{self, staged, Case, Effort, Kind, CLAUSES, HARMLESS, SHUFFLES};
 use crate::state::{check, direct, LENGTH};
 
-const RUNS: u64 = 200;
+const RUNS: u64 = 120;
 const EFFORT: Effort = Effort {
     conditions: 1,
     disturbed: 20,

@@ -5,7 +5,7 @@ use crate::random::Random;
 use crate::state::practice::{lines, staged};
 use crate::state::{check, direct, line_bytes, read_line};
 
-const RUNS: u64 = 800;
+const RUNS: u64 = 600;
 
 #[derive(Debug, Default)]
 struct Seen {
@@ -72,6 +72,7 @@ fn reached_lines() {
 #[test]
 fn lines_that_hold_most() {
     assert_round_trip(&staged::fresh());
+    assert_round_trip(&staged::mixed());
     let full = staged::full();
     assert_round_trip(&full);
     assert!(full.nodes.iter().all(|node| node.log.len() == 64));

@@ -1,5 +1,6 @@
 use super::*;
 use crate::state::layout::*;
+use crate::state::practice::harmless::hold_most;
 
 pub const OUTSIDE: Clause = Clause {
     words: "a number is outside its limits",
@@ -26,6 +27,18 @@ pub const OUTSIDE: Clause = Clause {
             let number = random.index(line.nodes.len());
             miscount(random, &mut state[node(number)..], BUFFERED)
         }),
+        bytes(
+            "held records where all slots are used",
+            |random, line, state| {
+                let mut full = line.clone();
+                hold_most(random, &mut full)?;
+                state.copy_from_slice(&line_bytes(&full));
+                let number = pick::node(random, &full, |_, node| {
+                    node.buffered.len() == Line::MOST_BUFFERED
+                })?;
+                miscount(random, &mut state[node(number)..], BUFFERED)
+            },
+        ),
         bytes("targets", |random, line, state| {
             let number = random.index(line.nodes.len());
             miscount(random, &mut state[node(number)..], TARGETS)

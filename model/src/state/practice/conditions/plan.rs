@@ -2,6 +2,7 @@ use super::*;
 use crate::plan::{Channel, Plan};
 use crate::rule::Rule;
 use crate::state::layout::put;
+use crate::state::practice::staged::plan_of;
 
 pub const REFUSED: Clause = Clause {
     words: "the plan would be refused",
@@ -81,12 +82,33 @@ pub const REFUSED: Clause = Clause {
             }
             Some(())
         }),
+        line("no channels", |random, line| {
+            let nodes = random.between(2, 12) as usize;
+            *line = unstepped(nodes, Vec::new());
+            Some(())
+        }),
+        line("13 nodes", |random, line| {
+            let last = random.between(1, 12) as usize;
+            *line = unstepped(13, vec![(0, last)]);
+            Some(())
+        }),
+        line("25 channels", |random, line| {
+            let nodes = random.between(11, 12) as usize;
+            let near = (1..nodes).map(|node| (node - 1, node));
+            let next = (2..nodes).map(|node| (node - 2, node));
+            let far = (3..nodes).map(|node| (node - 3, node));
+            let ends = near.chain(next).chain(far);
+            *line = unstepped(nodes, ends.take(25).collect());
+            Some(())
+        }),
         line("five channels leave a node", |random, line| {
-            *line = star(random, |number| (0, number));
+            let nodes = random.between(6, 12) as usize;
+            *line = unstepped(nodes, (1..=5).map(|node| (0, node)).collect());
             Some(())
         }),
         line("five channels enter a node", |random, line| {
-            *line = star(random, |number| (number - 1, 5));
+            let nodes = random.between(6, 12) as usize;
+            *line = unstepped(nodes, (0..5).map(|node| (node, 5)).collect());
             Some(())
         }),
     ],
@@ -100,18 +122,7 @@ fn channel_at(plan: &Plan, number: usize) -> usize {
     rule_at(plan.node_count()) + Channel::LENGTH * number
 }
 
-/// A line before any step, with five channels, of number 1 to 5.
-fn star(random: &mut Random, ends: fn(usize) -> (usize, usize)) -> Line {
-    let channels = (1..=5).map(ends).map(|(sender, receiver)| Channel {
-        sender,
-        receiver,
-        mask: random.between(1, 0xFFFF) as u16,
-        modulus: 1,
-        remainder: 0,
-    });
-    let channels = channels.collect();
-    Line::of(Plan {
-        rules: vec![Rule::Keep; random.between(6, 12) as usize],
-        channels,
-    })
+/// A line before any step; nothing but its plan is wrong.
+fn unstepped(nodes: usize, ends: Vec<(usize, usize)>) -> Line {
+    Line::of(plan_of(nodes, ends))
 }
