@@ -11,6 +11,7 @@ mod lent;
 use std::process::exit;
 use std::{env, fs};
 
+use model::line::Line;
 use model::plan::practice::{mutate, noise, plan};
 use model::random::Random;
 use model::state::practice::{self, lines, staged, Case, Effort};
@@ -18,7 +19,7 @@ use model::state::{line_bytes, LENGTH};
 
 use counts::Counts;
 
-const RUNS: u64 = 400;
+const RUNS: u64 = 300;
 const LOADS: u64 = 60_000;
 const EFFORT: Effort = Effort {
     conditions: 1,
@@ -53,34 +54,34 @@ impl Run {
 
     fn staged_checks(&mut self) {
         practice::staged(0, EFFORT, &mut |case| self.check(0, case));
-        for line in [staged::fresh(), staged::full(), staged::replaying()] {
+        for line in [staged::fresh(), staged::replaying()] {
             practice::unused(0, &line, &mut |case| self.check(0, case));
         }
     }
 
-    /// Plans that are right, mutated and random, into a state of any length.
-    fn loads(&mut self) {
-        for seed in 0..LOADS {
-            let mut random = Random::new(seed);
-            let bytes = match random.index(8) {
-                0 => noise(&mut random),
-                1..4 => plan(&mut random),
-                _ => {
-                    let mut bytes = plan(&mut random);
-                    mutate(&mut random, &mut bytes);
-                    bytes
-                }
-            };
-            let any = random.index(1000);
-            let length = random.pick(&[LENGTH, LENGTH, LENGTH, LENGTH - 1, LENGTH + 1, 0, any]);
-            let before = filled(&mut random, length);
-            let answer = call::load(&mut self.random, &bytes, &before)
-                .unwrap_or_else(|wrong| fail(seed, "Load", &wrong, &bytes));
-            self.counts.loaded(answer);
+    /// A plan that is right, mutated or random, into a state of any length; what is
+    /// loaded is written again.
+    fn load(&mut self, seed: u64) {
+        let mut random = Random::new(seed);
+        let mut bytes = plan(&mut random);
+        match random.index(8) {
+            0 => bytes = noise(&mut random),
+            1..4 => {}
+            _ => mutate(&mut random, &mut bytes),
+        }
+        let any = random.index(1000);
+        let length = random.pick(&[LENGTH, LENGTH, LENGTH, LENGTH - 1, LENGTH + 1, 0, any]);
+        let before = filled(&mut random, length);
+        let answer = call::load(&mut self.random, &bytes, &before)
+            .unwrap_or_else(|wrong| fail(seed, "Load", &wrong, &bytes));
+        self.counts.loaded(answer);
+        if answer == 0 {
+            let line = Line::load(&bytes).expect("an accepted plan");
+            self.write(seed, &mut random, &line_bytes(&line), bytes.len());
         }
     }
 
-    /// The plans of a run's lines, also damaged ones, to outputs of any length.
+    /// The plans of a run's lines, also damaged ones.
     fn writes(&mut self, seed: u64) {
         let mut random = Random::new(seed);
         for line in lines(&mut random) {
@@ -91,14 +92,18 @@ impl Run {
                 2 => state.push(0),
                 _ => {}
             }
-            let needed = line.plan.write().len();
-            let any = random.index(700);
-            let length = random.pick(&[0, needed - 1, needed, needed, needed + 1, 512, any]);
-            let before = filled(&mut random, length);
-            let answer = call::write(&mut self.random, &state, &before)
-                .unwrap_or_else(|wrong| fail(seed, "Write", &wrong, &state));
-            self.counts.written(answer);
+            self.write(seed, &mut random, &state, line.plan.write().len());
         }
+    }
+
+    /// To outputs about as long as is needed, and to others.
+    fn write(&mut self, seed: u64, random: &mut Random, state: &[u8], needed: usize) {
+        let any = random.index(700);
+        let length = random.pick(&[0, needed - 1, needed, needed, needed + 1, 512, any]);
+        let before = filled(random, length);
+        let answer = call::write(&mut self.random, state, &before)
+            .unwrap_or_else(|wrong| fail(seed, "Write", &wrong, state));
+        self.counts.written(answer);
     }
 }
 
@@ -129,6 +134,7 @@ fn main() {
         let seed = seed.parse().expect("a seed is a number");
         run.checks(seed);
         run.writes(seed);
+        run.load(seed);
         println!("engine and model agree on seed {seed}");
         return;
     }
@@ -137,7 +143,9 @@ fn main() {
         run.writes(seed);
     }
     run.staged_checks();
-    run.loads();
+    for seed in 0..LOADS {
+        run.load(seed);
+    }
     run.counts.print();
     run.counts.assert_enough();
     println!("engine and model agree");

@@ -15,7 +15,7 @@ pub fn disturb(random: &mut Random, line: &mut Line) {
     let entry = random.draw() as usize % node.log.len().max(1);
     let held = random.draw() as usize % node.buffered.len().max(1);
     let message = random.draw() as usize % queue.messages.len().max(1);
-    match random.index(13) {
+    match random.index(14) {
         0 => node.clock.time = time,
         1 | 2 => {
             let parts = node.clock.parents.len();
@@ -71,9 +71,18 @@ pub fn disturb(random: &mut Random, line: &mut Line) {
                 node.buffered.remove(held);
             }
         }
-        _ => {
+        12 => {
             if entry < node.log.len() {
                 node.log.remove(entry);
+            }
+        }
+        _ => {
+            // What two entries' inputs were made from, exchanged.
+            if entry < node.log.len() {
+                let other = random.index(node.log.len());
+                let (first, second) = (node.log[entry], node.log[other]);
+                node.log[entry].input_made_from = second.input_made_from;
+                node.log[other].input_made_from = first.input_made_from;
             }
         }
     }

@@ -53,7 +53,7 @@ pub fn made_of(random: &mut Random, line: &Line, effort: Effort, kind: Kind, vis
             state[at] = 0;
         }
     }
-    lengths(random, &mut state, visit);
+    lengths(random, &state, visit);
 }
 
 /// Each condition of the paper and each harmless change, once.
@@ -120,10 +120,10 @@ pub fn unused_case(place: Place, state: &[u8]) -> Case<'_> {
     }
 }
 
-fn lengths(random: &mut Random, state: &mut Vec<u8>, visit: Visit) {
+fn lengths(random: &mut Random, state: &[u8], visit: Visit) {
     let any = random.index(2 * LENGTH);
     for length in [0, 1, 511, 512, LENGTH - 1, LENGTH + 1, 2 * LENGTH, any] {
-        let mut other = state.clone();
+        let mut other = state.to_vec();
         other.resize(length, 0);
         visit(&Case {
             kind: Kind::Length,

@@ -9,7 +9,7 @@ mod logs;
 mod made_from;
 mod plan;
 mod queues;
-mod replays;
+pub mod replays;
 mod rows;
 mod senders;
 mod steps;

@@ -1,9 +1,10 @@
 //! What the paragraph "Damaged" does not list is no damage: changes after which
 //! a line is still undamaged.
 
+use super::conditions::replays::made::{complete_rows, greatest_target};
 use super::runs::any_record;
 use super::{pick, staged};
-use crate::line::{Line, Status};
+use crate::line::{restart, Line, Status};
 use crate::random::Random;
 use crate::rule::Rule;
 
@@ -209,6 +210,17 @@ pub const HARMLESS: &[Harmless] = &[
             line.queues[channel].mark = steps;
         }
         Some(())
+    }),
+    harmless("rows complete at once but for one", |random, line| {
+        let node = pick::node_that_is(random, line, Status::Replaying)?;
+        let told = restart(line, node);
+        let incomplete = told
+            .restored
+            .iter()
+            .filter(|entry| entry.time < greatest_target(line, node, entry.sender))
+            .map(|entry| entry.sender);
+        let spared = pick::any(random, incomplete)?;
+        complete_rows(random, line, node, Some(spared))
     }),
     harmless("64 held records", hold_most),
     harmless("entry for a parent lower", |random, line| {

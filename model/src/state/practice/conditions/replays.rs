@@ -1,9 +1,9 @@
-mod made;
+pub mod made;
 
 use super::*;
 use crate::line::practice::retarget;
 use crate::line::{restart, Origin, Status, Target};
-use made::{complete_at_once, replay, too_many};
+use made::{complete_rows, replay, too_many};
 
 pub const NOT_RECOVERED: Clause = Clause {
     words: "a replaying node's time or targets are not what Recover would give",
@@ -168,7 +168,7 @@ pub const NOT_RECOVERED: Clause = Clause {
         }),
         line("rows complete at once", |random, line| {
             let node = replaying(random, line)?;
-            complete_at_once(random, line, node)
+            complete_rows(random, line, node, None)
         }),
         line("over 64 targets", |random, line| {
             *line = too_many(random);

@@ -2,7 +2,7 @@
 
 use super::pick;
 use crate::clock::Clock;
-use crate::line::{restart, Entry, Line, Message, Origin, Restart, Status};
+use crate::line::{restart, Entry, Line, Message, Node, Origin, Restart, Status};
 use crate::random::Random;
 use crate::state::practice::runs::any_record;
 use crate::state::practice::staged::plan_of;
@@ -23,45 +23,65 @@ pub fn replay(line: &mut Line, node: usize, told: &Restart) {
     line.nodes[node].log.clear();
 }
 
-/// A child has taken, at or below low, what the greatest targets of all rows
-/// were made from.
-pub fn complete_at_once(random: &mut Random, line: &mut Line, node: usize) -> Option<()> {
+/// Children have taken, at or below low, what the greatest target of each row
+/// was made from, save a spared row: of that, what came just before.
+pub fn complete_rows(
+    random: &mut Random,
+    line: &mut Line,
+    node: usize,
+    spared: Option<usize>,
+) -> Option<()> {
     let low = line.nodes[node].time();
     if low == 0 {
         return None;
     }
-    let child = pick::any(random, line.plan.children(node))?;
-    let parents: Vec<usize> = line.plan.parents(node).collect();
-    for parent in parents {
-        let targets = line.nodes[node].targets.iter();
-        let row = targets.filter(|target| target.parent == parent);
-        let Some(time) = row.map(|target| target.parent_time).max() else {
-            continue;
+    for parent in line.plan.clone().parents(node) {
+        let greatest = greatest_target(line, node, parent);
+        let time = match spared == Some(parent) {
+            true => greatest.saturating_sub(1),
+            false => greatest,
         };
-        let log = &mut line.nodes[child].log;
-        if log.len() == Line::MOST_ENTRIES {
-            return None;
+        if time == 0 {
+            continue;
         }
-        let own_time = line.nodes[child].clock.time + 1;
-        line.nodes[child].log.push(Entry {
-            message: Message {
-                record: any_record(random),
-                time: own_time,
-                made_from: Some(Origin {
-                    sender: node,
-                    time: low,
-                }),
-            },
-            input_made_from: Some(Origin {
-                sender: parent,
-                time,
-            }),
-        });
-        line.nodes[child].clock.time = own_time;
-        line.nodes[child].clock.raise_heard(node, parent, time);
-        line.steps = line.steps.max(own_time);
+        let children = line.plan.children(node);
+        let room = |child: &usize| line.nodes[*child].log.len() < Line::MOST_ENTRIES;
+        let child = pick::any(random, children.filter(room))?;
+        let input = Origin {
+            sender: node,
+            time: random.between(1, low),
+        };
+        let origin = Origin {
+            sender: parent,
+            time,
+        };
+        log_input(random, &mut line.nodes[child], input, origin);
+        line.steps = line.steps.max(line.nodes[child].time());
     }
     Some(())
+}
+
+/// 0 if the row has none.
+pub fn greatest_target(line: &Line, node: usize, parent: usize) -> u32 {
+    let targets = line.nodes[node].targets.iter();
+    let row = targets.filter(|target| target.parent == parent);
+    row.map(|target| target.parent_time).max().unwrap_or(0)
+}
+
+/// The node logs what it made from the input, which was made from the origin.
+fn log_input(random: &mut Random, node: &mut Node, input: Origin, origin: Origin) {
+    node.clock.time += 1;
+    node.clock.raise_taken(input.sender, input.time);
+    node.clock
+        .raise_heard(input.sender, origin.sender, origin.time);
+    node.log.push(Entry {
+        message: Message {
+            record: any_record(random),
+            time: node.clock.time,
+            made_from: Some(input),
+        },
+        input_made_from: Some(origin),
+    });
 }
 
 /// A router that replays with 64 of the 65 targets that two of its children
@@ -72,18 +92,8 @@ pub fn too_many(random: &mut Random) -> Line {
     let alone = random.between(1, 65);
     for time in 1..=65 {
         let child = if time == alone { 3 } else { 2 };
-        let node = &mut line.nodes[child];
-        node.clock.time += 1;
-        node.clock.raise_taken(1, time);
-        node.clock.raise_heard(1, 0, time);
-        node.log.push(Entry {
-            message: Message {
-                record: any_record(random),
-                time: node.clock.time,
-                made_from: Some(Origin { sender: 1, time }),
-            },
-            input_made_from: Some(Origin { sender: 0, time }),
-        });
+        let (input, origin) = (Origin { sender: 1, time }, Origin { sender: 0, time });
+        log_input(random, &mut line.nodes[child], input, origin);
     }
     line.nodes[1].crash_marked = true;
     let told = restart(&line, 1);
