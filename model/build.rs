@@ -10,7 +10,11 @@ fn main() {
     let package = env::var("CARGO_MANIFEST_DIR").expect("set by cargo");
     let libraries = Path::new(&package).join(given);
     println!("cargo:rerun-if-env-changed=CEMENTLEDGE_LIB");
-    for library in ["libplacing.a", "libplacing_items.a", "libplan.a"] {
+    let mut named = vec!["libplacing.a", "libplacing_items.a", "libplan.a"];
+    if env::var_os("CARGO_FEATURE_ENGINE_STATE").is_some() {
+        named.push("libline.a");
+    }
+    for library in named {
         println!(
             "cargo:rerun-if-changed={}",
             libraries.join(library).display()

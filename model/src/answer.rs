@@ -1,7 +1,7 @@
-//! Document 01, "Numbers returned", as far as Load and Step give them. Those
-//! of Placing stand in `placing`.
+//! Document 01, "Numbers returned", as far as Load, Step and Write give them.
+//! Those of Placing stand in `placing`.
 
-pub use crate::placing::ACCEPTED;
+pub use crate::placing::{ACCEPTED, SHORT_OUTPUT};
 
 /// "Plan under 5 bytes, or not its length field."
 pub const PLAN_LENGTH: u32 = 1;
@@ -17,6 +17,8 @@ pub const PLAN_RULE: u32 = 5;
 pub const PLAN_CHANNEL: u32 = 6;
 /// "Over 4 belts in or out."
 pub const PLAN_DEGREE: u32 = 7;
+/// "State not 61,440 bytes, or (not for Load) damaged."
+pub const STATE: u32 = 8;
 /// "Frame under 5 bytes, or not its length field."
 pub const FRAME_LENGTH: u32 = 9;
 /// "Frame version."

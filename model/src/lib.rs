@@ -12,3 +12,4 @@ pub mod random;
 pub mod record;
 pub mod rule;
 pub mod sheet;
+pub mod state;

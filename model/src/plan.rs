@@ -1,6 +1,8 @@
 //! Document 01, "The line": the plan, read and written by one layout, and
 //! which channel takes a record.
 
+pub mod practice;
+
 use crate::answer::{
     PLAN_CHANNEL, PLAN_COUNTS, PLAN_DEGREE, PLAN_LENGTH, PLAN_RULE, PLAN_SIZE, PLAN_VERSION,
 };

@@ -1,5 +1,9 @@
 //! Random plans and frames: mostly accepted, with many crashes and replays.
 
+mod disturb;
+
+pub use disturb::{disturb, retarget};
+
 use std::collections::BTreeSet;
 
 use super::{stepped, Frame, Line, Status};
@@ -230,7 +234,7 @@ impl Practice {
 
 /// How unequally much the children have taken from the node: the more, the
 /// longer the replay after a crash.
-fn tear(line: &Line, node: usize) -> u32 {
+pub fn tear(line: &Line, node: usize) -> u32 {
     let least = line.taken_by_children(node).min().unwrap_or(0);
     let greatest = line.taken_by_children(node).max().unwrap_or(0);
     greatest - least

@@ -3,7 +3,7 @@
 
 use super::*;
 use crate::answer::NO_REPLAY;
-use crate::line::practice::{any_plan, stray, Practice};
+use crate::line::practice::{any_plan, disturb, retarget, stray, Practice};
 use crate::line::replay::placed;
 use crate::random::Random;
 
@@ -90,93 +90,6 @@ fn practised_lines_stay_undamaged() {
     assert!(seen.replays > 800 && seen.ended_replays > 400);
     assert!(seen.crashes_while_replaying > 100 && seen.gaps > 100);
     assert!(seen.free > 50 && seen.floors > 2);
-}
-
-/// Changes one number, one sender or one part anywhere in the line.
-fn disturb(random: &mut Random, line: &mut Line) {
-    let number = random.index(line.nodes.len());
-    let channel = random.index(line.queues.len());
-    let some_node = random.index(line.nodes.len());
-    let time = random.between(0, 12);
-    let material = random.pick(&[0, 1, 2, 3]);
-    let node = &mut line.nodes[number];
-    let queue = &mut line.queues[channel];
-    let entry = random.draw() as usize % node.log.len().max(1);
-    let held = random.draw() as usize % node.buffered.len().max(1);
-    let message = random.draw() as usize % queue.messages.len().max(1);
-    match random.index(13) {
-        0 => node.clock.time = time,
-        1 | 2 => {
-            let parts = node.clock.parents.len();
-            if parts > 0 {
-                let part = &mut node.clock.parents[random.index(parts)];
-                part.time = time;
-                for before in &mut part.parents {
-                    before.time = before.time.max(time);
-                }
-            }
-        }
-        3 | 4 => {
-            if let Some(entry) = node.log.get_mut(entry) {
-                if let Some(input) = &mut entry.message.made_from {
-                    input.time = time;
-                }
-                entry.message.record.material = material;
-            }
-        }
-        5 => {
-            if let Some(entry) = node.log.get_mut(entry) {
-                if let Some(origin) = &mut entry.input_made_from {
-                    origin.time = time;
-                    origin.sender = random.pick(&[origin.sender, some_node]);
-                }
-            }
-        }
-        6 => {
-            if let Some(entry) = node.log.get_mut(entry) {
-                entry.message.time = time;
-            }
-        }
-        7 => {
-            if let Some(held) = node.buffered.get_mut(held) {
-                held.made_from.time = time;
-                held.record.material = material;
-            }
-        }
-        8 => queue.mark = time,
-        9 => {
-            if let Some(message) = queue.messages.get_mut(message) {
-                message.time = time;
-                message.record.material = material;
-            }
-        }
-        10 => {
-            if message < queue.messages.len() {
-                queue.messages.remove(message);
-            }
-        }
-        11 => {
-            if held < node.buffered.len() {
-                node.buffered.remove(held);
-            }
-        }
-        _ => {
-            if entry < node.log.len() {
-                node.log.remove(entry);
-            }
-        }
-    }
-}
-
-/// Gives replaying nodes the time and targets of their children's new logs.
-fn retarget(line: &mut Line) {
-    for number in 0..line.nodes.len() {
-        if line.nodes[number].status == Status::Replaying {
-            let told = restart(line, number);
-            line.nodes[number].clock.time = told.low;
-            line.nodes[number].targets = told.targets;
-        }
-    }
 }
 
 /// From any undamaged line, reached by frames or not, accepted steps lead to

@@ -1,0 +1,59 @@
+//! A channel's mark and messages, and the part of the receiver's clock that
+//! stands with it.
+
+use super::*;
+
+impl View<'_> {
+    pub(super) fn is_channel_sound(&self, number: usize) -> bool {
+        let block = self.channel(number);
+        let (sender, receiver) = (self.shape.sender[number], self.shape.receiver[number]);
+        if has(self.marked, sender) && has(self.marked, receiver) {
+            return false;
+        }
+        if has(self.down, receiver) {
+            return is_zero(block);
+        }
+        let taken = number_at(block, TAKEN);
+        let parents = self.shape.parent_count[sender];
+        let is_clock_sound = taken <= self.steps
+            && (0..parents).all(|row| number_at(block, heard(row)) <= self.steps)
+            && is_zero(&block[heard(parents)..QUEUE.count]);
+        if !is_clock_sound {
+            return false;
+        }
+        let mark = number_at(block, MARK);
+        if has(self.down, sender) {
+            return mark == 0 && is_zero(&block[QUEUE.count..]);
+        }
+        if has(self.replaying, sender) && !is_zero(&block[QUEUE.count..]) {
+            return false;
+        }
+        taken <= mark && mark <= self.steps && self.is_queue_sound(number, taken, mark)
+    }
+
+    fn is_queue_sound(&self, number: usize, taken: u32, mark: u32) -> bool {
+        let block = self.channel(number);
+        let Some(count) = count_in(block, QUEUE) else {
+            return false;
+        };
+        let mut last = taken;
+        for slot in block[QUEUE.slot(0)..QUEUE.slot(count)].chunks_exact(QUEUE.length) {
+            let time = number_at(slot, MESSAGE_TIME);
+            if time <= last || !is_record_sound(slot) || !self.is_message_made(number, slot) {
+                return false;
+            }
+            last = time;
+        }
+        last <= mark && is_zero(&block[QUEUE.slot(count)..])
+    }
+
+    fn is_message_made(&self, number: usize, slot: &[u8]) -> bool {
+        let sender = self.shape.sender[number];
+        if has(self.shape.sources, sender) {
+            return is_zero(&slot[MADE_FROM..]);
+        }
+        self.shape.entering(sender, slot[MADE_FROM]).is_some()
+            && (1..=self.steps).contains(&number_at(slot, MADE_FROM + 1))
+            && is_zero(&slot[MESSAGE_USED..])
+    }
+}

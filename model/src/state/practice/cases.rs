@@ -1,0 +1,171 @@
+//! What is made of one undamaged line.
+
+use super::fields::{self, Fields};
+use super::{places, Case, Effort, Kind, Place, Visit, CLAUSES, HARMLESS, SHUFFLES};
+use crate::answer::{ACCEPTED, STATE};
+use crate::line::practice::{disturb, retarget};
+use crate::line::Line;
+use crate::random::Random;
+use crate::state::{check, line_bytes, LENGTH};
+
+pub fn made_of(random: &mut Random, line: &Line, effort: Effort, kind: Kind, visit: Visit) {
+    let mut state = line_bytes(line);
+    visit(&Case {
+        kind,
+        clause: "",
+        name: "undamaged",
+        state: &state,
+        expected: Some(ACCEPTED),
+    });
+    for _ in 0..effort.conditions {
+        by_name(random, line, visit);
+    }
+    let (used, unused): (Vec<Place>, Vec<Place>) =
+        places(line).into_iter().partition(|place| place.is_used);
+    let fields = Fields::new(&used);
+    for _ in 0..effort.fields {
+        let place = fields.any(random);
+        fields::neighbours(&mut state, place, visit);
+        fields::edge(random, &mut state, place, line.steps, visit);
+    }
+    for _ in 0..effort.bytes {
+        noise(random, &mut state, &used, visit);
+    }
+    for _ in 0..effort.shuffles {
+        let shuffle = &SHUFFLES[random.index(SHUFFLES.len())];
+        let mut shuffled = state.clone();
+        if (shuffle.change)(random, line, &mut shuffled).is_some() {
+            visit(&Case {
+                kind: Kind::Shuffled,
+                clause: "",
+                name: shuffle.name,
+                state: &shuffled,
+                expected: None,
+            });
+        }
+    }
+    for _ in 0..effort.unused {
+        let place = random.pick(&unused);
+        if place.width > 0 {
+            let at = place.at + random.index(place.width);
+            state[at] = random.between(1, 255) as u8;
+            visit(&unused_case(place, &state));
+            state[at] = 0;
+        }
+    }
+    lengths(random, &state, visit);
+}
+
+/// Each condition of the paper and each harmless change, once.
+fn by_name(random: &mut Random, line: &Line, visit: Visit) {
+    for clause in CLAUSES {
+        for condition in clause.conditions {
+            if let Some(state) = condition.apply(random, line) {
+                visit(&Case {
+                    kind: Kind::Condition,
+                    clause: clause.words,
+                    name: condition.name,
+                    state: &state,
+                    expected: Some(STATE),
+                });
+            }
+        }
+    }
+    for harmless in HARMLESS {
+        let mut changed = line.clone();
+        if (harmless.change)(random, &mut changed).is_some() {
+            visit(&Case {
+                kind: Kind::Harmless,
+                clause: "",
+                name: harmless.name,
+                state: &line_bytes(&changed),
+                expected: Some(ACCEPTED),
+            });
+        }
+    }
+}
+
+/// A byte or a bit, of a used field in half of the cases.
+fn noise(random: &mut Random, state: &mut [u8], used: &[Place], visit: Visit) {
+    let at = if random.one_in(2) {
+        let place = random.pick(used);
+        place.at + random.index(place.width)
+    } else {
+        random.index(state.len())
+    };
+    let kept = state[at];
+    for (kind, byte) in [
+        (Kind::Byte, random.draw() as u8),
+        (Kind::Bit, kept ^ 1 << random.index(8)),
+    ] {
+        state[at] = byte;
+        visit(&Case {
+            kind,
+            clause: "",
+            name: "any",
+            state,
+            expected: (byte == kept).then_some(ACCEPTED),
+        });
+    }
+    state[at] = kept;
+}
+
+pub fn unused_case(place: Place, state: &[u8]) -> Case<'_> {
+    Case {
+        kind: Kind::Unused,
+        clause: "",
+        name: place.name,
+        state,
+        expected: Some(STATE),
+    }
+}
+
+fn lengths(random: &mut Random, state: &[u8], visit: Visit) {
+    let any = random.index(2 * LENGTH);
+    for length in [0, 1, 511, 512, LENGTH - 1, LENGTH + 1, 2 * LENGTH, any] {
+        let mut other = state.to_vec();
+        other.resize(length, 0);
+        visit(&Case {
+            kind: Kind::Length,
+            clause: "",
+            name: "another length",
+            state: &other,
+            expected: (length != LENGTH).then_some(STATE),
+        });
+    }
+}
+
+/// Disturbs the line time and again and goes on from there for as long as it is
+/// undamaged. The last undamaged line.
+pub fn disturbed(random: &mut Random, line: &Line, times: usize, visit: Visit) -> Line {
+    let mut last = line.clone();
+    last.steps = (last.steps + 20).min(Line::MOST_STEPS);
+    for _ in 0..times {
+        let mut next = last.clone();
+        for _ in 0..random.between(1, 4) {
+            disturb(random, &mut next);
+        }
+        if random.one_in(2) {
+            retarget(&mut next);
+        }
+        if next
+            .nodes
+            .iter()
+            .any(|node| node.targets.len() > Line::MOST_TARGETS)
+        {
+            continue;
+        }
+        let state = line_bytes(&next);
+        visit(&Case {
+            kind: Kind::Disturbed,
+            clause: "",
+            name: "any",
+            state: &state,
+            expected: None,
+        });
+        if check(&state) == ACCEPTED {
+            last = next;
+        }
+    }
+    last
+}

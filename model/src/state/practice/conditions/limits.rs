@@ -1,0 +1,91 @@
+use super::*;
+use crate::state::layout::*;
+use crate::state::practice::harmless::hold_most;
+
+pub const OUTSIDE: Clause = Clause {
+    words: "a number is outside its limits",
+    conditions: &[
+        bytes("status", |random, line, state| {
+            let number = random.index(line.nodes.len());
+            state[node(number) + STATUS] = random.pick(&[3, 4, 128, 129, 255]);
+            Some(())
+        }),
+        bytes("crash mark", |random, line, state| {
+            let number = random.index(line.nodes.len());
+            state[node(number) + CRASH_MARK] = random.pick(&[2, 3, 128, 129, 255]);
+            Some(())
+        }),
+        line("steps", |random, line| {
+            line.steps = random.pick(&[1_000_001, 1_000_256, 1 << 24, u32::MAX]);
+            Some(())
+        }),
+        bytes("entries in a log", |random, line, state| {
+            let number = random.index(line.nodes.len());
+            miscount(random, &mut state[node(number)..], LOG)
+        }),
+        bytes("held records", |random, line, state| {
+            let number = random.index(line.nodes.len());
+            miscount(random, &mut state[node(number)..], BUFFERED)
+        }),
+        bytes(
+            "held records where all slots are used",
+            |random, line, state| {
+                let mut full = line.clone();
+                hold_most(random, &mut full)?;
+                state.copy_from_slice(&line_bytes(&full));
+                let number = pick::node(random, &full, |_, node| {
+                    node.buffered.len() == Line::MOST_BUFFERED
+                })?;
+                miscount(random, &mut state[node(number)..], BUFFERED)
+            },
+        ),
+        bytes("targets", |random, line, state| {
+            let number = random.index(line.nodes.len());
+            miscount(random, &mut state[node(number)..], TARGETS)
+        }),
+        bytes("messages on a channel", |random, line, state| {
+            let number = random.index(line.queues.len());
+            miscount(random, &mut state[channel(number)..], QUEUE)
+        }),
+        line("material in a log", |random, line| {
+            let (node, index) = pick::entry(random, line, |_, _| true)?;
+            line.nodes[node].log[index].message.record.material = no_material(random);
+            Some(())
+        }),
+        line("material of a held record", |random, line| {
+            // Among those that a channel takes where materials wrap around.
+            let (node, index) = pick::held(random, line, |_, _| true)?;
+            let none = no_material(random);
+            let record = &mut line.nodes[node].buffered[index].record;
+            record.material = random.pick(&[record.material + 16, none]);
+            Some(())
+        }),
+        line("material on a channel", |random, line| {
+            let (channel, index) = pick::message(random, line, |_, _| true)?;
+            line.queues[channel].messages[index].record.material = no_material(random);
+            Some(())
+        }),
+    ],
+};
+
+fn no_material(random: &mut Random) -> u8 {
+    random.pick(&[16, 17, 31, 32, 128, 255])
+}
+
+/// One more than the slots and far more; also where the last byte is right.
+fn miscount(random: &mut Random, block: &mut [u8], slots: Slots) -> Option<()> {
+    let count = number_at(block, slots.count);
+    let most = slots.most as u32;
+    let wrong = random.pick(&[
+        most + 1,
+        most + 2,
+        255,
+        count + 256,
+        count + 65_536,
+        count + (1 << 24),
+        count + (1 << 31),
+        u32::MAX,
+    ]);
+    put_number(block, slots.count, wrong);
+    Some(())
+}

@@ -1,0 +1,128 @@
+use super::*;
+use crate::plan::{Channel, Plan};
+use crate::rule::Rule;
+use crate::state::layout::put;
+use crate::state::practice::staged::plan_of;
+
+pub const REFUSED: Clause = Clause {
+    words: "the plan would be refused",
+    conditions: &[
+        bytes("length", |random, line, state| {
+            let length = line.plan.write().len() as u16;
+            let any = random.draw() as u16;
+            let other = random.pick(&[0, 4, 5, length - 1, length + 1, length + 256, 513, any]);
+            put(state, 0, &other.to_be_bytes());
+            (other != length).then_some(())
+        }),
+        bytes("version", |random, _, state| {
+            state[2] = random.pick(&[0, 2, 129, 255]);
+            Some(())
+        }),
+        bytes("number of nodes", |random, _, state| {
+            state[3] = random.pick(&[0, 1, 13, 14, 255]);
+            Some(())
+        }),
+        bytes("number of channels", |random, _, state| {
+            state[4] = random.pick(&[0, 25, 26, 255]);
+            Some(())
+        }),
+        bytes(
+            "numbers that the length does not fit",
+            |random, line, state| {
+                let nodes = line.plan.node_count() as u32;
+                let channels = line.plan.channels.len() as u32;
+                let others = (random.between(2, 12), random.between(1, 24));
+                (state[3], state[4]) = (others.0 as u8, others.1 as u8);
+                (4 * others.0 + 6 * others.1 != 4 * nodes + 6 * channels).then_some(())
+            },
+        ),
+        bytes("rule", |random, line, state| {
+            let node = random.index(line.plan.node_count());
+            let rule: [u8; Rule::LENGTH] = random.pick(&[
+                [0, 0, 0, 1],
+                [0, 0, 1, 0],
+                [0, 1, 0, 0],
+                [1, 16, 0, 0],
+                [1, 0, 0, 16],
+                [1, 0, 1, 0],
+                [2, 0, 0, 0],
+                [2, 1, 0, 1],
+                [3, 0, 0, 0],
+                [255, 0, 0, 0],
+            ]);
+            put(state, rule_at(node), &rule);
+            Some(())
+        }),
+        bytes("channel", |random, line, state| {
+            let number = random.index(line.plan.channels.len());
+            let slot = &mut state[channel_at(&line.plan, number)..][..Channel::LENGTH];
+            match random.index(7) {
+                0 => slot[0] = slot[1],
+                1 => slot.swap(0, 1),
+                2 => slot[1] = line.plan.node_count() as u8,
+                3 => slot[1] = 255,
+                4 => slot[2..4].fill(0),
+                5 => slot[4] = 0,
+                _ => slot[5] = slot[4],
+            }
+            Some(())
+        }),
+        bytes("order of channels", |random, line, state| {
+            if line.plan.channels.len() < 2 {
+                return None;
+            }
+            let first = random.index(line.plan.channels.len() - 1);
+            let at = channel_at(&line.plan, first);
+            let both = &mut state[at..][..2 * Channel::LENGTH];
+            if random.one_in(2) {
+                both.rotate_left(Channel::LENGTH);
+            } else {
+                let (first, second) = both.split_at_mut(Channel::LENGTH);
+                second[..2].copy_from_slice(&first[..2]);
+            }
+            Some(())
+        }),
+        line("no channels", |random, line| {
+            let nodes = random.between(2, 12) as usize;
+            *line = unstepped(nodes, Vec::new());
+            Some(())
+        }),
+        line("13 nodes", |random, line| {
+            let last = random.between(1, 12) as usize;
+            *line = unstepped(13, vec![(0, last)]);
+            Some(())
+        }),
+        line("25 channels", |random, line| {
+            let nodes = random.between(11, 12) as usize;
+            let near = (1..nodes).map(|node| (node - 1, node));
+            let next = (2..nodes).map(|node| (node - 2, node));
+            let far = (3..nodes).map(|node| (node - 3, node));
+            let ends = near.chain(next).chain(far);
+            *line = unstepped(nodes, ends.take(25).collect());
+            Some(())
+        }),
+        line("five channels leave a node", |random, line| {
+            let nodes = random.between(6, 12) as usize;
+            *line = unstepped(nodes, (1..=5).map(|node| (0, node)).collect());
+            Some(())
+        }),
+        line("five channels enter a node", |random, line| {
+            let nodes = random.between(6, 12) as usize;
+            *line = unstepped(nodes, (0..5).map(|node| (node, 5)).collect());
+            Some(())
+        }),
+    ],
+};
+
+fn rule_at(node: usize) -> usize {
+    Plan::HEADER + Rule::LENGTH * node
+}
+
+fn channel_at(plan: &Plan, number: usize) -> usize {
+    rule_at(plan.node_count()) + Channel::LENGTH * number
+}
+
+/// A line before any step; nothing but its plan is wrong.
+fn unstepped(nodes: usize, ends: Vec<(usize, usize)>) -> Line {
+    Line::of(plan_of(nodes, ends))
+}

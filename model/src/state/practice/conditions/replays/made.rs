@@ -1,0 +1,105 @@
+//! Replays that Recover would not leave.
+
+use super::pick;
+use crate::clock::Clock;
+use crate::line::{restart, Entry, Line, Message, Node, Origin, Restart, Status};
+use crate::random::Random;
+use crate::state::practice::runs::any_record;
+use crate::state::practice::staged::plan_of;
+
+/// Replaying with what the children tell.
+pub fn replay(line: &mut Line, node: usize, told: &Restart) {
+    let mut clock = Clock::empty(&line.plan, node);
+    clock.time = told.low;
+    for channel in line.plan.entering(node).chain(line.plan.leaving(node)) {
+        line.queues[channel] = Default::default();
+        let ends = &line.plan.channels[channel];
+        if ends.sender == node {
+            line.queues[channel].mark = line.nodes[ends.receiver].clock.taken(node);
+        }
+    }
+    line.nodes[node].clock = clock;
+    line.nodes[node].status = Status::Replaying;
+    line.nodes[node].log.clear();
+}
+
+/// Children have taken, at or below low, what the greatest target of each row
+/// was made from, save a spared row: of that, what came just before.
+pub fn complete_rows(
+    random: &mut Random,
+    line: &mut Line,
+    node: usize,
+    spared: Option<usize>,
+) -> Option<()> {
+    let low = line.nodes[node].time();
+    if low == 0 {
+        return None;
+    }
+    for parent in line.plan.clone().parents(node) {
+        let greatest = greatest_target(line, node, parent);
+        let time = match spared == Some(parent) {
+            true => greatest.saturating_sub(1),
+            false => greatest,
+        };
+        if time == 0 {
+            continue;
+        }
+        let children = line.plan.children(node);
+        let room = |child: &usize| line.nodes[*child].log.len() < Line::MOST_ENTRIES;
+        let child = pick::any(random, children.filter(room))?;
+        let input = Origin {
+            sender: node,
+            time: random.between(1, low),
+        };
+        let origin = Origin {
+            sender: parent,
+            time,
+        };
+        log_input(random, &mut line.nodes[child], input, origin);
+        line.steps = line.steps.max(line.nodes[child].time());
+    }
+    Some(())
+}
+
+/// 0 if the row has none.
+pub fn greatest_target(line: &Line, node: usize, parent: usize) -> u32 {
+    let targets = line.nodes[node].targets.iter();
+    let row = targets.filter(|target| target.parent == parent);
+    row.map(|target| target.parent_time).max().unwrap_or(0)
+}
+
+/// The node logs what it made from the input, which was made from the origin.
+fn log_input(random: &mut Random, node: &mut Node, input: Origin, origin: Origin) {
+    node.clock.time += 1;
+    node.clock.raise_taken(input.sender, input.time);
+    node.clock
+        .raise_heard(input.sender, origin.sender, origin.time);
+    node.log.push(Entry {
+        message: Message {
+            record: any_record(random),
+            time: node.clock.time,
+            made_from: Some(input),
+        },
+        input_made_from: Some(origin),
+    });
+}
+
+/// A router that replays with 64 of the 65 targets that two of its children
+/// tell; the third has heard nothing.
+pub fn too_many(random: &mut Random) -> Line {
+    let mut line = Line::of(plan_of(5, vec![(0, 1), (1, 2), (1, 3), (1, 4)]));
+    line.steps = 1000;
+    let alone = random.between(1, 65);
+    for time in 1..=65 {
+        let child = if time == alone { 3 } else { 2 };
+        let (input, origin) = (Origin { sender: 1, time }, Origin { sender: 0, time });
+        log_input(random, &mut line.nodes[child], input, origin);
+    }
+    line.nodes[1].crash_marked = true;
+    let told = restart(&line, 1);
+    replay(&mut line, 1, &told);
+    line.nodes[1].targets = told.targets;
+    let dropped = random.between(0, 64) as usize;
+    line.nodes[1].targets.remove(random.pick(&[dropped, 64]));
+    line
+}

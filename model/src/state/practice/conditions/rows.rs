@@ -1,0 +1,92 @@
+use super::*;
+use crate::line::Status;
+
+pub const NOT_RISING: Clause = Clause {
+    words: "held times of a row don't rise strictly",
+    conditions: &[
+        line("twice the same", |random, line| {
+            let (node, first, second) = two_of_a_row(random, line)?;
+            let held = &mut line.nodes[node].buffered;
+            held[second].made_from.time = held[first].made_from.time;
+            Some(())
+        }),
+        line("one record twice", |random, line| {
+            let (node, index) = pick::held(random, line, |node, _| {
+                line.nodes[node].buffered.len() < Line::MOST_BUFFERED
+            })?;
+            let held = &mut line.nodes[node].buffered;
+            held.push(held[index]);
+            Some(())
+        }),
+        line("falling", |random, line| {
+            let (node, first, second) = two_of_a_row(random, line)?;
+            line.nodes[node].buffered.swap(first, second);
+            Some(())
+        }),
+    ],
+};
+
+pub const NOT_TAKEN: Clause = Clause {
+    words: "a held record is one that no leaving belt takes",
+    conditions: &[
+        line("by its material", |random, line| {
+            let (node, index) = pick::held(random, line, |_, _| true)?;
+            let mut record = line.nodes[node].buffered[index].record;
+            record.material = pick::any(
+                random,
+                (0..16).filter(|&material| {
+                    let mut other = record;
+                    other.material = material as u8;
+                    !line.plan.passes_on(node, &other)
+                }),
+            )? as u8;
+            line.nodes[node].buffered[index].record = record;
+            Some(())
+        }),
+        line("by its piece number", |random, line| {
+            let (node, index) = pick::held(random, line, |_, _| true)?;
+            let mut record = line.nodes[node].buffered[index].record;
+            for _ in 0..8 {
+                record.piece = random.draw() as u32;
+                if !line.plan.passes_on(node, &record) {
+                    line.nodes[node].buffered[index].record = record;
+                    return Some(());
+                }
+            }
+            None
+        }),
+        line("by the channels' masks", |random, line| {
+            let node = pick::node_that_is(random, line, Status::Replaying)?;
+            let held = line.nodes[node].buffered.first()?.record;
+            let leaving: Vec<usize> = line.plan.leaving(node).collect();
+            for channel in leaving {
+                line.plan.channels[channel].mask = !(1 << held.material);
+            }
+            Some(())
+        }),
+        line("by the channels' remainders", |random, line| {
+            let node = pick::node_that_is(random, line, Status::Replaying)?;
+            let held = line.nodes[node].buffered.first()?.record;
+            let leaving: Vec<usize> = line.plan.leaving(node).collect();
+            for channel in leaving {
+                let channel = &mut line.plan.channels[channel];
+                channel.modulus = random.between(2, 255) as u8;
+                let taken = held.piece % u32::from(channel.modulus);
+                channel.remainder = ((taken + 1) % u32::from(channel.modulus)) as u8;
+            }
+            Some(())
+        }),
+    ],
+};
+
+/// A node and two of the records that it holds from one parent.
+fn two_of_a_row(random: &mut Random, line: &Line) -> Option<(usize, usize, usize)> {
+    let later = |node: usize, index: usize| {
+        let held = &line.nodes[node].buffered;
+        let sender = held[index].made_from.sender;
+        (index + 1..held.len()).filter(move |&other| held[other].made_from.sender == sender)
+    };
+    let (node, first) = pick::held(random, line, |node, index| later(node, index).count() > 0)?;
+    let second = pick::any(random, later(node, first))?;
+    Some((node, first, second))
+}

@@ -1,0 +1,27 @@
+use super::*;
+
+/// By the names of `places`.
+pub const NOT_ZERO: Clause = Clause {
+    words: "an unused byte is not 0",
+    conditions: &[
+        unused("after the plan"),
+        unused("after the steps"),
+        unused("before a node's time"),
+        unused("within a record"),
+        unused("time of no sender"),
+        unused("after an entry"),
+        unused("free entries"),
+        unused("after a held record"),
+        unused("free held records"),
+        unused("after a target"),
+        unused("free targets"),
+        unused("after a node's targets"),
+        unused("nodes that the plan lacks"),
+        unused("heard of parents that a sender lacks"),
+        unused("after a message"),
+        unused("free messages"),
+        unused("after a channel's queue"),
+        unused("channels that the plan lacks"),
+        unused("after the channels"),
+    ],
+};

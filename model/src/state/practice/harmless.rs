@@ -1,0 +1,275 @@
+//! What the paragraph "Damaged" does not list is no damage: changes after which
+//! a line is still undamaged.
+
+use super::conditions::replays::made::{complete_rows, greatest_target};
+use super::runs::any_record;
+use super::{pick, staged};
+use crate::line::{restart, Line, Status};
+use crate::random::Random;
+use crate::rule::Rule;
+
+pub struct Harmless {
+    pub name: &'static str,
+    /// None where the line has no place for it.
+    pub change: fn(&mut Random, &mut Line) -> Option<()>,
+}
+
+const fn harmless(
+    name: &'static str,
+    change: fn(&mut Random, &mut Line) -> Option<()>,
+) -> Harmless {
+    Harmless { name, change }
+}
+
+pub const HARMLESS: &[Harmless] = &[
+    harmless("more steps", |random, line| {
+        let any = random.between(line.steps, Line::MOST_STEPS);
+        line.steps = random.pick(&[any, Line::MOST_STEPS]);
+        Some(())
+    }),
+    harmless("another rule", |random, line| {
+        let node = random.index(line.nodes.len());
+        line.plan.rules[node] = random.pick(&[
+            Rule::Keep,
+            Rule::Relabel { from: 1, to: 0 },
+            Rule::Relabel { from: 15, to: 15 },
+            Rule::Cap { greatest: 1 },
+        ]);
+        Some(())
+    }),
+    harmless("another mask of a channel", |random, line| {
+        let channel = pick::channel(random, line, |channel| {
+            let sender = line.plan.channels[channel].sender;
+            line.nodes[sender].buffered.is_empty()
+        })?;
+        line.plan.channels[channel].mask = random.between(1, 0xFFFF) as u16;
+        Some(())
+    }),
+    harmless("another remainder of a channel", |random, line| {
+        let channel = pick::channel(random, line, |channel| {
+            let sender = line.plan.channels[channel].sender;
+            line.nodes[sender].buffered.is_empty()
+        })?;
+        let channel = &mut line.plan.channels[channel];
+        channel.modulus = random.between(1, 255) as u8;
+        channel.remainder = random.index(usize::from(channel.modulus)) as u8;
+        Some(())
+    }),
+    harmless("crash mark of an up router", |random, line| {
+        let plan = &line.plan;
+        let node = pick::node(random, line, |number, _| {
+            let mut joined = plan.parents(number).chain(plan.children(number));
+            !plan.is_source(number)
+                && !plan.is_sink(number)
+                && joined.all(|other| !line.nodes[other].crash_marked)
+        })?;
+        line.nodes[node].crash_marked = true;
+        Some(())
+    }),
+    harmless("time above the log", |random, line| {
+        let node = pick::node_that_is(random, line, Status::Up)?;
+        let time = random.between(line.nodes[node].time(), line.steps);
+        line.nodes[node].clock.time = random.pick(&[time, line.steps]);
+        Some(())
+    }),
+    harmless("gap in log times", |random, line| {
+        let node = pick::node(random, line, |_, node| !node.log.is_empty())?;
+        let time = random.between(line.nodes[node].time(), line.steps);
+        line.nodes[node].clock.time = time;
+        line.nodes[node].log.last_mut()?.message.time = time;
+        Some(())
+    }),
+    harmless("another record in a log", |random, line| {
+        let (node, index) = pick::entry(random, line, |_, _| true)?;
+        line.nodes[node].log[index].message.record = any_record(random);
+        Some(())
+    }),
+    harmless(
+        "an entry that no parent's replay needs less",
+        |random, line| {
+            let (node, index) = pick::entry(random, line, |_, entry| {
+                let input = entry.message.made_from;
+                input.is_none_or(|input| line.nodes[input.sender].status == Status::Up)
+            })?;
+            line.nodes[node].log.remove(index);
+            Some(())
+        },
+    ),
+    harmless("an entry's sender's time lower", |random, line| {
+        let (node, index) = pick::entry(random, line, |_, entry| {
+            let input = entry.message.made_from;
+            input.is_some_and(|input| line.nodes[input.sender].status == Status::Up)
+        })?;
+        let input = line.nodes[node].log[index].message.made_from.as_mut()?;
+        input.time = random.between(1, input.time);
+        Some(())
+    }),
+    harmless("higher mark", |random, line| {
+        let channel = pick::live_channel(random, line, |_| true)?;
+        let mark = random.between(line.queues[channel].mark, line.steps);
+        line.queues[channel].mark = random.pick(&[mark, line.steps]);
+        Some(())
+    }),
+    harmless("mark at the receiver's entry", |random, line| {
+        let channel = pick::live_channel(random, line, |_| true)?;
+        let ends = line.plan.channels[channel];
+        line.queues[channel].messages.clear();
+        line.queues[channel].mark = line.nodes[ends.receiver].clock.taken(ends.sender);
+        Some(())
+    }),
+    harmless("mark at the last message", |random, line| {
+        let (channel, _) = pick::message(random, line, |_, _| true)?;
+        let queue = &mut line.queues[channel];
+        queue.mark = queue.messages.last()?.time;
+        Some(())
+    }),
+    harmless("entry for a parent just below a message", |random, line| {
+        let (channel, _) = pick::message(random, line, |channel, _| {
+            let ends = &line.plan.channels[channel];
+            line.nodes[ends.sender].status == Status::Up
+        })?;
+        let ends = line.plan.channels[channel];
+        let first = line.queues[channel].messages[0].time;
+        let clock = &mut line.nodes[ends.receiver].clock;
+        clock.raise_taken(ends.sender, first - 1);
+        Some(())
+    }),
+    harmless("another record on a channel", |random, line| {
+        let (channel, index) = pick::message(random, line, |_, _| true)?;
+        line.queues[channel].messages[index].record = any_record(random);
+        Some(())
+    }),
+    harmless("a message less", |random, line| {
+        let (channel, index) = pick::message(random, line, |_, _| true)?;
+        line.queues[channel].messages.remove(index);
+        Some(())
+    }),
+    harmless("a message's sender and its time", |random, line| {
+        let (channel, index) = pick::message(random, line, |channel, index| {
+            line.queues[channel].messages[index].made_from.is_some()
+        })?;
+        let sender = pick::any(
+            random,
+            line.plan.parents(line.plan.channels[channel].sender),
+        )?;
+        let time = random.between(1, line.steps);
+        let origin = line.queues[channel].messages[index].made_from.as_mut()?;
+        origin.sender = sender;
+        origin.time = random.pick(&[time, line.steps]);
+        Some(())
+    }),
+    harmless("higher time heard of a parent's parent", |random, line| {
+        let node = pick::node(random, line, |_, node| node.status != Status::Down)?;
+        let parent = pick::any(random, line.plan.parents(node))?;
+        let before = pick::any(random, line.plan.parents(parent))?;
+        let steps = line.steps;
+        line.nodes[node].clock.raise_heard(parent, before, steps);
+        Some(())
+    }),
+    harmless("a held record less", |random, line| {
+        let (node, index) = pick::held(random, line, |_, _| true)?;
+        line.nodes[node].buffered.remove(index);
+        Some(())
+    }),
+    harmless(
+        "another held record that a channel takes",
+        |random, line| {
+            let (node, index) = pick::held(random, line, |_, _| true)?;
+            let mut record = any_record(random);
+            for _ in 0..8 {
+                if line.plan.passes_on(node, &record) {
+                    line.nodes[node].buffered[index].record = record;
+                    return Some(());
+                }
+                record.piece = random.draw() as u32;
+                record.material = random.index(16) as u8;
+            }
+            None
+        },
+    ),
+    harmless(
+        "held records of two rows in another order",
+        |random, line| {
+            let (node, index) = pick::held(random, line, |node, index| {
+                let held = &line.nodes[node].buffered;
+                index + 1 < held.len()
+                    && held[index].made_from.sender != held[index + 1].made_from.sender
+            })?;
+            line.nodes[node].buffered.swap(index, index + 1);
+            Some(())
+        },
+    ),
+    harmless("rows of a replay all complete", |random, line| {
+        let node = pick::node_that_is(random, line, Status::Replaying)?;
+        let entering: Vec<usize> = line.plan.entering(node).collect();
+        for channel in entering {
+            let sender = line.plan.channels[channel].sender;
+            let steps = line.steps;
+            line.nodes[node].clock.raise_taken(sender, steps);
+            line.queues[channel].messages.clear();
+            line.queues[channel].mark = steps;
+        }
+        Some(())
+    }),
+    harmless("rows complete at once but for one", |random, line| {
+        let node = pick::node_that_is(random, line, Status::Replaying)?;
+        let told = restart(line, node);
+        let incomplete = told
+            .restored
+            .iter()
+            .filter(|entry| entry.time < greatest_target(line, node, entry.sender))
+            .map(|entry| entry.sender);
+        let spared = pick::any(random, incomplete)?;
+        complete_rows(random, line, node, Some(spared))
+    }),
+    harmless("64 held records", hold_most),
+    harmless("entry for a parent lower", |random, line| {
+        // As low as what was made from it lets it be.
+        let channel = pick::live_channel(random, line, |channel| {
+            let sender = line.plan.channels[channel].sender;
+            line.nodes[sender].status == Status::Up
+        })?;
+        let ends = line.plan.channels[channel];
+        let node = &mut line.nodes[ends.receiver];
+        let logged = node.log.iter().filter_map(|entry| entry.message.made_from);
+        let held = node.buffered.iter().map(|held| held.made_from);
+        let least = logged
+            .chain(held)
+            .filter(|input| input.sender == ends.sender)
+            .map(|input| input.time)
+            .max()
+            .unwrap_or(0);
+        node.clock.part_mut(ends.sender)?.time = least;
+        Some(())
+    }),
+    harmless("four channels into and out of nodes", |random, line| {
+        *line = Line::of(staged::routers_plan());
+        line.steps = random.between(0, Line::MOST_STEPS);
+        Some(())
+    }),
+];
+
+/// A node that holds something holds as much as it can, all the rest from one
+/// parent.
+pub fn hold_most(random: &mut Random, line: &mut Line) -> Option<()> {
+    let (node, index) = pick::held(random, line, |_, _| true)?;
+    let steps = line.steps + Line::MOST_BUFFERED as u32;
+    if steps > Line::MOST_STEPS {
+        return None;
+    }
+    line.steps = steps;
+    let first = line.nodes[node].buffered[index];
+    let sender = first.made_from.sender;
+    let channel = pick::channel_between(line, sender, node);
+    let node = &mut line.nodes[node];
+    let room = Line::MOST_BUFFERED - node.buffered.len();
+    for time in (node.clock.taken(sender) + 1..).take(room) {
+        let mut held = first;
+        held.made_from.time = time;
+        node.buffered.push(held);
+    }
+    node.clock.raise_taken(sender, steps);
+    line.queues[channel].messages.clear();
+    line.queues[channel].mark = steps;
+    Some(())
+}

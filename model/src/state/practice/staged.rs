@@ -1,0 +1,165 @@
+//! Lines that hold nothing, a little of everything, or as much as they can,
+//! reached by frames.
+
+use super::pick::channel_between;
+use crate::line::{step, Frame, Line, Status};
+use crate::plan::{Channel, Plan};
+use crate::record::Record;
+use crate::rule::Rule;
+
+/// Two nodes, one channel, no step.
+pub fn fresh() -> Line {
+    Line::of(plan_of(2, vec![(0, 1)]))
+}
+
+/// A little of everything: node 3 replays and holds a record from node 1, node 7
+/// is down, messages wait before node 11.
+pub fn mixed() -> Line {
+    let replay = [(0, 1), (1, 3), (2, 3), (3, 4), (3, 5)];
+    let others = [(6, 7), (7, 8), (9, 10), (10, 11)];
+    let mut line = Line::of(plan_of(12, [&replay[..], &others[..]].concat()));
+    for piece in 1..=3 {
+        feed(&mut line, 0, piece);
+        pass(&mut line, 0);
+        pass(&mut line, 1);
+    }
+    feed(&mut line, 2, 4);
+    pass(&mut line, 2);
+    for channel in [3, 3, 3, 3, 4] {
+        pass(&mut line, channel);
+    }
+    restart(&mut line, 3);
+    pass(&mut line, 1);
+    accept(&mut line, Frame::Send { channel: 1 });
+    accept(&mut line, Frame::Send { channel: 2 });
+    feed(&mut line, 6, 5);
+    pass(&mut line, 5);
+    accept(&mut line, Frame::Crash { node: 7 });
+    for piece in 6..=9 {
+        feed(&mut line, 9, piece);
+        pass(&mut line, 7);
+        accept(&mut line, Frame::Send { channel: 8 });
+    }
+    accept(&mut line, Frame::Take { channel: 8 });
+    line
+}
+
+/// Twelve full logs and 24 full channels: two sources, then nodes that take
+/// from the two or three before them.
+pub fn full() -> Line {
+    let near = (2..12).flat_map(|node| [(node - 2, node), (node - 1, node)]);
+    let far = (8..12).map(|node| (node - 3, node));
+    let mut line = Line::of(plan_of(12, near.chain(far).collect()));
+    for node in 0..12 {
+        if line.plan.is_source(node) {
+            fill_source(&mut line, node);
+        }
+        let entering: Vec<usize> = line.plan.entering(node).collect();
+        for channel in entering.iter().cycle() {
+            if line.nodes[node].log.len() == Line::MOST_ENTRIES {
+                break;
+            }
+            pass(&mut line, *channel);
+        }
+    }
+    fill_channels(&mut line);
+    line
+}
+
+/// Four routers between four sources and four sinks: each takes from all of the
+/// sources and sends to two of the sinks.
+pub fn routers_plan() -> Plan {
+    let entering = (0..4).flat_map(|source| (4..8).map(move |router| (source, router)));
+    let leaving = (4..8).flat_map(|router| [(router, router + 4), (router, 8 + (router + 1) % 4)]);
+    plan_of(12, entering.chain(leaving).collect())
+}
+
+/// The routers replay with 64 targets each, of which 63 are held. The sources'
+/// and sinks' logs are full, and so are the channels that enter the routers.
+pub fn replaying() -> Line {
+    let mut line = Line::of(routers_plan());
+    for source in 0..4 {
+        fill_source(&mut line, source);
+    }
+    for router in 4..8 {
+        take_in_turn(&mut line, router, Line::MOST_ENTRIES);
+        // To its own sink only, so that the other one has heard nothing.
+        let own = channel_between(&line, router, router + 4);
+        for _ in 0..Line::MOST_ENTRIES {
+            pass(&mut line, own);
+        }
+    }
+    for router in 4..8 {
+        restart(&mut line, router);
+        take_in_turn(&mut line, router, Line::MOST_TARGETS - 1);
+    }
+    fill_channels(&mut line);
+    line
+}
+
+/// Rules keep, channels take all.
+pub fn plan_of(node_count: usize, mut ends: Vec<(usize, usize)>) -> Plan {
+    ends.sort_unstable();
+    let channels = ends.into_iter().map(|(sender, receiver)| Channel {
+        sender,
+        receiver,
+        mask: 0xFFFF,
+        modulus: 1,
+        remainder: 0,
+    });
+    Plan {
+        rules: vec![Rule::Keep; node_count],
+        channels: channels.collect(),
+    }
+}
+
+fn accept(line: &mut Line, frame: Frame) {
+    assert_eq!(step(line, &frame.write()), 0, "{frame:?}");
+}
+
+fn feed(line: &mut Line, node: usize, piece: u32) {
+    let record = Record {
+        piece,
+        material: (piece % 16) as u8,
+        mass: (piece % 1000) as u16,
+    };
+    let frame = Frame::Feed {
+        node: node as u8,
+        record: record.write(),
+    };
+    accept(line, frame);
+}
+
+fn fill_source(line: &mut Line, node: usize) {
+    for number in 0..Line::MOST_ENTRIES as u32 {
+        feed(line, node, 1000 * node as u32 + number);
+    }
+}
+
+fn restart(line: &mut Line, router: usize) {
+    let node = router as u8;
+    accept(line, Frame::Crash { node });
+    accept(line, Frame::Recover { node });
+    assert_eq!(line.nodes[router].status, Status::Replaying);
+}
+
+fn pass(line: &mut Line, channel: usize) {
+    let channel = channel as u8;
+    accept(line, Frame::Send { channel });
+    accept(line, Frame::Take { channel });
+}
+
+/// So many messages, parents in turn.
+fn take_in_turn(line: &mut Line, node: usize, messages: usize) {
+    let entering: Vec<usize> = line.plan.entering(node).collect();
+    for channel in entering.iter().cycle().take(messages) {
+        pass(line, *channel);
+    }
+}
+
+/// Sends on every channel for as long as there is something and room for it.
+fn fill_channels(line: &mut Line) {
+    for channel in 0..line.queues.len() as u8 {
+        while step(line, &Frame::Send { channel }.write()) == 0 {}
+    }
+}

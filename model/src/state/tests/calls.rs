@@ -1,0 +1,88 @@
+//! Load and Write: every answer, and what is left in the buffers.
+
+use crate::line::practice::any_plan;
+use crate::line::Line;
+use crate::plan::practice::{mutate, plan};
+use crate::plan::Plan;
+use crate::random::Random;
+use crate::state::practice::{lines, staged};
+use crate::state::{line_bytes, load, read_line, write, LENGTH};
+
+fn noise(random: &mut Random, length: usize) -> Vec<u8> {
+    (0..length).map(|_| random.draw() as u8).collect()
+}
+
+#[test]
+fn loaded_plans() {
+    let mut random = Random::new(3);
+    let mut answers = [0; 9];
+    for _ in 0..20_000 {
+        let mut bytes = plan(&mut random);
+        if random.one_in(2) {
+            mutate(&mut random, &mut bytes);
+        }
+        let length = random.pick(&[LENGTH, LENGTH, LENGTH - 1, LENGTH + 1, 0]);
+        let before = vec![random.draw() as u8; length];
+        let mut state = before.clone();
+        let answer = load(&bytes, &mut state);
+        answers[answer as usize] += 1;
+        match (Plan::read(&bytes), length) {
+            (Err(refusal), _) => assert_eq!((answer, state), (refusal, before)),
+            (Ok(_), LENGTH) => {
+                assert_eq!(answer, 0);
+                assert_eq!(read_line(&state), Some(Line::load(&bytes).unwrap()));
+            }
+            _ => assert_eq!((answer, state), (8, before)),
+        }
+    }
+    println!("{answers:?}");
+    assert!(answers.iter().all(|&count| count > 20), "{answers:?}");
+}
+
+/// "The first that applies": the plan is looked at before the state.
+#[test]
+fn refused_plan_before_a_short_state() {
+    assert_eq!(load(&[0, 5, 1], &mut []), 1);
+    assert_eq!(load(&any_plan(&mut Random::new(1)).write(), &mut []), 8);
+}
+
+#[test]
+fn written_plans() {
+    let mut random = Random::new(4);
+    let mut answers = [0; 24];
+    for seed in 0..200 {
+        for line in lines(&mut Random::new(seed)) {
+            let mut state = line_bytes(&line);
+            let is_damaged = random.one_in(4);
+            if is_damaged {
+                state[LENGTH - 1] = 1;
+            }
+            let loaded = line.plan.write();
+            let needed = loaded.len();
+            let length = random.pick(&[0, needed - 1, needed, needed + 1, 512]);
+            let before = noise(&mut random, length);
+            let mut written = before.clone();
+            let answer = write(&state, &mut written);
+            answers[answer as usize] += 1;
+            if is_damaged {
+                assert_eq!((answer, written), (8, before));
+            } else if length < needed {
+                assert_eq!((answer, written), (23, before));
+            } else {
+                assert_eq!(answer, 0);
+                assert_eq!(written[..needed], loaded);
+                assert_eq!(written[needed..], before[needed..]);
+            }
+        }
+    }
+    assert!([0, 8, 23].iter().all(|&answer| answers[answer] > 100));
+}
+
+/// 8 comes before 23.
+#[test]
+fn damaged_state_before_a_short_output() {
+    let state = line_bytes(&staged::fresh());
+    assert_eq!(write(&state, &mut []), 23);
+    assert_eq!(write(&state[1..], &mut []), 8);
+    assert_eq!(write(&state[1..], &mut [0; 512]), 8);
+}

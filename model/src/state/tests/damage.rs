@@ -1,0 +1,94 @@
+//! The check answers as it must where that is known beforehand, and the direct
+//! check answers as the reading one on every state of the practice.
+
+use std::collections::BTreeMap;
+
+use crate::line::Line;
+use crate::state::practice::{self, staged, Case, Effort, Kind, CLAUSES, HARMLESS, SHUFFLES};
+use crate::state::{check, direct, LENGTH};
+
+const RUNS: u64 = 120;
+const EFFORT: Effort = Effort {
+    conditions: 1,
+    disturbed: 20,
+    fields: 20,
+    bytes: 10,
+    shuffles: 10,
+    unused: 10,
+};
+
+/// The number of cases, and of those accepted.
+type Counts = BTreeMap<(Kind, &'static str, &'static str), (usize, usize)>;
+
+fn compare(case: &Case, counts: &mut Counts) {
+    let answer = check(case.state);
+    let told = || format!("{:?} {} {}", case.kind, case.clause, case.name);
+    assert!(
+        case.expected.is_none_or(|expected| expected == answer),
+        "{answer}: {}",
+        told()
+    );
+    assert_eq!(direct::check(case.state), answer, "{}", told());
+    let (cases, accepted) = counts
+        .entry((case.kind, case.clause, case.name))
+        .or_default();
+    *cases += 1;
+    *accepted += usize::from(answer == 0);
+}
+
+#[test]
+fn practised_states() {
+    let mut counts = Counts::new();
+    for seed in 0..RUNS {
+        practice::run(seed, EFFORT, &mut |case| compare(case, &mut counts));
+    }
+    practice::staged(0, EFFORT, &mut |case| compare(case, &mut counts));
+    let conditions = CLAUSES.iter().flat_map(|clause| {
+        let names = clause.conditions.iter().map(|condition| condition.name);
+        names.map(|name| (Kind::Condition, clause.words, name))
+    });
+    let seldom: Vec<_> = conditions
+        .map(|key| (key, counts.get(&key).map_or(0, |count| count.0)))
+        .filter(|(_, cases)| *cases < 5)
+        .collect();
+    assert!(seldom.is_empty(), "too few of {seldom:#?}");
+    for harmless in HARMLESS {
+        let key = (Kind::Harmless, "", harmless.name);
+        let (cases, accepted) = counts.get(&key).copied().unwrap_or_default();
+        assert!(cases >= 5 && accepted == cases, "too few of {key:?}");
+    }
+    for shuffle in SHUFFLES {
+        let key = (Kind::Shuffled, "", shuffle.name);
+        assert!(counts.contains_key(&key), "none of {key:?}");
+    }
+    let accepted_fields = counts
+        .iter()
+        .filter(|((kind, _, _), _)| *kind == Kind::Field)
+        .map(|(_, (_, accepted))| accepted)
+        .sum::<usize>();
+    assert!(accepted_fields > 1_000);
+    for (key, count) in counts {
+        println!("{key:?} {count:?}");
+    }
+}
+
+/// Each byte but those of the plan, the steps, the two nodes' statuses, marks,
+/// times and counts, and the channel's mark, entry and count.
+#[test]
+fn every_unused_byte() {
+    let mut counts = Counts::new();
+    let fresh = staged::fresh();
+    practice::unused(1, &fresh, &mut |case| compare(case, &mut counts));
+    let cases: usize = counts.values().map(|(cases, _)| cases).sum();
+    assert_eq!(cases, LENGTH - 19 - 4 - 2 * 18 - 12);
+}
+
+/// A step count above the limit is damage even where no time needs it.
+#[test]
+fn limits_of_the_steps() {
+    let mut line = staged::fresh();
+    line.steps = Line::MOST_STEPS;
+    assert_eq!(check(&crate::state::line_bytes(&line)), 0);
+    line.steps += 1;
+    assert_eq!(check(&crate::state::line_bytes(&line)), 8);
+}
