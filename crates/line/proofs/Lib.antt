@@ -4,3 +4,4 @@ pub mod StartBytes
 pub mod LoadLaws
 pub mod ExactLaws
 pub mod WholeLaws
+pub mod CheckLaws
