@@ -67,7 +67,7 @@ channel-fits s z b h = channels-at (planNodes s) 0 0 (planOf s .channels) b (acc
 
 -- ---- nodes
 
-abbrev Four : Plan → ℕ → Type 0
+abbrev pub Four : Plan → ℕ → Type 0
 Four p n = (length (entering p n) ≤ 4) × (length (leaving p n) ≤ 4)
 
 four-here : (p : Plan) (n : ℕ) → (leb (length (entering p n)) 4 && leb (length (leaving p n)) 4) ≡ true → Four p n
@@ -75,7 +75,7 @@ four-here p n e =
     let t = both-true (leb (length (entering p n)) 4) (leb (length (leaving p n)) 4) e in
     (leb-true (length (entering p n)) 4 (t .0), leb-true (length (leaving p n)) 4 (t .1))
 
-four-at : (p : Plan) (n i : ℕ) → fourAtMost p n ≡ true → i < n → Four p i
+pub four-at : (p : Plan) (n i : ℕ) → fourAtMost p n ≡ true → i < n → Four p i
 four-at p zero i e h = let no : ⊥ = omega arith in absurd no
 four-at p (suc n) i e h =
     let t = both-true (leb (length (entering p n)) 4 && leb (length (leaving p n)) 4) (fourAtMost p n) e in

@@ -78,14 +78,14 @@ plan-fits s h =
 
 -- ---- what is written is read back
 
-head-fits : (p : Plan) → PlanFits p → FieldsFit headWidths (headNumbers p)
+pub head-fits : (p : Plan) → PlanFits p → FieldsFit headWidths (headNumbers p)
 head-fits p h = (omega (arith, plan-size (nodeCount p) (channelCount p)), (lit< tt, (omega arith, (omega arith, tt))))
 
 layout-read : (p : Plan) → PlanFits p → planLayout (nodeCount p) (channelCount p) .read (planBytes p) ≡ (headNumbers p, p)
 unfolding planBytes
 layout-read p h = plan-lawful (nodeCount p) (channelCount p) .readBack (headNumbers p, p) (head-fits p h, ((refl, h .rule), (refl, h .channel)))
 
-head-front : (s : List ℕ) → headLayout .read (take 5 s) ≡ headLayout .read s
+pub head-front : (s : List ℕ) → headLayout .read (take 5 s) ≡ headLayout .read s
 unfolding headLayout
 head-front s = fields-front headWidths s
 
@@ -111,7 +111,7 @@ pub head-list : (s : List ℕ) → headLayout .read s ≡ planLength s ∷ planV
 unfolding planLength planVersion planNodes planChannels
 head-list s = refl
 
-head-numbers : (s : List ℕ) → Accepted s → headNumbers (planOf s) ≡ headLayout .read (take 5 s)
+pub head-numbers : (s : List ℕ) → Accepted s → headNumbers (planOf s) ≡ headLayout .read (take 5 s)
 head-numbers s a = cc (node-count s, channel-count s, a .lengthField, a .sized, a .version, head-list s, head-front s)
 
 pub plan-written : (s : List ℕ) → Bytes s → planRefusal s ≡ 0 → planBytes (planOf s) ≡ s

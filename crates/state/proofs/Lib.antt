@@ -1,1 +1,12 @@
 pub mod SoundLaws
+pub mod PieceLaws
+pub mod BlockLaws
+pub mod ListLaws
+pub mod HeardLaws
+pub mod LineLaws
+pub mod StartLaws
+pub mod SpelledLaws
+pub mod ReadLaws
+pub mod FieldLaws
+pub mod InPlace
+pub mod OffsetLaws

@@ -39,12 +39,12 @@ abbrev pub lineFrom : StateParts → Line
 lineFrom p = record { plan = p .0 .1; steps = p .1 .0; nodes = p .1 .1 .0; lanes = cutLanes (p .0 .1) (p .0 .1 .channels) (p .1 .1 .1) }
 
 unfoldable pub stateParts : ℕ → ℕ → Layout StateParts
-unfolding planPart stepsPart nodesPart lanesPart pair
-stateParts n m = pair (planPart n m) (pair stepsPart (pair (nodesPart n) (lanesPart m)))
+unfolding planPart stepsPart nodesPart lanesPart pair padded
+stateParts n m = padded tailSize (pair (planPart n m) (pair stepsPart (pair (nodesPart n) (lanesPart m))))
 
 unfoldable pub stateLayout : ℕ → ℕ → Layout Line
-unfolding stateParts padHeard cutHeard heardCount via padded
-stateLayout n m = padded tailSize (via (stateParts n m) lineSeen lineFrom)
+unfolding stateParts padHeard cutHeard heardCount via
+stateLayout n m = via (stateParts n m) lineSeen lineFrom
 
 -- A line's bytes, and the line that bytes hold: the plan's head says how many nodes and channels there are.
 unfoldable pub lineBytes : Line → List ℕ

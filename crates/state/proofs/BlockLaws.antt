@@ -1,0 +1,115 @@
+-- The layouts of a node's page and of a channel's block are sound.
+use Prim.Native.Nat.{ℕ, suc, _<_}
+use mathlib.Core.Path.{_≡_, refl}
+use mathlib.Core.Bool.{Bool, true, false}
+use mathlib.Core.List.{List, [], _∷_}
+use native.Mathlib.Omega.{arith}
+use lib.Dec.{lit<}
+use lib.ListN.{length, getD, drop}
+use Rattle.plan.specs.Lawful.{Each, FieldsFit, UpToFit}
+use Rattle.rules.specs.Line.{logLimit, queueLimit, heldLimit, targetLimit, Status, up, down, replay, Node, Lane}
+use Rattle.state.specs.Sound.{Sound}
+use Rattle.state.specs.Sizes.{countSize, parentLimit, nodeRest, laneRest}
+use Rattle.state.specs.Node.{statusNumber, statusOf, crashNumber, crashOf, nodeWidths, nodeNumbers, nodeSeen, nodeFrom, logLayout, heldListLayout, targetsLayout, nodeParts, nodeLayout}
+use Rattle.state.specs.Lane.{heardWidths, laneWidths, laneSeen, laneFrom, queueLayout, laneParts, laneLayout}
+use Rattle.state.specs.Fits.{TimeFits, MessageFits, EntryFits, HeldFits, TargetFits, NodeFits, LaneFits, PaddedFits}
+use Rattle.state.proofs.SoundLaws.{fields-sound, pair-sound, via-sound, padded-sound, upTo-sound}
+use Rattle.state.proofs.PieceLaws.{message-sound, entry-sound, held-sound, target-sound}
+
+-- ---- a node's page
+
+pub log-sound : Sound logLayout (UpToFit logLimit EntryFits)
+unfolding logLayout
+log-sound = upTo-sound entry-sound countSize logLimit (lit< tt)
+
+pub held-list-sound : Sound heldListLayout (UpToFit heldLimit HeldFits)
+unfolding heldListLayout
+held-list-sound = upTo-sound held-sound countSize heldLimit (lit< tt)
+
+pub targets-sound : Sound targetsLayout (UpToFit targetLimit TargetFits)
+unfolding targetsLayout
+targets-sound = upTo-sound target-sound countSize targetLimit (lit< tt)
+
+status-fits : (x : Status) → statusNumber x < 256
+status-fits up = lit< tt
+status-fits down = lit< tt
+status-fits replay = lit< tt
+
+crash-fits : (b : Bool) → crashNumber b < 256
+crash-fits false = lit< tt
+crash-fits true = lit< tt
+
+status-known : (x : Status) → statusOf (statusNumber x) ≡ x
+status-known up = refl
+status-known down = refl
+status-known replay = refl
+
+crash-known : (b : Bool) → crashOf (crashNumber b) ≡ b
+crash-known false = refl
+crash-known true = refl
+
+node-numbers-fit : (x : Node) → TimeFits (x .time) → FieldsFit nodeWidths (nodeNumbers x)
+node-numbers-fit x h = (status-fits (x .status), (crash-fits (x .crashed), (lit< tt, (h, tt))))
+
+node-known : (x : Node) → nodeFrom (nodeSeen x) ≡ x
+node-known x = λ i. record { status = status-known (x .status) i; crashed = crash-known (x .crashed) i; time = x .time; log = x .log; held = x .held; targets = x .targets }
+
+node-time : (ns : List ℕ) → FieldsFit nodeWidths ns → TimeFits (getD ns 3 0)
+node-time [] h = absurd h
+node-time (a ∷ []) h = absurd (h .1)
+node-time (a ∷ b ∷ []) h = absurd (h .1 .1)
+node-time (a ∷ b ∷ c ∷ []) h = absurd (h .1 .1 .1)
+node-time (a ∷ b ∷ c ∷ d ∷ ns) h = h .1 .1 .1 .0
+
+pub node-parts-sound : Sound nodeParts (λ p. FieldsFit nodeWidths (p .0) × (UpToFit logLimit EntryFits (p .1 .0) × (UpToFit heldLimit HeldFits (p .1 .1 .0) × UpToFit targetLimit TargetFits (p .1 .1 .1))))
+unfolding nodeParts
+node-parts-sound = pair-sound (fields-sound nodeWidths) (pair-sound log-sound (pair-sound held-list-sound targets-sound))
+
+pub node-sound : Sound nodeLayout NodeFits
+unfolding nodeLayout
+node-sound =
+    padded-sound
+    (via-sound node-parts-sound nodeSeen nodeFrom (λ x h. (node-numbers-fit x (h .time), (h .log, (h .held, h .targets)))) (λ x h. node-known x)
+    (λ p h. record { time = node-time (p .0) (h .0); log = h .1 .0; held = h .1 .1 .0; targets = h .1 .1 .1 })) nodeRest
+
+-- ---- a channel's block
+
+pub queue-sound : Sound queueLayout (UpToFit queueLimit MessageFits)
+unfolding queueLayout
+queue-sound = upTo-sound message-sound countSize queueLimit (lit< tt)
+
+heard-fits : (hs : List ℕ) → length hs ≡ parentLimit → Each TimeFits hs → FieldsFit heardWidths hs
+heard-fits [] e h = let no : ⊥ = omega arith in absurd no
+heard-fits (a ∷ []) e h = let no : ⊥ = omega arith in absurd no
+heard-fits (a ∷ b ∷ []) e h = let no : ⊥ = omega arith in absurd no
+heard-fits (a ∷ b ∷ c ∷ []) e h = let no : ⊥ = omega arith in absurd no
+heard-fits (a ∷ b ∷ c ∷ d ∷ []) e h = h
+heard-fits (a ∷ b ∷ c ∷ d ∷ f ∷ hs) e h = let no : ⊥ = omega arith in absurd no
+
+heard-known : (hs : List ℕ) → FieldsFit heardWidths hs → (length hs ≡ parentLimit) × Each TimeFits hs
+heard-known [] h = absurd h
+heard-known (a ∷ []) h = absurd (h .1)
+heard-known (a ∷ b ∷ []) h = absurd (h .1 .1)
+heard-known (a ∷ b ∷ c ∷ []) h = absurd (h .1 .1 .1)
+heard-known (a ∷ b ∷ c ∷ d ∷ []) h = (refl, h)
+heard-known (a ∷ b ∷ c ∷ d ∷ f ∷ hs) h = absurd (h .1 .1 .1 .1)
+
+pub lane-parts-sound : Sound laneParts (λ p. FieldsFit laneWidths (p .0) × UpToFit queueLimit MessageFits (p .1))
+unfolding laneParts
+lane-parts-sound = pair-sound (fields-sound laneWidths) queue-sound
+
+lane-numbers : (ns : List ℕ) → FieldsFit laneWidths ns → TimeFits (getD ns 0 0) × (TimeFits (getD ns 1 0) × FieldsFit heardWidths (drop 2 ns))
+lane-numbers [] h = absurd h
+lane-numbers (a ∷ []) h = absurd (h .1)
+lane-numbers (a ∷ b ∷ ns) h = h
+
+pub lane-sound : Sound laneLayout PaddedFits
+unfolding laneLayout
+lane-sound =
+    padded-sound
+    (via-sound lane-parts-sound laneSeen laneFrom
+    (λ x h. ((h .lane .mark, (h .lane .taken, heard-fits (x .heard) (h .four) (h .lane .heard))), h .lane .queue)) (λ x h. refl)
+    (λ p h.
+        let ns = lane-numbers (p .0) (h .0) in
+        let hs = heard-known (drop 2 (p .0)) (ns .1 .1) in
+        record { lane = record { mark = ns .0; taken = ns .1 .0; heard = hs .1; queue = h .1 }; four = hs .0 })) laneRest

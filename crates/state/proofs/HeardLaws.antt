@@ -1,0 +1,59 @@
+-- What is heard on a channel, padded when it is written and cut when it is read.
+use Prim.Native.Nat.{ℕ, zero, suc, _+_, _≤_, _<_}
+use mathlib.Core.Path.{_≡_, refl, sym, ap, _∙_}
+use mathlib.Core.Bool.{true}
+use mathlib.Core.List.{List, [], _∷_, _++_, map}
+use native.Mathlib.Omega.{arith}
+use lib.Dec.{lit<}
+use lib.ListN.{length, getD, take, replicate, length-append, length-take, length-replicate, length-map}
+use lib.Seq.{take-take, take-at}
+use Rattle.plan.specs.declared.Channel.{Channel}
+use Rattle.plan.specs.Lawful.{Each}
+use Rattle.plan.specs.Plan.{Plan, nodeCount, channelCount, channelAt, noChannel, entering}
+use Rattle.plan.specs.Check.{planFits}
+use Rattle.plan.proofs.BytesLaws.{each-take}
+use Rattle.plan.proofs.FitsLaws.{fitting}
+use Rattle.plan.proofs.AcceptedLaws.{four-at}
+use Rattle.rules.specs.Line.{Lane, noLane, parents}
+use Rattle.rules.proofs.PlanOrder.{ordered-channels}
+use Rattle.state.specs.Sizes.{parentLimit}
+use Rattle.state.specs.Lane.{withHeard, padHeard, cutHeard, heardCount, cutLanes}
+use Rattle.state.specs.Fits.{TimeFits, LaneFits, PaddedFits}
+use Rattle.state.proofs.ListLaws.{each-append, each-replicate}
+
+-- A plan that fits has at most four parents for each channel's sender.
+pub heard-few : (p : Plan) → planFits p ≡ true → (b : ℕ) → b < channelCount p → heardCount p (channelAt p b) ≤ parentLimit
+unfolding heardCount
+heard-few p e b h =
+    let f = fitting p e in
+    let o = ordered-channels p (f .channels) in
+    let n = channelAt p b .sender in
+    let inside : n < nodeCount p = omega (arith, o .forward b h, o .inside b h) in
+    rw (length-map (entering p n) (λ (c : ℕ). channelAt p c .sender)) (four-at p (nodeCount p) n (f .degrees) inside .0)
+
+abbrev padding : List ℕ
+padding = replicate parentLimit 0
+
+pub pad-fits : (x : Lane) → LaneFits x → PaddedFits (padHeard x)
+unfolding padHeard
+pad-fits x h = record {
+  lane = record {
+    mark = h .mark;
+    taken = h .taken;
+    heard = each-take TimeFits parentLimit (x .heard ++ padding) (each-append TimeFits (x .heard) padding (h .heard) (each-replicate TimeFits parentLimit 0 (lit< tt)));
+    queue = h .queue;
+  };
+  four = simp (length-take, length-append) (omega arith);
+}
+
+pub cut-pad : (x : Lane) (n : ℕ) → length (x .heard) ≡ n → n ≤ parentLimit → cutHeard n (padHeard x) ≡ x
+unfolding padHeard cutHeard
+cut-pad x n e h = ap (λ (hs : List ℕ). withHeard hs x) (take-take n parentLimit (x .heard ++ padding) h ∙ take-at (x .heard) padding n e)
+
+pub cut-pads : (p : Plan) (cs : List Channel) (xs : List Lane) → length xs ≡ length cs
+    → ((b : ℕ) → b < length cs → (length (getD xs b noLane .heard) ≡ heardCount p (getD cs b noChannel)) × (heardCount p (getD cs b noChannel) ≤ parentLimit))
+    → cutLanes p cs (map padHeard xs) ≡ xs
+cut-pads p [] [] e h = refl
+cut-pads p [] (x ∷ xs) e h = let no : ⊥ = omega arith in absurd no
+cut-pads p (c ∷ cs) [] e h = let no : ⊥ = omega arith in absurd no
+cut-pads p (c ∷ cs) (x ∷ xs) e h = let k = h zero (omega arith) in rw (cut-pad x (heardCount p c) (k .0) (k .1), cut-pads p cs xs (omega arith) (λ b l. h (suc b) (omega arith)))
