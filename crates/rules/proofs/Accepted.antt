@@ -74,7 +74,7 @@ passed l f e =
       leads = q;
     }
 
-none-any : {A : Type 0} (f : A → Bool) {x : A} {xs : List A} → anyOf f xs ≡ false → In x xs → f x ≡ false
+pub none-any : {A : Type 0} (f : A → Bool) {x : A} {xs : List A} → anyOf f xs ≡ false → In x xs → f x ≡ false
 none-any f {x = x} e (here {xs = xs}) = neither-true (f x) (anyOf f xs) e .0
 none-any f e (there {y = y} {xs = xs} i) = none-any f (neither-true (f y) (anyOf f xs) e .1) i
 

@@ -17,7 +17,7 @@ pub data Rising : ℕ → List ℕ → Type 0 where
   none : {k : ℕ} → Rising k []
   more : {k b : ℕ} {bs : List ℕ} → k ≤ b → Rising (suc b) bs → Rising k (b ∷ bs)
 
-in-above : {k b : ℕ} {bs : List ℕ} → Rising k bs → In b bs → k ≤ b
+pub in-above : {k b : ℕ} {bs : List ℕ} → Rising k bs → In b bs → k ≤ b
 in-above (more l r) here = l
 in-above (more {b = c} l r) (there i) = let h = in-above r i in omega arith
 

@@ -1,0 +1,4 @@
+pub mod Tests
+pub mod Lookup
+pub mod Origins
+pub mod HeldRows

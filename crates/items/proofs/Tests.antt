@@ -1,0 +1,76 @@
+-- Tests that are each other's opposite, over several parts and over lists.
+use Prim.Native.Nat.{ℕ, _≤_, _<_}
+use mathlib.Core.Path.{_≡_, refl, sym, ap, _∙_}
+use mathlib.Core.Bool.{Bool, true, false, not, _&&_, _||_}
+use mathlib.Core.List.{List, [], _∷_}
+use Rattle.basics.specs.Bools.{both-true, neither-true}
+use Rattle.rules.specs.Lists.{allOf, anyOf}
+use Rattle.rules.proofs.Members.{In, here, there}
+
+pub opposite : (a b : Bool) → (a ≡ false → b ≡ true) → (b ≡ true → a ≡ false) → a ≡ not b
+opposite false b f g = sym (ap not (f refl))
+opposite true true f g = g refl
+opposite true false f g = refl
+
+-- Tests joined by && are true together, tests joined by || false together.
+abbrev pub andFrom : Bool → List Bool → Bool
+andFrom a [] = a
+andFrom a (b ∷ bs) = andFrom (a && b) bs
+
+abbrev pub orFrom : Bool → List Bool → Bool
+orFrom a [] = a
+orFrom a (b ∷ bs) = orFrom (a || b) bs
+
+abbrev pub Each : Bool → Bool → List Bool → Type 0
+Each v a [] = a ≡ v
+Each v a (b ∷ bs) = (a ≡ v) × Each v b bs
+
+all-split : (a b : Bool) (bs : List Bool) → Each true (a && b) bs → Each true a (b ∷ bs)
+all-split a b [] e = both-true a b e
+all-split a b (c ∷ bs) (e, rest) = let (x, y) = both-true a b e in (x, (y, rest))
+
+all-join : (a b : Bool) (bs : List Bool) → Each true a (b ∷ bs) → Each true (a && b) bs
+all-join a b [] (x, y) = rw (x, y)
+all-join a b (c ∷ bs) (x, (y, rest)) = (rw (x, y), rest)
+
+pub all-true : (a : Bool) (bs : List Bool) → andFrom a bs ≡ true → Each true a bs
+all-true a [] e = e
+all-true a (b ∷ bs) e = all-split a b bs (all-true (a && b) bs e)
+
+pub true-all : (a : Bool) (bs : List Bool) → Each true a bs → andFrom a bs ≡ true
+true-all a [] e = e
+true-all a (b ∷ bs) e = true-all (a && b) bs (all-join a b bs e)
+
+none-split : (a b : Bool) (bs : List Bool) → Each false (a || b) bs → Each false a (b ∷ bs)
+none-split a b [] e = neither-true a b e
+none-split a b (c ∷ bs) (e, rest) = let (x, y) = neither-true a b e in (x, (y, rest))
+
+none-join : (a b : Bool) (bs : List Bool) → Each false a (b ∷ bs) → Each false (a || b) bs
+none-join a b [] (x, y) = rw (x, y)
+none-join a b (c ∷ bs) (x, (y, rest)) = (rw (x, y), rest)
+
+pub all-false : (a : Bool) (bs : List Bool) → orFrom a bs ≡ false → Each false a bs
+all-false a [] e = e
+all-false a (b ∷ bs) e = none-split a b bs (all-false (a || b) bs e)
+
+pub false-all : (a : Bool) (bs : List Bool) → Each false a bs → orFrom a bs ≡ false
+false-all a [] e = e
+false-all a (b ∷ bs) e = false-all (a || b) bs (none-join a b bs e)
+
+-- The same of each member of a list.
+module _ {A : Type 0} where
+  pub each-all : (f : A → Bool) (xs : List A) → ((x : A) → In x xs → f x ≡ true) → allOf f xs ≡ true
+  each-all f [] h = refl
+  each-all f (x ∷ xs) h = rw (h x here, each-all f xs (λ y i. h y (there i)))
+
+  pub each-none : (f : A → Bool) (xs : List A) → ((x : A) → In x xs → f x ≡ false) → anyOf f xs ≡ false
+  each-none f [] h = refl
+  each-none f (x ∷ xs) h = rw (h x here, each-none f xs (λ y i. h y (there i)))
+
+  pub any-opposite : (f g : A → Bool) (xs : List A) → ((x : A) → In x xs → f x ≡ not (g x)) → anyOf f xs ≡ not (allOf g xs)
+  any-opposite f g [] h = refl
+  any-opposite f g (x ∷ xs) h = ap (λ (t : Bool). t || anyOf f xs) (h x here) ∙ ap (λ (t : Bool). not (g x) || t) (any-opposite f g xs (λ y i. h y (there i))) ∙ one (g x) (allOf g xs)
+    where
+      one : (a b : Bool) → (not a || not b) ≡ not (a && b)
+      one true b = refl
+      one false b = refl

@@ -1,0 +1,142 @@
+-- The state check item by item: one pass over each list, and lookups among the at most four channels that enter a node. Code goes by this. The outer contract does not rest on believing it: `line-items` of the proofs says that it is the negation of `damaged`.
+use Prim.Native.Nat.{ℕ, suc, _^_}
+use mathlib.Core.Bool.{Bool, true, false, not, _&&_, _||_}
+use mathlib.Core.List.{List, [], _∷_}
+use mathlib.Core.Option.{Option, none, some}
+use lib.ListN.{length, getD, set, replicate}
+use lib.Dec.{leb, ltb, eqb}
+use Rattle.plan.specs.declared.Record.{Record}
+use Rattle.plan.specs.Record.{materialFits}
+use Rattle.plan.specs.Plan.{Plan, nodeCount, channelCount, channelAt, entering, isSource}
+use Rattle.plan.specs.Check.{planFits}
+use Rattle.rules.specs.Lists.{isEmpty, allOf}
+use Rattle.rules.specs.Line.{logLimit, queueLimit, heldLimit, targetLimit, stepLimit, Origin, fed, made, Message, Entry, Held, Target, Node, Lane, Line, nodeAt, laneAt, nodeNumbers, channelNumbersOf, senderOf, parents}
+use Rattle.rules.specs.Recover.{lowOf, restored, targetsOf, conflict, rowGoal}
+use Rattle.rules.specs.Replay.{passedOn}
+use Rattle.rules.specs.Step.{endDown, replaying}
+use Rattle.rules.specs.Damaged.{isFed, markMissing, markOnEnd, nodeHolds, marksJoined, channelHolds, sameTargets}
+
+-- The first of some channels that node s sends on, and its place among them, counted from k.
+abbrev pub fromSender : Plan → ℕ → List ℕ → Option ℕ
+fromSender p s [] = none
+fromSender p s (b ∷ bs) = elim (eqb (channelAt p b .sender) s) [ true ↦ some b | false ↦ fromSender p s bs ]
+
+abbrev pub placeFrom : Plan → ℕ → ℕ → List ℕ → Option ℕ
+placeFrom p s k [] = none
+placeFrom p s k (b ∷ bs) = elim (eqb (channelAt p b .sender) s) [ true ↦ some k | false ↦ placeFrom p s (suc k) bs ]
+
+abbrev pub ifFound : Option ℕ → (ℕ → Bool) → Bool
+ifFound none f = false
+ifFound (some b) f = f b
+
+abbrev pub timeRight : ℕ → ℕ → Bool
+timeRight steps t = ltb 0 t && leb t steps
+
+abbrev pub recordRight : Record → Bool
+recordRight r = materialFits (r .material) && ltb (r .piece) (2 ^ 32) && ltb (r .mass) (2 ^ 16)
+
+-- What node s made something from, by its parents alone.
+unfoldable pub namedRight : Line → ℕ → Origin → Bool
+unfolding entering isSource
+namedRight l s fed = isSource (l .plan) s
+namedRight l s (made q u) = timeRight (l .steps) u && ifFound (fromSender (l .plan) q (entering (l .plan) s)) (λ (b : ℕ). true)
+
+-- The same of an input that came on channel b from node s: it does not pass what was heard there.
+unfoldable pub beforeRight : Line → ℕ → ℕ → Origin → Bool
+unfolding entering isSource
+beforeRight l s b fed = isSource (l .plan) s
+beforeRight l s b (made q u) = timeRight (l .steps) u && ifFound (placeFrom (l .plan) q 0 (entering (l .plan) s)) (λ (i : ℕ). leb u (getD (laneAt l b .heard) i 0))
+
+-- What node n made something from, and what that was made from.
+unfoldable pub originRight : Line → ℕ → Origin → Origin → Bool
+unfolding entering isSource beforeRight
+originRight l n fed before = isSource (l .plan) n && isFed before
+originRight l n (made s t) before = timeRight (l .steps) t && ifFound (fromSender (l .plan) s (entering (l .plan) n)) (λ (b : ℕ). leb t (laneAt l b .taken) && beforeRight l s b before)
+
+-- Times that rise strictly, from above the last so far, and none past the top.
+abbrev pub timesRise : {A : Type 0} → (A → ℕ) → ℕ → ℕ → List A → Bool
+timesRise time last top [] = true
+timesRise time last top (x ∷ xs) = ltb last (time x) && leb (time x) top && timesRise time (time x) top xs
+
+-- A node's log, held records and targets. The last held time of each row so far is kept by the parent's number.
+unfoldable pub entryRight : Line → ℕ → Entry → Bool
+unfolding originRight
+entryRight l n e = recordRight (e .what) && originRight l n (e .origin) (e .before)
+
+unfoldable pub heldRight : Line → ℕ → Held → Bool
+unfolding originRight passedOn
+heldRight l n h = recordRight (h .what) && originRight l n (made (h .sender) (h .time)) (h .before) && passedOn (l .plan) n (h .what)
+
+abbrev pub heldRise : List ℕ → List Held → Bool
+heldRise last [] = true
+heldRise last (h ∷ hs) = ltb (getD last (h .sender) 0) (h .time) && heldRise (set last (h .sender) (h .time)) hs
+
+-- A plan has at most 12 nodes.
+unfoldable pub noneHeld : List ℕ
+noneHeld = replicate 12 0
+
+unfoldable pub targetRight : Line → ℕ → Target → Bool
+unfolding entering
+targetRight l n t = leb (t .time) (l .steps) && leb (t .parentTime) (l .steps) && ifFound (fromSender (l .plan) (t .parent) (entering (l .plan) n)) (λ (b : ℕ). true)
+
+unfoldable pub countsRight : Node → Bool
+countsRight x = leb (length (x .log)) logLimit && leb (length (x .held)) heldLimit && leb (length (x .targets)) targetLimit
+
+unfoldable pub logRight : Line → ℕ → List Entry → Bool
+unfolding entryRight
+logRight l n log = allOf (entryRight l n) log && timesRise (λ (e : Entry). e .time) 0 (nodeAt l n .time) log
+
+unfoldable pub heldAllRight : Line → ℕ → List Held → Bool
+unfolding heldRight noneHeld
+heldAllRight l n hs = allOf (heldRight l n) hs && heldRise noneHeld hs
+
+unfoldable pub statusRight : Plan → ℕ → Node → Bool
+unfolding markMissing markOnEnd nodeHolds
+statusRight p n x = not (markMissing x) && not (markOnEnd p n x) && not (nodeHolds x)
+
+-- A replaying node is what Recover would give: there are targets, not too many, that do not conflict and leave a row incomplete, and the node has them and the time low.
+unfoldable pub rowRestored : Line → ℕ → ℕ → Bool
+unfolding targetsOf restored
+rowRestored l n c = leb (rowGoal (targetsOf l n) (senderOf l c)) (restored l n (senderOf l c))
+
+unfoldable pub replayRight : Line → ℕ → Bool
+unfolding entering lowOf targetsOf rowRestored
+replayRight l n =
+    leb (length (targetsOf l n)) targetLimit && not (conflict (targetsOf l n)) && not (isEmpty (targetsOf l n)) && not (allOf (rowRestored l n) (entering (l .plan) n))
+    && eqb (nodeAt l n .time) (lowOf l n) && sameTargets (nodeAt l n .targets) (targetsOf l n)
+
+unfoldable pub nodeRight : Line → ℕ → Bool
+unfolding countsRight logRight heldAllRight targetRight statusRight replayRight
+nodeRight l n =
+    let x = nodeAt l n in
+    countsRight x && leb (x .time) (l .steps) && logRight l n (x .log) && heldAllRight l n (x .held) && allOf (targetRight l n) (x .targets) && statusRight (l .plan) n x
+    && (not (replaying l n) || replayRight l n)
+
+-- A channel's messages, and the channel.
+unfoldable pub messageRight : Line → ℕ → Message → Bool
+unfolding namedRight
+messageRight l b m = recordRight (m .what) && namedRight l (senderOf l b) (m .origin)
+
+unfoldable pub clockRight : ℕ → Lane → Bool
+clockRight steps s = leb (s .mark) steps && leb (s .taken) steps && allOf (λ (t : ℕ). leb t steps) (s .heard)
+
+unfoldable pub queueRight : Line → ℕ → List Message → Bool
+unfolding messageRight
+queueRight l b ms = leb (length ms) queueLimit && allOf (messageRight l b) ms && (endDown l b || (leb (laneAt l b .taken) (laneAt l b .mark) && timesRise (λ (m : Message). m .time) (laneAt l b .taken) (laneAt l b .mark) ms))
+
+unfoldable pub channelRight : Line → ℕ → Bool
+unfolding clockRight queueRight marksJoined channelHolds
+channelRight l b =
+    let s = laneAt l b in
+    clockRight (l .steps) s && queueRight l b (s .queue) && not (marksJoined l b) && not (channelHolds l b)
+
+-- The line.
+unfoldable pub shapeRight : Line → Bool
+unfolding parents
+shapeRight l =
+    eqb (length (l .nodes)) (nodeCount (l .plan)) && eqb (length (l .lanes)) (channelCount (l .plan))
+    && allOf (λ (b : ℕ). eqb (length (laneAt l b .heard)) (length (parents (l .plan) (senderOf l b)))) (channelNumbersOf l)
+
+unfoldable pub lineRight : Line → Bool
+unfolding planFits shapeRight nodeRight channelRight
+lineRight l = planFits (l .plan) && shapeRight l && leb (l .steps) stepLimit && allOf (nodeRight l) (nodeNumbers l) && allOf (channelRight l) (channelNumbersOf l)

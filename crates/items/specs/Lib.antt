@@ -1,0 +1,2 @@
+-- The state check item by item.
+pub mod Items
