@@ -1,3 +1,4 @@
 -- What the line's code rests on.
 pub mod BytesLaws
 pub mod StartBytes
+pub mod LoadLaws

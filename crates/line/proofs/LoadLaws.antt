@@ -1,0 +1,59 @@
+-- Load by cases: the plan is refused, the state has another size, or the line is loaded.
+use Prim.Native.Nat.{ℕ, _-_, _≤_}
+use mathlib.Core.Path.{_≡_, refl, sym, _∙_}
+use mathlib.Core.Bool.{Bool, true, false}
+use mathlib.Core.List.{List, _++_}
+use native.Mathlib.Omega.{arith}
+use borrow.Author.Tests.{eq-eqb, ne-eqb}
+use lib.Dec.{eqb}
+use lib.ListN.{length, take, drop, replicate}
+use lib.Seq.{take-append-seam}
+use Rattle.plan.specs.Lawful.{Bytes}
+use Rattle.plan.specs.Plan.{planOf, planNodes, planChannels}
+use Rattle.plan.specs.Check.{planRefusal}
+use Rattle.plan.proofs.CheckLaws.{accepted}
+use Rattle.plan.proofs.PlanLaws.{plan-size}
+use Rattle.rules.specs.Line.{initialLine}
+use Rattle.state.specs.Sizes.{stateSize}
+use Rattle.state.specs.State.{lineBytes}
+use Rattle.line.specs.Load.{loadAnswer, loadLeft}
+use Rattle.line.proofs.StartBytes.{start-bytes}
+
+abbrev answerBy : Bool → Bool → ℕ → ℕ
+answerBy whole sized refusal = elim whole [ true ↦ elim sized [ true ↦ 0 | false ↦ 8 ] | false ↦ refusal ]
+
+abbrev leftBy : Bool → List ℕ → List ℕ → List ℕ
+leftBy done line state = elim done [ true ↦ line | false ↦ state ]
+
+module _ (plan state : List ℕ) where
+  answer-is : loadAnswer plan state ≡ answerBy (eqb (planRefusal plan) 0) (eqb (length state) stateSize) (planRefusal plan)
+  unfolding loadAnswer
+  answer-is = refl
+
+  left-is : loadLeft plan state ≡ leftBy (eqb (loadAnswer plan state) 0) (lineBytes (initialLine (planOf plan))) state
+  unfolding loadLeft
+  left-is = refl
+
+  left-as-it-was : (n : ℕ) → (n ≡ 0 → ⊥) → n ≡ loadAnswer plan state → state ≡ loadLeft plan state
+  left-as-it-was n h e = sym (left-is ∙ rw (← e, ne-eqb n 0 h))
+
+  pub plan-refused : (planRefusal plan ≡ 0 → ⊥) → (planRefusal plan ≡ loadAnswer plan state) × (state ≡ loadLeft plan state)
+  plan-refused h = let a : planRefusal plan ≡ loadAnswer plan state = sym (answer-is ∙ rw (ne-eqb (planRefusal plan) 0 h)) in (a, left-as-it-was (planRefusal plan) h a)
+
+  pub size-refused : planRefusal plan ≡ 0 → (length state ≡ stateSize → ⊥) → (8 ≡ loadAnswer plan state) × (state ≡ loadLeft plan state)
+  size-refused z h =
+      let a : 8 ≡ loadAnswer plan state = sym (answer-is ∙ rw (eq-eqb (planRefusal plan) 0 z, ne-eqb (length state) stateSize h)) in
+      (a, left-as-it-was 8 (λ e. omega arith) a)
+
+  pub plan-short : planRefusal plan ≡ 0 → length plan ≤ stateSize
+  plan-short z = let a = accepted plan z in omega (arith, a .sized, plan-size (planNodes plan) (planChannels plan))
+
+  pub loaded : Bytes plan → planRefusal plan ≡ 0 → length state ≡ stateSize → (0 ≡ loadAnswer plan state) × (plan ++ replicate (stateSize - length plan) 0 ≡ loadLeft plan state)
+  loaded h z e =
+      let a : loadAnswer plan state ≡ 0 = answer-is ∙ rw (eq-eqb (planRefusal plan) 0 z, eq-eqb (length state) stateSize e) in
+      (sym a, sym (left-is ∙ rw a (start-bytes plan h z)))
+
+  -- What the code writes: the plan to the front, then 0 behind it.
+  pub zeros-behind : (copied : List ℕ) → copied ≡ plan ++ drop (length plan) state → length copied ≡ stateSize
+      → take (length plan) copied ++ replicate (length copied - length plan) 0 ≡ plan ++ replicate (stateSize - length plan) 0
+  zeros-behind copied e size = rw (size, e, take-append-seam)
