@@ -195,7 +195,7 @@ module _ {A : Type 0} {l : Layout A} {Fits : A → Type 0} {Right : List ℕ →
         used-read n xs (omega arith) (h .1),
       )
 
-  unused-written : (n : ℕ) → writeSlots l n [] ≡ replicate (n * l .size) 0
+  pub unused-written : (n : ℕ) → writeSlots l n [] ≡ replicate (n * l .size) 0
   unused-written zero = rw zero-mul
   unused-written (suc n) = rw (unused-written n, replicate-append-replicate, suc-mul, add-comm (n * l .size) (l .size))
 

@@ -6,11 +6,12 @@ use mathlib.Core.List.{List, [], _∷_}
 use native.Mathlib.Omega.{arith}
 use lib.Dec.{lit<}
 use lib.ListN.{length, getD, drop}
+use Rattle.plan.specs.Layout.{via}
 use Rattle.plan.specs.Lawful.{Each, FieldsFit, UpToFit}
 use Rattle.rules.specs.Line.{logLimit, queueLimit, heldLimit, targetLimit, Status, up, down, replay, Node, Lane}
 use Rattle.state.specs.Sound.{Sound}
 use Rattle.state.specs.Sizes.{countSize, parentLimit, nodeRest, laneRest}
-use Rattle.state.specs.Node.{statusNumber, statusOf, crashNumber, crashOf, nodeWidths, nodeNumbers, nodeSeen, nodeFrom, logLayout, heldListLayout, targetsLayout, nodeParts, nodeLayout}
+use Rattle.state.specs.Node.{statusNumber, statusOf, crashNumber, crashOf, nodeWidths, nodeNumbers, nodeSeen, nodeFrom, logLayout, heldListLayout, targetsLayout, NodeParts, nodeParts, nodeLayout}
 use Rattle.state.specs.Lane.{heardWidths, laneWidths, laneSeen, laneFrom, queueLayout, laneParts, laneLayout}
 use Rattle.state.specs.Fits.{TimeFits, MessageFits, EntryFits, HeldFits, TargetFits, NodeFits, LaneFits, PaddedFits}
 use Rattle.state.proofs.SoundLaws.{fields-sound, pair-sound, via-sound, padded-sound, upTo-sound}
@@ -61,16 +62,24 @@ node-time (a ∷ b ∷ []) h = absurd (h .1 .1)
 node-time (a ∷ b ∷ c ∷ []) h = absurd (h .1 .1 .1)
 node-time (a ∷ b ∷ c ∷ d ∷ ns) h = h .1 .1 .1 .0
 
-pub node-parts-sound : Sound nodeParts (λ p. FieldsFit nodeWidths (p .0) × (UpToFit logLimit EntryFits (p .1 .0) × (UpToFit heldLimit HeldFits (p .1 .1 .0) × UpToFit targetLimit TargetFits (p .1 .1 .1))))
+abbrev pub NodePartsFit : NodeParts → Type 0
+NodePartsFit p = FieldsFit nodeWidths (p .0) × (UpToFit logLimit EntryFits (p .1 .0) × (UpToFit heldLimit HeldFits (p .1 .1 .0) × UpToFit targetLimit TargetFits (p .1 .1 .1)))
+
+pub node-parts-sound : Sound nodeParts NodePartsFit
 unfolding nodeParts
 node-parts-sound = pair-sound (fields-sound nodeWidths) (pair-sound log-sound (pair-sound held-list-sound targets-sound))
 
+pub node-seen-fits : (x : Node) → NodeFits x → NodePartsFit (nodeSeen x)
+node-seen-fits x h = (node-numbers-fit x (h .time), (h .log, (h .held, h .targets)))
+
+pub node-body-sound : Sound (via nodeParts nodeSeen nodeFrom) NodeFits
+node-body-sound =
+    via-sound node-parts-sound nodeSeen nodeFrom node-seen-fits (λ x h. node-known x)
+    (λ p h. record { time = node-time (p .0) (h .0); log = h .1 .0; held = h .1 .1 .0; targets = h .1 .1 .1 })
+
 pub node-sound : Sound nodeLayout NodeFits
 unfolding nodeLayout
-node-sound =
-    padded-sound
-    (via-sound node-parts-sound nodeSeen nodeFrom (λ x h. (node-numbers-fit x (h .time), (h .log, (h .held, h .targets)))) (λ x h. node-known x)
-    (λ p h. record { time = node-time (p .0) (h .0); log = h .1 .0; held = h .1 .1 .0; targets = h .1 .1 .1 })) nodeRest
+node-sound = padded-sound node-body-sound nodeRest
 
 -- ---- a channel's block
 
@@ -103,13 +112,15 @@ lane-numbers [] h = absurd h
 lane-numbers (a ∷ []) h = absurd (h .1)
 lane-numbers (a ∷ b ∷ ns) h = h
 
-pub lane-sound : Sound laneLayout PaddedFits
-unfolding laneLayout
-lane-sound =
-    padded-sound
-    (via-sound lane-parts-sound laneSeen laneFrom
+pub lane-body-sound : Sound (via laneParts laneSeen laneFrom) PaddedFits
+lane-body-sound =
+    via-sound lane-parts-sound laneSeen laneFrom
     (λ x h. ((h .lane .mark, (h .lane .taken, heard-fits (x .heard) (h .four) (h .lane .heard))), h .lane .queue)) (λ x h. refl)
     (λ p h.
         let ns = lane-numbers (p .0) (h .0) in
         let hs = heard-known (drop 2 (p .0)) (ns .1 .1) in
-        record { lane = record { mark = ns .0; taken = ns .1 .0; heard = hs .1; queue = h .1 }; four = hs .0 })) laneRest
+        record { lane = record { mark = ns .0; taken = ns .1 .0; heard = hs .1; queue = h .1 }; four = hs .0 })
+
+pub lane-sound : Sound laneLayout PaddedFits
+unfolding laneLayout
+lane-sound = padded-sound lane-body-sound laneRest

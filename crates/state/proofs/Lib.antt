@@ -10,3 +10,6 @@ pub mod ReadLaws
 pub mod FieldLaws
 pub mod InPlace
 pub mod OffsetLaws
+pub mod RightLaws
+pub mod RightAt
+pub mod PieceRight

@@ -3,6 +3,7 @@ use Prim.Native.Nat.{ℕ, zero, suc, _<_}
 use mathlib.Core.Path.{_≡_, refl, ap}
 use mathlib.Core.List.{List, [], _∷_}
 use lib.Dec.{lit<}
+use Rattle.plan.specs.Layout.{via}
 use Rattle.plan.specs.Lawful.{FieldsFit}
 use Rattle.plan.specs.Fits.{RecordFits}
 use Rattle.plan.specs.Record.{recordWidths, recordOf, recordLayout}
@@ -10,7 +11,7 @@ use Rattle.plan.proofs.LayoutLaws.{fields-front}
 use Rattle.plan.proofs.ValueLaws.{record-lawful}
 use Rattle.rules.specs.Line.{Origin, fed, made}
 use Rattle.state.specs.Sound.{Sound}
-use Rattle.state.specs.Pieces.{originNumbers, originFrom, originOf, originWidths, originLayout, messageSeen, messageFrom, messageLayout, entrySeen, entryFrom, entryLayout, heldSeen, heldFrom, heldLayout, targetWidths, targetNumbers, targetOf, targetLayout}
+use Rattle.state.specs.Pieces.{originNumbers, originFrom, originOf, originWidths, originLayout, messageSeen, messageFrom, messageParts, messageLayout, entrySeen, entryFrom, entryParts, entryLayout, heldSeen, heldFrom, heldParts, heldLayout, targetWidths, targetNumbers, targetOf, targetFields, targetLayout}
 use Rattle.state.specs.Fits.{TimeFits, OriginFits, MessageFits, EntryFits, HeldFits, TargetFits}
 use Rattle.state.proofs.SoundLaws.{sound, number-sound, fields-sound, pair-sound, via-sound, padded-sound}
 
@@ -40,26 +41,35 @@ origin-sound = via-sound (fields-sound originWidths) originNumbers originOf (λ 
 
 -- ---- what stands in the slots
 
+pub message-body-sound : Sound (via messageParts messageSeen messageFrom) MessageFits
+unfolding messageParts
+message-body-sound =
+    via-sound (pair-sound record-sound (pair-sound (number-sound 4) origin-sound)) messageSeen messageFrom
+    (λ m h. (h .what, (h .time, h .origin))) (λ m h. refl) (λ p h. record { what = h .0; time = h .1 .0; origin = h .1 .1 })
+
 pub message-sound : Sound messageLayout MessageFits
 unfolding messageLayout
-message-sound =
-    padded-sound
-    (via-sound (pair-sound record-sound (pair-sound (number-sound 4) origin-sound)) messageSeen messageFrom
-    (λ m h. (h .what, (h .time, h .origin))) (λ m h. refl) (λ p h. record { what = h .0; time = h .1 .0; origin = h .1 .1 })) 3
+message-sound = padded-sound message-body-sound 3
+
+pub entry-body-sound : Sound (via entryParts entrySeen entryFrom) EntryFits
+unfolding entryParts
+entry-body-sound =
+    via-sound (pair-sound record-sound (pair-sound (number-sound 4) (pair-sound origin-sound origin-sound))) entrySeen entryFrom
+    (λ e h. (h .what, (h .time, (h .origin, h .before)))) (λ e h. refl) (λ p h. record { what = h .0; time = h .1 .0; origin = h .1 .1 .0; before = h .1 .1 .1 })
 
 pub entry-sound : Sound entryLayout EntryFits
 unfolding entryLayout
-entry-sound =
-    padded-sound
-    (via-sound (pair-sound record-sound (pair-sound (number-sound 4) (pair-sound origin-sound origin-sound))) entrySeen entryFrom
-    (λ e h. (h .what, (h .time, (h .origin, h .before)))) (λ e h. refl) (λ p h. record { what = h .0; time = h .1 .0; origin = h .1 .1 .0; before = h .1 .1 .1 })) 2
+entry-sound = padded-sound entry-body-sound 2
+
+pub held-body-sound : Sound (via heldParts heldSeen heldFrom) HeldFits
+unfolding heldParts
+held-body-sound =
+    via-sound (pair-sound record-sound (pair-sound (number-sound 1) (pair-sound (number-sound 4) origin-sound))) heldSeen heldFrom
+    (λ g h. (h .what, (h .sender, (h .time, h .before)))) (λ g h. refl) (λ p h. record { what = h .0; sender = h .1 .0; time = h .1 .1 .0; before = h .1 .1 .1 })
 
 pub held-sound : Sound heldLayout HeldFits
 unfolding heldLayout
-held-sound =
-    padded-sound
-    (via-sound (pair-sound record-sound (pair-sound (number-sound 1) (pair-sound (number-sound 4) origin-sound))) heldSeen heldFrom
-    (λ g h. (h .what, (h .sender, (h .time, h .before)))) (λ g h. refl) (λ p h. record { what = h .0; sender = h .1 .0; time = h .1 .1 .0; before = h .1 .1 .1 })) 2
+held-sound = padded-sound held-body-sound 2
 
 target-fits : (ns : List ℕ) → FieldsFit targetWidths ns → TargetFits (targetOf ns)
 target-fits [] h = absurd h
@@ -68,6 +78,10 @@ target-fits (a ∷ b ∷ []) h = absurd (h .1 .1)
 target-fits (a ∷ b ∷ c ∷ []) h = record { time = h .0; parent = h .1 .1 .0; parentTime = h .1 .0 }
 target-fits (a ∷ b ∷ c ∷ d ∷ ns) h = absurd (h .1 .1 .1)
 
+pub target-body-sound : Sound (via targetFields targetNumbers targetOf) TargetFits
+unfolding targetFields
+target-body-sound = via-sound (fields-sound targetWidths) targetNumbers targetOf (λ t h. (h .time, (h .parentTime, (h .parent, tt)))) (λ t h. refl) target-fits
+
 pub target-sound : Sound targetLayout TargetFits
 unfolding targetLayout
-target-sound = padded-sound (via-sound (fields-sound targetWidths) targetNumbers targetOf (λ t h. (h .time, (h .parentTime, (h .parent, tt)))) (λ t h. refl) target-fits) 3
+target-sound = padded-sound target-body-sound 3

@@ -17,23 +17,10 @@ use Rattle.state.specs.Sizes.{stateSize, pageSize, blockSize, countSize,
 use Rattle.state.specs.Node.{nodeLayout}
 use Rattle.state.specs.Lane.{laneLayout, withHeard, padHeard}
 use Rattle.state.specs.State.{stepsPart, nodesPart, lanesPart, lineBytes}
-use Rattle.state.proofs.ListLaws.{each-append, each-replicate}
+use Rattle.state.proofs.ListLaws.{IsZero, zeros-many, zeros-append, all-zero}
 use Rattle.state.proofs.LineLaws.{line-long}
 
 -- ---- bytes that are all 0
-
-abbrev IsZero : ℕ → Type 0
-IsZero b = b ≡ 0
-
-pub zeros-many : (n : ℕ) → Zeros (replicate n 0)
-zeros-many n = each-replicate IsZero n 0 refl
-
-pub zeros-append : (s t : List ℕ) → Zeros s → Zeros t → Zeros (s ++ t)
-zeros-append s t h k = each-append IsZero s t h k
-
-pub all-zero : (s : List ℕ) → Zeros s → s ≡ replicate (length s) 0
-all-zero [] h = refl
-all-zero (b ∷ s) h = ap₂ (λ (x : ℕ) (xs : List ℕ). x ∷ xs) (h .0) (all-zero s (h .1))
 
 padded-zeros : {A : Type 0} (l : Layout A) (n : ℕ) (a : A) → Zeros (l .write a) → Zeros (padded n l .write a)
 unfolding padded

@@ -5,5 +5,6 @@ pub mod Pieces
 pub mod Node
 pub mod Lane
 pub mod State
+pub mod Right
 pub mod Fits
 pub mod Examples
