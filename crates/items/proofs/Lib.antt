@@ -2,3 +2,4 @@ pub mod Tests
 pub mod Lookup
 pub mod Origins
 pub mod HeldRows
+pub mod ReplayItems

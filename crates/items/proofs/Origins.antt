@@ -23,7 +23,7 @@ use Rattle.rules.proofs.Joins.{entering-in}
 use Rattle.rules.proofs.QuietRest.{in-up-to}
 use Rattle.rules.proofs.EndInv.{none-some}
 use Rattle.items.specs.Items.{fromSender, placeFrom, ifFound, timeRight, namedRight, beforeRight, originRight}
-use Rattle.items.proofs.Tests.{opposite, all-false, each-none}
+use Rattle.items.proofs.Tests.{not-above, all-false, each-none}
 use Rattle.items.proofs.Lookup.{sender-found, sender-placed, found-in, only-found, heard-placed, entering-apart}
 
 -- A line whose plan fits and whose lists are as long as the plan says.
@@ -109,9 +109,6 @@ heard-fed ps [] = refl
 heard-fed [] (h ∷ hs) = refl
 heard-fed (p ∷ ps) (h ∷ hs) = refl
 
-not-past : (u h : ℕ) → leb u h ≡ not (ltb h u)
-not-past u h = opposite (leb u h) (ltb h u) (λ e. lt-ltb h u (leb-false u h e)) (λ e. lt-leb u h (ltb-true h u e))
-
 -- What came on channel b from node s: its conditions are those of its maker, and that it does not pass what was heard.
 module _ (l : Line) (line : Formed l) (s b : ℕ) (here : b < channelCount (l .plan)) (from : channelAt (l .plan) b .sender ≡ s) where
   heard-as-long : length (laneAt l b .heard) ≡ length (entering (l .plan) s)
@@ -135,7 +132,7 @@ module _ (l : Line) (line : Formed l) (s b : ℕ) (here : b < channelCount (l .p
       one false o e = refl
       one true none e = sym (ap (λ (x : Bool). x && not (pastHeard (parents (l .plan) s) (laneAt l b .heard) (made q u))) (sym (parent-found (l .plan) s q) ∙ parent-placed (l .plan) s q ∙ ap (λ (x : Option ℕ). ifFound x (λ (c : ℕ). true)) e))
       one true (some i) e =
-          not-past u (getD (laneAt l b .heard) i 0) ∙ ap not (sym (heard-at q u i e))
+          not-above u (getD (laneAt l b .heard) i 0) ∙ ap not (sym (heard-at q u i e))
           ∙ sym (ap (λ (x : Bool). x && not (pastHeard (parents (l .plan) s) (laneAt l b .heard) (made q u))) (sym (parent-found (l .plan) s q) ∙ parent-placed (l .plan) s q ∙ ap (λ (x : Option ℕ). ifFound x (λ (c : ℕ). true)) e))
 
 -- A test of what is found, from its being found, and back.
@@ -180,7 +177,7 @@ module _ (l : Line) (line : Formed l) (n : ℕ) where
           nought = neither-true (eqb 0 t) (anyOf (eqb 0) (originTimes before)) (c .nought) .1;
           maker = neither-true (isSource (l .plan) n) (originWrong (l .plan) s before) (c .makers) .1;
         }) in
-        rw (not-past t (laneAt l b .taken), late, before-is, named, heard)
+        rw (not-above t (laneAt l b .taken), late, before-is, named, heard)
 
     on-clean : namedRight l n (made s t) ≡ true → (leb t (laneAt l b .taken) && beforeRight l s b before) ≡ true → Clean l n (made s t) before
     on-clean own h =

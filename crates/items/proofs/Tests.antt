@@ -3,6 +3,8 @@ use Prim.Native.Nat.{ℕ, _≤_, _<_}
 use mathlib.Core.Path.{_≡_, refl, sym, ap, _∙_}
 use mathlib.Core.Bool.{Bool, true, false, not, _&&_, _||_}
 use mathlib.Core.List.{List, [], _∷_}
+use lib.Dec.{leb, ltb}
+use borrow.Author.Tests.{ltb-true, leb-false, lt-ltb, lt-leb}
 use Rattle.basics.specs.Bools.{both-true, neither-true}
 use Rattle.rules.specs.Lists.{allOf, anyOf}
 use Rattle.rules.proofs.Members.{In, here, there}
@@ -11,6 +13,9 @@ pub opposite : (a b : Bool) → (a ≡ false → b ≡ true) → (b ≡ true →
 opposite false b f g = sym (ap not (f refl))
 opposite true true f g = g refl
 opposite true false f g = refl
+
+pub not-above : (a b : ℕ) → leb a b ≡ not (ltb b a)
+not-above a b = opposite (leb a b) (ltb b a) (λ e. lt-ltb b a (leb-false a b e)) (λ e. lt-leb a b (ltb-true b a e))
 
 -- Tests joined by && are true together, tests joined by || false together.
 abbrev pub andFrom : Bool → List Bool → Bool
