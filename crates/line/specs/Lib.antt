@@ -1,3 +1,4 @@
 -- What the line's functions answer and leave, by bytes.
 pub mod Zero
 pub mod Load
+pub mod Exact
