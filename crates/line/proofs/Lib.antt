@@ -2,3 +2,5 @@
 pub mod BytesLaws
 pub mod StartBytes
 pub mod LoadLaws
+pub mod ReadyLaws
+pub mod ChannelLaws

@@ -1,0 +1,142 @@
+// The check of a channel's block: its bytes are right, and the channel keeps the rules.
+ghost use mathlib.Core.Path.{_≡_};
+ghost use mathlib.Core.Bool.{not, _&&_, _||_};
+ghost use mathlib.Core.List.{_∷_};
+ghost use Prim.Native.Nat.{_+_, _-_, _*_, _≤_, _<_, max};
+ghost use Rattle.plan.specs.Plan.{planOf, planNodes, planChannels, channelAt};
+ghost use Rattle.rules.specs.Lists.{greatestOf};
+ghost use Rattle.rules.specs.Line.{nodeAt, laneAt};
+ghost use Rattle.rules.specs.Step.{nodeDown, replaying, endDown};
+ghost use Rattle.rules.specs.Damaged.{marksJoined, channelHolds};
+ghost use Rattle.state.specs.Sizes.{blockAt, heardAt, parentLimit, queueAt, countSize, messageSize, laneRestAt, laneRest};
+ghost use Rattle.state.specs.Right.{wordAt};
+ghost use Rattle.state.specs.Lane.{heardCount};
+ghost use Rattle.state.specs.State.{lineOf};
+ghost use Rattle.line.specs.Exact.{zeroAt};
+ghost use Rattle.line.specs.Ready.{Ready};
+ghost use Rattle.line.specs.Channel.{OnChannel, QueueFits};
+use crate::bytes;
+
+fn index(b: u8) -> usize
+    ensures { λ r. ⌜ (r ≡ b) × (r < 256) ⌝ }
+{
+    b as usize
+}
+
+fn wide(n: u32) -> usize
+    ensures { λ r. ⌜ r ≡ n ⌝ }
+{
+    n as usize
+}
+
+// Whether a node is down.
+fn is_down(s: &[u8], n: usize) -> bool
+    requires { ⌜ Ready (now s) × (n < planNodes (now s)) ⌝ }
+    ensures { λ r. ⌜ r ≡ nodeDown (lineOf (now (s .entry))) n ⌝ }
+{
+    bytes::get8(s, 4096 * (1 + n)) == 1
+}
+
+// Whether a node replays.
+fn is_replaying(s: &[u8], n: usize) -> bool
+    requires { ⌜ Ready (now s) × (n < planNodes (now s)) ⌝ }
+    ensures { λ r. ⌜ r ≡ replaying (lineOf (now (s .entry))) n ⌝ }
+{
+    1 < bytes::get8(s, 4096 * (1 + n))
+}
+
+// Whether a node bears a crash mark.
+fn has_crashed(s: &[u8], n: usize) -> bool
+    requires { ⌜ Ready (now s) × (n < planNodes (now s)) ⌝ }
+    ensures { λ r. ⌜ r ≡ nodeAt (lineOf (now (s .entry))) n .crashed ⌝ }
+{
+    0 < bytes::get8(s, 4096 * (1 + n) + 1)
+}
+
+// A channel's sender and its receiver.
+fn sender_of(s: &[u8], b: usize) -> usize
+    requires { ⌜ OnChannel (now s) b ⌝ }
+    ensures { λ r. ⌜ (r ≡ channelAt (planOf (now (s .entry))) b .sender) × (r < planNodes (now (s .entry))) ⌝ }
+{
+    index(plan::channel_at(s, b).sender)
+}
+
+fn receiver_of(s: &[u8], b: usize) -> usize
+    requires { ⌜ OnChannel (now s) b ⌝ }
+    ensures { λ r. ⌜ (r ≡ channelAt (planOf (now (s .entry))) b .receiver) × (r < planNodes (now (s .entry))) ⌝ }
+{
+    index(plan::channel_at(s, b).receiver)
+}
+
+// Whether an end of a channel is down.
+fn end_down(s: &[u8], b: usize) -> bool
+    requires { ⌜ OnChannel (now s) b ⌝ }
+    ensures { λ r. ⌜ r ≡ endDown (lineOf (now (s .entry))) b ⌝ }
+{
+    is_down(s, sender_of(s, b)) | is_down(s, receiver_of(s, b))
+}
+
+// Whether both ends of a channel bear a crash mark.
+fn marks_joined(s: &[u8], b: usize) -> bool
+    requires { ⌜ OnChannel (now s) b ⌝ }
+    ensures { λ r. ⌜ r ≡ marksJoined (lineOf (now (s .entry))) b ⌝ }
+{
+    has_crashed(s, sender_of(s, b)) & has_crashed(s, receiver_of(s, b))
+}
+
+// How many are heard on a channel: the sender's parents.
+fn heard_count(s: &[u8], b: usize) -> usize
+    requires { ⌜ OnChannel (now s) b ⌝ }
+    ensures { λ r. ⌜ (r ≡ heardCount (planOf (now (s .entry))) (channelAt (planOf (now (s .entry))) b)) × (r ≤ 4) ⌝ }
+{
+    wide(plan::mask_count(plan::entering_mask(s, sender_of(s, b))))
+}
+
+fn larger(a: u32, b: u32) -> u32
+    ensures { λ r. ⌜ r ≡ max a b ⌝ }
+{
+    if a < b { b } else { a }
+}
+
+// The greatest of the receiver's clock entries that stand on a channel.
+fn most_heard(s: &[u8], b: usize, heard: usize) -> u32
+    requires { ⌜ OnChannel (now s) b × (heard ≡ heardCount (planOf (now s)) (channelAt (planOf (now s)) b)) ⌝ }
+    ensures { λ r. ⌜ r ≡ greatestOf (laneAt (lineOf (now (s .entry))) b .taken ∷ laneAt (lineOf (now (s .entry))) b .heard) ⌝ }
+{
+    let at = 53_248 + 320 * b;
+    let mut most = bytes::get32(s, at + 4);
+    let mut i: usize = 0;
+    while i < heard {
+        most = larger(most, bytes::get32(s, at + (8 + 4 * i)));
+        i += 1;
+    }
+    most
+}
+
+// The bytes that a channel's block leaves unused are 0: those of further parents, and all behind the queue.
+fn zeros_ok(s: &[u8], b: usize, heard: usize) -> bool
+    requires { ⌜ QueueFits (now s) b × (heard ≤ 4) ⌝ }
+    ensures { λ r. ⌜ r ≡ (zeroAt (blockAt b + heardAt + 4 * heard) (4 * (parentLimit - heard)) (now (s .entry))
+        && (zeroAt (blockAt b + queueAt + countSize + messageSize * wordAt (blockAt b + queueAt) (now (s .entry))) (messageSize * (8 - wordAt (blockAt b + queueAt) (now (s .entry)))) (now (s .entry))
+        && zeroAt (blockAt b + laneRestAt) laneRest (now (s .entry)))) ⌝ }
+{
+    let at = 53_248 + 320 * b;
+    let count = wide(bytes::get32(s, at + 24));
+    let heards = bytes::all_zero(s, at + 8 + 4 * heard, at + 24);
+    let rest = bytes::all_zero(s, at + 24 + 4 + 20 * count, at + 320);
+    heards & rest
+}
+
+// Whether anything stands on a channel that its ends' status forbids.
+fn holds(s: &[u8], b: usize, stopped: bool, most: u32) -> bool
+    requires { ⌜ OnChannel (now s) b × (stopped ≡ endDown (lineOf (now s)) b)
+        × (most ≡ greatestOf (laneAt (lineOf (now s)) b .taken ∷ laneAt (lineOf (now s)) b .heard)) ⌝ }
+    ensures { λ r. ⌜ r ≡ channelHolds (lineOf (now (s .entry))) b ⌝ }
+{
+    let at = 53_248 + 320 * b;
+    let unmarked = bytes::get32(s, at) == 0;
+    let empty = bytes::get32(s, at + 24) == 0;
+    let down = is_down(s, receiver_of(s, b));
+    let replays = is_replaying(s, sender_of(s, b));
+    (stopped & !(unmarked & empty)) | (down & (0 < most)) | (replays & !empty)
+}
