@@ -119,13 +119,13 @@ module _ (l : Line) (line : Formed l) (n : ℕ) (inside : n < nodeCount (l .plan
       any-row wrong held l (entering (l .plan) n)
       ∙ opposite (anyOf (λ (c : ℕ). wrong (keep (λ (h : Held). eqb (h .sender) (channelAt (l .plan) c .sender)) held)) (entering (l .plan) n)) (heldRise noneHeld held)
       (λ e. rows-held noneHeld held (λ h i. parent-below (h .sender) (own h i)) (λ a. isParent (l .plan) n a ≡ true) own
-          (λ a k.
-              (let (b, i, from) = parent-channel a k in
-              ap (λ (x : ℕ). rises x (rowTimes a held)) (at-first a)
-              ∙ subst (λ (x : ℕ). rises 0 (rowTimes x held) ≡ true) from
-              (not-false (rises 0 (rowTimes (channelAt (l .plan) b .sender) held)) (none-any (λ (c : ℕ). wrong (keep (λ (h : Held). eqb (h .sender) (channelAt (l .plan) c .sender)) held)) e i)))))
+      (λ a k.
+      (let (b, i, from) = parent-channel a k in
+      ap (λ (x : ℕ). rises x (rowTimes a held)) (at-first a)
+      ∙ subst (λ (x : ℕ). rises 0 (rowTimes x held) ≡ true) from
+      (not-false (rises 0 (rowTimes (channelAt (l .plan) b .sender) held)) (none-any (λ (c : ℕ). wrong (keep (λ (h : Held). eqb (h .sender) (channelAt (l .plan) c .sender)) held)) e i)))))
       (λ e. each-none (λ (c : ℕ). wrong (keep (λ (h : Held). eqb (h .sender) (channelAt (l .plan) c .sender)) held)) (entering (l .plan) n)
-          (λ c i. ap not (ap (λ (x : ℕ). rises x (rowTimes (channelAt (l .plan) c .sender) held)) (sym (at-first (channelAt (l .plan) c .sender))) ∙ held-rows noneHeld held (λ h j. parent-below (h .sender) (own h j)) e (channelAt (l .plan) c .sender))))
+      (λ c i. ap not (ap (λ (x : ℕ). rises x (rowTimes (channelAt (l .plan) c .sender) held)) (sym (at-first (channelAt (l .plan) c .sender))) ∙ held-rows noneHeld held (λ h j. parent-below (h .sender) (own h j)) e (channelAt (l .plan) c .sender))))
     where
       wrong : List Held → Bool
       wrong hs = not (rises 0 (map (λ (h : Held). h .time) hs))

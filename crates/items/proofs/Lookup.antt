@@ -98,10 +98,10 @@ module _ (p : Plan) (ordered : Ordered p) where
   apart-rising n (more {b = b} h r) enters =
       beside
       (λ c i q.
-          (let (hc, rc) = enters c (there i) in
-          let (hb, rb) = enters b here in
-          let same : c ≡ b = ordered .alone c b hc hb q (rc ∙ sym rb) in
-          omega (arith, in-above r i)))
+      (let (hc, rc) = enters c (there i) in
+      let (hb, rb) = enters b here in
+      let same : c ≡ b = ordered .alone c b hc hb q (rc ∙ sym rb) in
+      omega (arith, in-above r i)))
       (apart-rising n r (λ c i. enters c (there i)))
 
   pub entering-apart : (n : ℕ) → Apart p (entering p n)

@@ -117,9 +117,9 @@ lane-body-sound =
     via-sound lane-parts-sound laneSeen laneFrom
     (λ x h. ((h .lane .mark, (h .lane .taken, heard-fits (x .heard) (h .four) (h .lane .heard))), h .lane .queue)) (λ x h. refl)
     (λ p h.
-        let ns = lane-numbers (p .0) (h .0) in
-        let hs = heard-known (drop 2 (p .0)) (ns .1 .1) in
-        record { lane = record { mark = ns .0; taken = ns .1 .0; heard = hs .1; queue = h .1 }; four = hs .0 })
+    let ns = lane-numbers (p .0) (h .0) in
+    let hs = heard-known (drop 2 (p .0)) (ns .1 .1) in
+    record { lane = record { mark = ns .0; taken = ns .1 .0; heard = hs .1; queue = h .1 }; four = hs .0 })
 
 pub lane-sound : Sound laneLayout PaddedFits
 unfolding laneLayout

@@ -108,8 +108,7 @@ pub parts-fit : (l : Line) → LineFits l → PartsFit (nodeCount (l .plan)) (ch
 parts-fit l f =
     let h = plan-known (l .plan) (f .plan) in
     let node = each-known NodeFits (l .nodes) freshNode (λ n k. f .node n (omega (arith, f .nodes))) in
-    let lane = each-known LaneFits (l .lanes) noLane (λ b k. f .lane b (omega (arith, f .lanes))) in
-    (
+    let lane = each-known LaneFits (l .lanes) noLane (λ b k. f .lane b (omega (arith, f .lanes))) in (
       (head-fits (l .plan) h, ((refl, h .rule), (refl, h .channel))),
       (f .steps, ((f .nodes, node), (length-map (l .lanes) padHeard ∙ f .lanes, each-map LaneFits PaddedFits padHeard pad-fits (l .lanes) lane))),
     )

@@ -120,7 +120,7 @@ pub node-read : (b : List ℕ)
       time = spelled 0 (take 4 (drop timeAt b));
       log = logLayout .read (drop logAt b);
       held = heldListLayout .read (drop heldAt b);
-      targets = targetsLayout .read (drop targetsAt b)
+      targets = targetsLayout .read (drop targetsAt b);
     }
 unfolding nodeLayout
 node-read b =
@@ -140,7 +140,7 @@ pub lane-read : (b : List ℕ)
       mark = spelled 0 (take 4 (drop markAt b));
       taken = spelled 0 (take 4 (drop takenAt b));
       heard = readFields heardWidths (drop heardAt b);
-      queue = queueLayout .read (drop queueAt b)
+      queue = queueLayout .read (drop queueAt b);
     }
 unfolding laneLayout
 lane-read b =
