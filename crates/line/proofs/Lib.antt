@@ -4,3 +4,4 @@ pub mod StartBytes
 pub mod LoadLaws
 pub mod ReadyLaws
 pub mod ChannelLaws
+pub mod LookLaws

@@ -1,4 +1,4 @@
--- A state that can be read: it is long enough, and its plan fits.
+-- What is known of a state before its nodes and channels are looked at: its size, and that the plan in front is right.
 use Prim.Native.Nat.{ℕ, _≤_}
 use mathlib.Core.Path.{_≡_}
 use mathlib.Core.Bool.{true}
