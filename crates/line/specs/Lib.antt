@@ -4,3 +4,4 @@ pub mod Load
 pub mod Exact
 pub mod Ready
 pub mod Look
+pub mod Check
