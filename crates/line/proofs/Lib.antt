@@ -5,3 +5,4 @@ pub mod LoadLaws
 pub mod ReadyLaws
 pub mod ChannelLaws
 pub mod LookLaws
+pub mod OriginLaws

@@ -5,3 +5,4 @@ pub mod Exact
 pub mod Ready
 pub mod Channel
 pub mod Look
+pub mod Check
