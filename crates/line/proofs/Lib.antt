@@ -6,3 +6,5 @@ pub mod ReadyLaws
 pub mod ChannelLaws
 pub mod LookLaws
 pub mod OriginLaws
+pub mod MessageLaws
+pub mod QueueLaws

@@ -1,6 +1,5 @@
 -- What the check of a channel's block goes by: each message where it lies, and the queue message by message.
 use Prim.Native.Nat.{ℕ, zero, suc, _+_, _≤_, _<_}
-use mathlib.Core.Path.{_≡_}
 use mathlib.Core.Bool.{Bool, true, _&&_, _||_}
 use mathlib.Core.List.{List}
 use lib.ListN.{take, drop}
@@ -9,10 +8,10 @@ use Rattle.plan.specs.Plan.{planChannels}
 use Rattle.rules.specs.Line.{queueLimit, Message}
 use Rattle.state.specs.Sizes.{blockAt, queueAt, messageSize}
 use Rattle.state.specs.Right.{wordAt}
-use Rattle.state.specs.Pieces.{originLayout, messageLayout}
+use Rattle.state.specs.Pieces.{messageLayout}
 use Rattle.state.specs.State.{lineOf}
 use Rattle.items.specs.Items.{recordRight, namedRight}
-use Rattle.line.specs.Exact.{originExact, messageExact}
+use Rattle.line.specs.Exact.{messageExact}
 use Rattle.line.specs.Ready.{Ready}
 
 -- A channel of a state that can be read, and one whose queue is not too long.
@@ -28,11 +27,6 @@ pub record QueueFits (s : List ℕ) (b : ℕ) : Type 0 where
 abbrev pub messageAt : List ℕ → ℕ → Message
 messageAt s a = messageLayout .read (take messageSize (drop a s))
 
--- An origin at a place, of something that a node made.
-unfoldable pub originOk : List ℕ → ℕ → ℕ → Bool
-unfolding lineOf originLayout namedRight
-originOk s sender a = originExact a s && namedRight (lineOf s) sender (originLayout .read (take 5 (drop a s)))
-
 -- A message at a place, sent by a node.
 unfoldable pub messageOk : List ℕ → ℕ → ℕ → Bool
 unfolding lineOf messageLayout messageExact namedRight
@@ -40,6 +34,6 @@ messageOk s sender a = messageExact a s && (recordRight (messageAt s a .what) &&
 
 -- So many messages from a place on, whose times rise from above the last to the mark where no end is down.
 abbrev pub messagesOk : List ℕ → ℕ → Bool → ℕ → ℕ → ℕ → ℕ → Bool
-messagesOk s sender free mark last a zero = true
-messagesOk s sender free mark last a (suc n) =
-    messageOk s sender a && (free || (ltb last (wordAt (a + 8) s) && leb (wordAt (a + 8) s) mark)) && messagesOk s sender free mark (wordAt (a + 8) s) (a + messageSize) n
+messagesOk s sender stopped mark last a zero = true
+messagesOk s sender stopped mark last a (suc n) =
+    messageOk s sender a && (stopped || (ltb last (messageAt s a .time) && leb (messageAt s a .time) mark)) && messagesOk s sender stopped mark (messageAt s a .time) (a + messageSize) n

@@ -3,6 +3,7 @@ ghost use mathlib.Core.Path.{_≡_};
 ghost use mathlib.Core.Bool.{not, _&&_, _||_};
 ghost use mathlib.Core.List.{_∷_};
 ghost use Prim.Native.Nat.{_+_, _-_, _*_, _≤_, _<_, max};
+ghost use lib.ListN.{length};
 ghost use Rattle.plan.specs.Plan.{planOf, planNodes, planChannels, channelAt};
 ghost use Rattle.rules.specs.Lists.{greatestOf};
 ghost use Rattle.rules.specs.Line.{nodeAt, laneAt};
@@ -12,16 +13,15 @@ ghost use Rattle.state.specs.Sizes.{blockAt, heardAt, parentLimit, queueAt, cou
 ghost use Rattle.state.specs.Right.{wordAt};
 ghost use Rattle.state.specs.Lane.{heardCount};
 ghost use Rattle.state.specs.State.{lineOf};
-ghost use Rattle.line.specs.Exact.{zeroAt};
+ghost use Rattle.state.specs.Pieces.{originFrom};
+ghost use Rattle.items.specs.Items.{namedRight, queueRight, channelRight};
+ghost use Rattle.line.specs.Exact.{zeroAt, messageExact, slotsExact, blockExact};
 ghost use Rattle.line.specs.Ready.{Ready};
-ghost use Rattle.line.specs.Channel.{OnChannel, QueueFits};
+ghost use Rattle.line.specs.Check.{Counted};
+ghost use Rattle.line.specs.Channel.{OnChannel, QueueFits, messageOk};
 use crate::bytes;
-
-fn index(b: u8) -> usize
-    ensures { λ r. ⌜ (r ≡ b) × (r < 256) ⌝ }
-{
-    b as usize
-}
+use crate::look;
+use crate::origin;
 
 fn wide(n: u32) -> usize
     ensures { λ r. ⌜ r ≡ n ⌝ }
@@ -58,14 +58,14 @@ fn sender_of(s: &[u8], b: usize) -> usize
     requires { ⌜ OnChannel (now s) b ⌝ }
     ensures { λ r. ⌜ (r ≡ channelAt (planOf (now (s .entry))) b .sender) × (r < planNodes (now (s .entry))) ⌝ }
 {
-    index(plan::channel_at(s, b).sender)
+    look::index(plan::channel_at(s, b).sender)
 }
 
 fn receiver_of(s: &[u8], b: usize) -> usize
     requires { ⌜ OnChannel (now s) b ⌝ }
     ensures { λ r. ⌜ (r ≡ channelAt (planOf (now (s .entry))) b .receiver) × (r < planNodes (now (s .entry))) ⌝ }
 {
-    index(plan::channel_at(s, b).receiver)
+    look::index(plan::channel_at(s, b).receiver)
 }
 
 // Whether an end of a channel is down.
@@ -139,4 +139,54 @@ fn holds(s: &[u8], b: usize, stopped: bool, most: u32) -> bool
     let down = is_down(s, receiver_of(s, b));
     let replays = is_replaying(s, sender_of(s, b));
     (stopped & !(unmarked & empty)) | (down & (0 < most)) | (replays & !empty)
+}
+
+// What node n made something from: nothing, or a parent's message.
+fn named_ok(s: &[u8], steps: u32, n: usize, from: usize, time: u32) -> bool
+    requires { ⌜ Counted (now s) steps ⌝ }
+    ensures { λ r. ⌜ r ≡ namedRight (lineOf (now (s .entry))) n (originFrom from time) ⌝ }
+{
+    if from == 0 {
+        return look::is_source(s, n);
+    }
+    let b = look::channel_between(s, from - 1, n);
+    let m = look::channel_count(s);
+    ((0 < time) & (time <= steps)) & (b < m)
+}
+
+// A message that node n sent.
+fn message_ok(s: &[u8], steps: u32, n: usize, at: usize) -> bool
+    requires { ⌜ Counted (now s) steps × (at + 20 ≤ length (now s)) ⌝ }
+    ensures { λ r. ⌜ r ≡ messageOk (now (s .entry)) n at ⌝ }
+{
+    let from = look::index(bytes::get8(s, at + 12));
+    let time = bytes::get32(s, at + 13);
+    let what = origin::record_ok(s, at);
+    let named = named_ok(s, steps, n, from, time);
+    let zeros = bytes::all_zero(s, at + 17, at + 20);
+    what & named & ((from != 0) | (time == 0)) & zeros
+}
+
+// A channel's messages. Where no end is down, their times rise strictly from above what was taken to the mark.
+fn queue_ok(s: &[u8], steps: u32, b: usize, stopped: bool) -> bool
+    requires { ⌜ Counted (now s) steps × QueueFits (now s) b × (stopped ≡ endDown (lineOf (now s)) b) ⌝ }
+    ensures { λ r. ⌜ r ≡ (slotsExact messageExact messageSize (blockAt b + queueAt + countSize) (wordAt (blockAt b + queueAt) (now (s .entry))) (now (s .entry))
+        && queueRight (lineOf (now (s .entry))) b (laneAt (lineOf (now (s .entry))) b .queue)) ⌝ }
+{
+    let sender = sender_of(s, b);
+    let mut at = 53_248 + 320 * b;
+    let mark = bytes::get32(s, at);
+    let mut last = bytes::get32(s, at + 4);
+    let mut left = bytes::get32(s, at + 24);
+    let mut ok = stopped | (last <= mark);
+    at += 28;
+    while 0 < left {
+        let time = bytes::get32(s, at + 8);
+        let here = message_ok(s, steps, sender, at);
+        ok = ok & here & (stopped | ((last < time) & (time <= mark)));
+        last = time;
+        at += 20;
+        left -= 1;
+    }
+    ok
 }
