@@ -8,3 +8,4 @@ pub mod LookLaws
 pub mod OriginLaws
 pub mod MessageLaws
 pub mod QueueLaws
+pub mod BlockCheck

@@ -10,7 +10,7 @@ use lib.ListN.{length, getD}
 use lib.Seq.{ext-getD}
 use Rattle.plan.specs.Plan.{planOf, channelAt}
 use Rattle.rules.specs.Lists.{allOf}
-use Rattle.rules.specs.Line.{queueLimit, Message, Line, laneAt, senderOf}
+use Rattle.rules.specs.Line.{queueLimit, Message, laneAt}
 use Rattle.rules.specs.Step.{endDown}
 use Rattle.state.specs.Sizes.{blockAt, takenAt, queueAt, countSize, messageSize}
 use Rattle.state.specs.Right.{wordAt}
@@ -98,6 +98,7 @@ messages-turn s sender stopped mark last a left time ok here h e f =
   where
     now : Bool
     now = stopped || (ltb last (messageAt s a .time) && leb (messageAt s a .time) mark)
+
     rest : Bool
     rest = messagesOk s sender stopped mark (messageAt s a .time) (a + messageSize) (left - 1)
 
@@ -123,9 +124,9 @@ module _ (s : List ℕ) (b : ℕ) (fits : QueueFits s b) where
       let long : length (laneAt (lineOf s) b .queue) ≡ count = line-queue-count s few b (fits .on .below) ∙ omega (arith, fits .few) in
       ext-getD none (laneAt (lineOf s) b .queue) (messagesIn s first count) (long ∙ sym (length-in s first count))
       (λ i h.
-          (let low : i < count = rw long at h in
-          let place : blockAt b + (queueAt + countSize + messageSize * i) ≡ first + messageSize * i = omega arith in
-          line-queue-at s few b (fits .on .below) i none low (omega (arith, fits .few)) ∙ ap (messageAt s) place ∙ sym (message-place s none first count i low)))
+      (let low : i < count = rw long at h in
+      let place : blockAt b + (queueAt + countSize + messageSize * i) ≡ first + messageSize * i = omega arith in
+      line-queue-at s few b (fits .on .below) i none low (omega (arith, fits .few)) ∙ ap (messageAt s) place ∙ sym (message-place s none first count i low)))
     where
       none : Message
       none = messageAt [] 0

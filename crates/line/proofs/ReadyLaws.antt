@@ -1,15 +1,14 @@
 -- What a state that can be read gives: its counts, its channels' ends, and its nodes' status by their bytes.
-use Prim.Native.Nat.{ℕ, zero, suc, _+_, _*_, _≤_, _<_}
+use Prim.Native.Nat.{ℕ, zero, suc, _+_, _≤_, _<_}
 use mathlib.Core.Path.{_≡_, refl, sym, ap, _∙_}
-use mathlib.Core.Bool.{Bool, true, false}
-use mathlib.Core.List.{List, [], _∷_}
+use mathlib.Core.List.{List}
 use native.Mathlib.Nat.{add-zero}
 use native.Mathlib.Omega.{arith}
-use borrow.Author.Tests.{ne-eqb, lt-ltb, le-ltb}
+use borrow.Author.Tests.{ne-eqb, lt-ltb}
 use lib.Dec.{ltb, eqb}
 use lib.ListN.{length, getD, take, drop, length-take, length-map}
 use Rattle.plan.specs.Layout.{spelled}
-use Rattle.plan.specs.Plan.{Plan, planOf, planNodes, planChannels, nodeCount, channelCount, channelAt, entering}
+use Rattle.plan.specs.Plan.{planOf, planNodes, channelCount, channelAt, entering}
 use Rattle.plan.specs.Mask.{planMask, CountOf}
 use Rattle.plan.proofs.FitsLaws.{fitting}
 use Rattle.plan.proofs.PlanLaws.{node-count, channel-count}

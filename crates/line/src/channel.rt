@@ -1,6 +1,6 @@
 // The check of a channel's block: its bytes are right, and the channel keeps the rules.
 ghost use mathlib.Core.Path.{_≡_};
-ghost use mathlib.Core.Bool.{not, _&&_, _||_};
+ghost use mathlib.Core.Bool.{_&&_};
 ghost use mathlib.Core.List.{_∷_};
 ghost use Prim.Native.Nat.{_+_, _-_, _*_, _≤_, _<_, max};
 ghost use lib.ListN.{length};
@@ -19,6 +19,7 @@ ghost use Rattle.line.specs.Exact.{zeroAt, messageExact, slotsExact, blo
 ghost use Rattle.line.specs.Ready.{Ready};
 ghost use Rattle.line.specs.Check.{Counted};
 ghost use Rattle.line.specs.Channel.{OnChannel, QueueFits, messageOk};
+use crate::Line;
 use crate::bytes;
 use crate::look;
 use crate::origin;
@@ -189,4 +190,25 @@ fn queue_ok(s: &[u8], steps: u32, b: usize, stopped: bool) -> bool
         left -= 1;
     }
     ok
+}
+
+// A channel's block.
+pub fn channel_ok(s: &[u8], b: usize, steps: u32) -> bool
+    requires { ⌜ Counted (now s) steps × (b < planChannels (now s)) ⌝ }
+    ensures { λ r. ⌜ r ≡ (blockExact (heardCount (planOf (now (s .entry))) (channelAt (planOf (now (s .entry))) b)) (blockAt b) (now (s .entry))
+        && channelRight (lineOf (now (s .entry))) b) ⌝ }
+{
+    let at = 53_248 + 320 * b;
+    if Line::QUEUE_LIMIT < bytes::get32(s, at + 24) {
+        return false;
+    }
+    let mark = bytes::get32(s, at);
+    let heard = heard_count(s, b);
+    let most = most_heard(s, b, heard);
+    let zeros = zeros_ok(s, b, heard);
+    let stopped = end_down(s, b);
+    let queue = queue_ok(s, steps, b, stopped);
+    let joined = marks_joined(s, b);
+    let held = holds(s, b, stopped, most);
+    zeros & ((mark <= steps) & (most <= steps)) & queue & !joined & !held
 }

@@ -5,23 +5,11 @@ use Rattle.line.proofs.MessageLaws.{named-fed, named-made}
 use Rattle.line.proofs.channel.named_ok.Statement.{statement}
 use Rattle.line.proofs.channel.named_ok.Tie as tie
 
-is-source-requires : tie.Need-is-source-requires
-is-source-requires c κs = search needs
-
 returns : tie.Need-returns
 returns c =
     let start = c .before .before .before in
     let a = start .args in
     rw (c .is-source .ensures, origin-none (a .time) (a .from) (c .before .if1 .taken)) (named-fed (a .s .now) (a .steps) (start .pre) (a .n))
-
-sub-channel-between : tie.Need-sub-channel-between
-sub-channel-between c = search needs
-
-channel-between-requires : tie.Need-channel-between-requires
-channel-between-requires c κs = search needs
-
-channel-count-requires : tie.Need-channel-count-requires
-channel-count-requires c κs = search needs
 
 returns-2 : tie.Need-returns-2
 returns-2 c =
@@ -34,9 +22,9 @@ pub named-ok-spec : {M : Type 1} → statement M
 named-ok-spec =
     tie.close
     (tie.spec
-    is-source-requires
+    (λ c κs. search needs)
     returns
-    sub-channel-between
-    channel-between-requires
-    channel-count-requires
+    (λ c. search needs)
+    (λ c κs. search needs)
+    (λ c κs. search needs)
     returns-2)

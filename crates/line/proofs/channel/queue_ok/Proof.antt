@@ -26,53 +26,14 @@ abbrev μ-loop : tie.MeasureT-loop
 sender-of-requires : tie.Need-sender-of-requires Inv-loop μ-loop
 sender-of-requires c κs = c .before .pre .1 .on
 
-mul-at : tie.Need-mul-at Inv-loop μ-loop
-mul-at c = search needs
-
-add-at : tie.Need-add-at Inv-loop μ-loop
-add-at c = search needs
-
-get32-requires : tie.Need-get32-requires Inv-loop μ-loop
-get32-requires c κs = search needs
-
-add-get32 : tie.Need-add-get32 Inv-loop μ-loop
-add-get32 c = search needs
-
-get32-requires-2 : tie.Need-get32-requires-2 Inv-loop μ-loop
-get32-requires-2 c κs = search needs
-
-add-get32-2 : tie.Need-add-get32-2 Inv-loop μ-loop
-add-get32-2 c = search needs
-
-get32-requires-3 : tie.Need-get32-requires-3 Inv-loop μ-loop
-get32-requires-3 c κs = search needs
-
-add-at-2 : tie.Need-add-at-2 Inv-loop μ-loop
-add-at-2 c = search needs
-
 loop-holds : tie.Need-loop-holds Inv-loop μ-loop
 loop-holds c =
     let start = c .before .before .before .before .before in
     let most : c .get323 .result ≤ 8 = rw (c .get323 .ensures) (start .pre .1 .few) in
     record { few = most; place = omega arith; now = refl }
 
-add-get32-3 : tie.Need-add-get32-3 Inv-loop μ-loop
-add-get32-3 c = search needs
-
-get32-requires-4 : tie.Need-get32-requires-4 Inv-loop μ-loop
-get32-requires-4 c κs = search needs
-
 message-ok-requires : tie.Need-message-ok-requires Inv-loop μ-loop
 message-ok-requires c κs = (c .before .before .before .before .before .before .before .before .pre .0, omega arith)
-
-add-at-3 : tie.Need-add-at-3 Inv-loop μ-loop
-add-at-3 c = search needs
-
-sub-left : tie.Need-sub-left Inv-loop μ-loop
-sub-left c = search needs
-
-loop-less : tie.Need-loop-less Inv-loop μ-loop
-loop-less c = search needs
 
 loop-again : tie.Need-loop-again Inv-loop μ-loop
 loop-again c =
@@ -84,8 +45,8 @@ loop-again c =
       few = omega arith;
       place = omega arith;
       now = t .inv .now
-      ∙ messages-turn (a .s .now) sender (a .stopped) mark (t .last) (t .at) (t .left) (c .before .get324 .result) (t .ok) (c .message-ok .result) (omega arith)
-      (c .before .get324 .ensures ∙ message-time (t .at) (a .s .now)) (c .message-ok .ensures);
+          ∙ messages-turn (a .s .now) sender (a .stopped) mark (t .last) (t .at) (t .left) (c .before .get324 .result) (t .ok) (c .message-ok .result) (omega arith)
+          (c .before .get324 .ensures ∙ message-time (t .at) (a .s .now)) (c .message-ok .ensures);
     }
 
 returns : tie.Need-returns Inv-loop μ-loop
@@ -108,20 +69,20 @@ queue-ok-spec =
     Inv-loop
     μ-loop
     sender-of-requires
-    mul-at
-    add-at
-    get32-requires
-    add-get32
-    get32-requires-2
-    add-get32-2
-    get32-requires-3
-    add-at-2
+    (λ c. search needs)
+    (λ c. search needs)
+    (λ c κs. search needs)
+    (λ c. search needs)
+    (λ c κs. search needs)
+    (λ c. search needs)
+    (λ c κs. search needs)
+    (λ c. search needs)
     loop-holds
-    add-get32-3
-    get32-requires-4
+    (λ c. search needs)
+    (λ c κs. search needs)
     message-ok-requires
-    add-at-3
-    sub-left
-    loop-less
+    (λ c. search needs)
+    (λ c. search needs)
+    (λ c. search needs)
     loop-again
     returns)
