@@ -5,3 +5,10 @@ pub mod LoadLaws
 pub mod ExactLaws
 pub mod WholeLaws
 pub mod CheckLaws
+pub mod ReadyLaws
+pub mod ChannelLaws
+pub mod LookLaws
+pub mod OriginLaws
+pub mod MessageLaws
+pub mod QueueLaws
+pub mod BlockCheck

@@ -5,3 +5,6 @@ pub mod Exact
 pub mod Ready
 pub mod NodeCheck
 pub mod Whole
+pub mod Channel
+pub mod Look
+pub mod Check

@@ -4,6 +4,9 @@ ghost use Rattle.line.specs.Load.{loadAnswer, loadLeft};
 
 mod bytes;
 mod check;
+mod channel;
+mod look;
+mod origin;
 
 // The line's own limits (document 01, "The limits belong to the line itself").
 pub struct Line {
