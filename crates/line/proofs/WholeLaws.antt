@@ -49,7 +49,7 @@ unfolding nodeRight nodePlain replayPlain
 node-parts l n = and-stands (λ e. e, λ e. e) (λ e. e, λ e. e)
 
 -- A plan that fits: so many nodes and channels, and on a channel so many heard.
-fits-counted : (s : List ℕ) → planFits (planOf s) ≡ true → Counted s
+pub fits-counted : (s : List ℕ) → planFits (planOf s) ≡ true → Counted s
 fits-counted s e =
     let p = fitting (planOf s) e in
     record { nodes = rw node-count at (p .nodesMost); channels = rw channel-count at (p .channelsMost) }
@@ -167,7 +167,7 @@ checked-parts s =
     same : {b : Bool} → Stands b (b ≡ true)
     same = (λ e. e, λ e. e)
 
-plan-stands : (s : List ℕ) → Stands (planExact s) ((planRefusal (storedPlan s) ≡ 0) × ZerosAt (planSize (planNodes s) (planChannels s)) (planArea - planSize (planNodes s) (planChannels s)) s)
+pub plan-stands : (s : List ℕ) → Stands (planExact s) ((planRefusal (storedPlan s) ≡ 0) × ZerosAt (planSize (planNodes s) (planChannels s)) (planArea - planSize (planNodes s) (planChannels s)) s)
 unfolding planExact
 plan-stands s = and-stands (eqb-stands (planRefusal (storedPlan s)) 0) (zero-stands (planSize (planNodes s) (planChannels s)) (planArea - planSize (planNodes s) (planChannels s)) s)
 
