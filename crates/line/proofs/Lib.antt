@@ -4,3 +4,6 @@ pub mod StartBytes
 pub mod LoadLaws
 pub mod LookLaws
 pub mod OriginLaws
+pub mod SlotLaws
+pub mod PieceBytes
+pub mod NodeLaws

@@ -5,3 +5,4 @@ pub mod Exact
 pub mod Ready
 pub mod Look
 pub mod Check
+pub mod NodeCheck

@@ -4,6 +4,7 @@ ghost use Rattle.line.specs.Load.{loadAnswer, loadLeft};
 
 mod bytes;
 mod look;
+mod node;
 mod origin;
 
 // The line's own limits (document 01, "The limits belong to the line itself").
