@@ -6,7 +6,7 @@ use mathlib.Core.List.{List, [], _∷_}
 use native.Mathlib.Omega.{arith}
 use borrow.Author.Tests.{le-leb, lt-leb}
 use lib.Dec.{leb, ltb, eqb}
-use lib.ListN.{length, getD, take, drop}
+use lib.ListN.{length, getD, set, take, drop}
 use lib.Seq.{ext-getD}
 use Rattle.plan.specs.Plan.{planNodes}
 use Rattle.rules.specs.Lists.{allOf}
@@ -15,13 +15,13 @@ use Rattle.state.specs.Sizes.{pageAt, countSize, timeAt, logAt, entrySize, held
 use Rattle.state.specs.State.{lineOf}
 use Rattle.state.specs.Right.{wordAt}
 use Rattle.state.proofs.InPlace.{Counted as Few}
-use Rattle.state.proofs.OffsetLaws.{line-time, line-log-count, line-log-at}
-use Rattle.items.specs.Items.{timesRise, entryRight, logRight}
-use Rattle.line.specs.Exact.{zeroAt, entryExact, slotsExact, listExact}
+use Rattle.state.proofs.OffsetLaws.{line-time, line-log-count, line-log-at, line-held-count, line-held-at, line-targets-count, line-target-at}
+use Rattle.items.specs.Items.{timesRise, entryRight, logRight, heldRise, noneHeld, heldRight, heldAllRight, targetRight}
+use Rattle.line.specs.Exact.{zeroAt, entryExact, heldExact, targetExact, slotsExact, listExact}
 use Rattle.line.specs.Ready.{Ready}
-use Rattle.line.specs.Check.{Counted, PageOf, recordIn, entryIn}
+use Rattle.line.specs.Check.{Counted, PageOf, recordIn, entryIn, heldIn, targetIn}
 use Rattle.line.proofs.SlotLaws.{swap-middle, slotsIn, passes, length-slots, slots-at, slotsPass, slots-pass, pass-more}
-use Rattle.line.proofs.PieceBytes.{entry-in}
+use Rattle.line.proofs.PieceBytes.{entry-in, held-in, target-in}
 
 pub few-of : {s : List ℕ} {steps : ℕ} → Counted s steps → Few s
 few-of h = record { nodes = h .ready .nodes; channels = h .ready .channels }
@@ -97,6 +97,92 @@ module _ (s : List ℕ) (steps n at : ℕ) (page : PageOf s steps n at) where
     log-whole =
         slots-pass entryIn entrySize s entryExact (entryPasses lineIn n (nodeIn .time)) (entryNext lineIn n (nodeIn .time)) 0 (pageAt n + logAt + countSize) count
         ∙ ap (λ (t : Bool). slotsExact entryExact entrySize (pageAt n + logAt + countSize) count s && t) (ap (passes (entryPasses lineIn n (nodeIn .time)) (entryNext lineIn n (nodeIn .time)) 0) (sym log-slots) ∙ log-passes lineIn n (nodeIn .time) 0 (nodeIn .log))
+
+-- ---- held records
+
+abbrev noHeld : Held
+noHeld = record { what = record { piece = 0; material = 0; mass = 0 }; sender = 0; time = 0; before = fed }
+
+module _ (l : Line) (n : ℕ) where
+  abbrev pub heldPasses : List ℕ → Held → Bool
+  heldPasses last h = heldRight l n h && ltb (getD last (h .sender) 0) (h .time)
+
+  abbrev pub heldNext : List ℕ → Held → List ℕ
+  heldNext last h = set last (h .sender) (h .time)
+
+  held-passes : (last : List ℕ) (hs : List Held) → passes heldPasses heldNext last hs ≡ (allOf (heldRight l n) hs && heldRise last hs)
+  held-passes last [] = refl
+  held-passes last (h ∷ hs) =
+      ap (λ (t : Bool). heldPasses last h && t) (held-passes (heldNext last h) hs)
+      ∙ swap-middle (heldRight l n h) (ltb (getD last (h .sender) 0) (h .time)) (allOf (heldRight l n) hs) (heldRise (heldNext last h) hs)
+
+-- The held records from an offset on.
+abbrev pub heldPass : List ℕ → ℕ → List ℕ → ℕ → ℕ → Bool
+heldPass s n last a k = slotsPass heldIn heldSize s heldExact (heldPasses (lineOf s) n) (heldNext (lineOf s) n) last a k
+
+module _ (s : List ℕ) (steps n at : ℕ) (page : PageOf s steps n at) where
+  -- One held record more.
+  pub held-more : (ok one : Bool) (last after : List ℕ) (a k sender time row : ℕ) → sender ≡ getD s (a + 8) 0 → time ≡ wordAt (a + 9) s → row ≡ getD last sender 0 → after ≡ set last sender time
+      → one ≡ (heldExact a s && heldRight (lineOf s) n (heldIn a s)) → (ok && heldPass s n last a (suc k)) ≡ ((ok && (one && ltb row time)) && heldPass s n after (a + heldSize) k)
+  held-more ok one last after a k sender time row d e f h g =
+      let from : heldIn a s .sender ≡ sender = ap (λ (x : Held). x .sender) (held-in a s) ∙ sym d in
+      let same : heldIn a s .time ≡ time = ap (λ (x : Held). x .time) (held-in a s) ∙ sym e in
+      pass-more heldIn heldSize s heldExact (heldPasses (lineOf s) n) (heldNext (lineOf s) n) ok last a k
+      ∙ rw (from, same, f, g, h) (ap (λ (t : Bool). (ok && t) && heldPass s n (set last sender time) (a + heldSize) k) (sym (and-assoc (heldExact a s) (heldRight (lineOf s) n (heldIn a s)) (ltb (getD last sender 0) time))))
+
+  module _ (count : ℕ) (is : count ≡ wordAt (pageAt n + heldAt) s) (small : count ≤ heldLimit) where
+    held-slots : nodeAt (lineOf s) n .held ≡ slotsIn heldIn heldSize (pageAt n + heldAt + countSize) count s
+    held-slots =
+        list-slots heldIn noHeld heldSize (pageAt n + heldAt + countSize) count s (nodeAt (lineOf s) n .held)
+        (line-held-count s (few-of (page .counted)) n (page .within) ∙ rw (← is) (omega arith))
+        (λ i h.
+            (let there : pageAt n + (heldAt + countSize + heldSize * i) ≡ pageAt n + heldAt + countSize + heldSize * i = omega arith in
+            line-held-at s (few-of (page .counted)) n (page .within) i noHeld (omega arith) (omega arith) ∙ ap (λ (a : ℕ). heldIn a s) there))
+
+    pub held-whole : heldPass s n noneHeld (pageAt n + heldAt + countSize) count ≡ (slotsExact heldExact heldSize (pageAt n + heldAt + countSize) count s && heldAllRight (lineOf s) n (nodeAt (lineOf s) n .held))
+    unfolding heldAllRight
+    held-whole =
+        slots-pass heldIn heldSize s heldExact (heldPasses (lineOf s) n) (heldNext (lineOf s) n) noneHeld (pageAt n + heldAt + countSize) count
+        ∙ ap (λ (t : Bool). slotsExact heldExact heldSize (pageAt n + heldAt + countSize) count s && t) (ap (passes (heldPasses (lineOf s) n) (heldNext (lineOf s) n) noneHeld) (sym held-slots) ∙ held-passes (lineOf s) n noneHeld (nodeAt (lineOf s) n .held))
+
+-- ---- targets
+
+abbrev noTarget : Target
+noTarget = record { time = 0; parent = 0; parentTime = 0 }
+
+module _ (l : Line) (n : ℕ) where
+  abbrev pub targetPasses : ℕ → Target → Bool
+  targetPasses u t = targetRight l n t
+
+  abbrev pub targetNext : ℕ → Target → ℕ
+  targetNext u t = u
+
+  target-passes : (u : ℕ) (ts : List Target) → passes targetPasses targetNext u ts ≡ allOf (targetRight l n) ts
+  target-passes u [] = refl
+  target-passes u (t ∷ ts) = ap (λ (b : Bool). targetRight l n t && b) (target-passes u ts)
+
+-- The targets from an offset on.
+abbrev pub targetPass : List ℕ → ℕ → ℕ → ℕ → Bool
+targetPass s n a k = slotsPass targetIn targetSize s targetExact (targetPasses (lineOf s) n) (targetNext (lineOf s) n) 0 a k
+
+module _ (s : List ℕ) (steps n at : ℕ) (page : PageOf s steps n at) where
+  -- One target more.
+  pub target-more : (ok one : Bool) (a k : ℕ) → one ≡ (targetExact a s && targetRight (lineOf s) n (targetIn a s)) → (ok && targetPass s n a (suc k)) ≡ ((ok && one) && targetPass s n (a + targetSize) k)
+  target-more ok one a k g = pass-more targetIn targetSize s targetExact (targetPasses (lineOf s) n) (targetNext (lineOf s) n) ok 0 a k ∙ rw g refl
+
+  module _ (count : ℕ) (is : count ≡ wordAt (pageAt n + targetsAt) s) (small : count ≤ targetLimit) where
+    target-slots : nodeAt (lineOf s) n .targets ≡ slotsIn targetIn targetSize (pageAt n + targetsAt + countSize) count s
+    target-slots =
+        list-slots targetIn noTarget targetSize (pageAt n + targetsAt + countSize) count s (nodeAt (lineOf s) n .targets)
+        (line-targets-count s (few-of (page .counted)) n (page .within) ∙ rw (← is) (omega arith))
+        (λ i h.
+            (let there : pageAt n + (targetsAt + countSize + targetSize * i) ≡ pageAt n + targetsAt + countSize + targetSize * i = omega arith in
+            line-target-at s (few-of (page .counted)) n (page .within) i noTarget (omega arith) (omega arith) ∙ ap (λ (a : ℕ). targetIn a s) there))
+
+    pub target-whole : targetPass s n (pageAt n + targetsAt + countSize) count ≡ (slotsExact targetExact targetSize (pageAt n + targetsAt + countSize) count s && allOf (targetRight (lineOf s) n) (nodeAt (lineOf s) n .targets))
+    target-whole =
+        slots-pass targetIn targetSize s targetExact (targetPasses (lineOf s) n) (targetNext (lineOf s) n) 0 (pageAt n + targetsAt + countSize) count
+        ∙ ap (λ (t : Bool). slotsExact targetExact targetSize (pageAt n + targetsAt + countSize) count s && t) (ap (passes (targetPasses (lineOf s) n) (targetNext (lineOf s) n) 0) (sym target-slots) ∙ target-passes (lineOf s) n 0 (nodeAt (lineOf s) n .targets))
 
 -- ---- a list, its count and what stands behind it
 
