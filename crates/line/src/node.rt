@@ -16,10 +16,10 @@ ghost use Rattle.line.specs.Exact.{entryExact, heldExact, targetExact, s
 ghost use Rattle.line.specs.NodeCheck.{headExact, holdsNothing, nodePlain};
 ghost use Rattle.line.specs.Check.{Counted, PageOf, recordIn, entryIn, heldIn, targetIn};
 ghost use Rattle.line.specs.Ready.{Ready};
+use crate::Line;
 use crate::bytes;
 use crate::look;
 use crate::origin;
-use crate::Line;
 
 // A log entry: record, time, what it was made from and what that was made from, two bytes unused.
 fn entry_ok(s: &[u8], steps: u32, n: usize, at: usize) -> bool
@@ -110,20 +110,20 @@ fn held_one_ok(s: &[u8], steps: u32, n: usize, at: usize) -> bool
 }
 
 // The last time of each row, by sender: a plan has at most 12 nodes.
-fn row_last(last: [u32; 12], sender: usize) -> u32
-    ensures { λ r. ⌜ r ≡ getD last sender 0 ⌝ }
+fn row_last(last: &[u32; 12], sender: usize) -> u32
+    requires { ⌜ length (now last) ≡ 12 ⌝ }
+    ensures { λ r. ⌜ r ≡ getD (now (last .entry)) sender 0 ⌝ }
 {
     if sender < 12 { last[sender] } else { 0 }
 }
 
-fn row_after(last: [u32; 12], sender: usize, time: u32) -> [u32; 12]
-    ensures { λ r. ⌜ r ≡ set last sender time ⌝ }
+fn row_set(last: &mut [u32; 12], sender: usize, time: u32)
+    requires { ⌜ length (now last) ≡ 12 ⌝ }
+    ensures { λ _. ⌜ now (last .exit) ≡ set (now (last .entry)) sender time ⌝ }
 {
-    let mut after = last;
     if sender < 12 {
-        after[sender] = time;
+        last[sender] = time;
     }
-    after
 }
 
 // The held records, so many: the times of a row rise.
@@ -139,9 +139,9 @@ fn held_each_ok(s: &[u8], steps: u32, n: usize, at: usize, count: u32) -> bool
         let sender = look::index(s[slot + 8]);
         let time = bytes::get32(s, slot + 9);
         let one = held_one_ok(s, steps, n, slot);
-        let row = row_last(last, sender);
+        let row = row_last(&last, sender);
         ok = ok & (one & (row < time));
-        last = row_after(last, sender, time);
+        row_set(&mut last, sender, time);
         slot += 20;
         left -= 1;
     }

@@ -38,7 +38,15 @@ pub fn before_ok(s: &[u8], steps: u32, sender: usize, b: usize, from: usize, tim
 }
 
 // What node n made something from, a sender and its time, and what that was made from.
-pub fn made_ok(s: &[u8], steps: u32, n: usize, sender: usize, time: u32, earlier: usize, since: u32) -> bool
+pub fn made_ok(
+    s: &[u8],
+    steps: u32,
+    n: usize,
+    sender: usize,
+    time: u32,
+    earlier: usize,
+    since: u32,
+) -> bool
     requires { ⌜ Counted (now s) steps ⌝ }
     ensures { λ r. ⌜ r ≡ originRight (lineOf (now (s .entry))) n (made sender time) (originFrom earlier since) ⌝ }
 {
@@ -51,7 +59,15 @@ pub fn made_ok(s: &[u8], steps: u32, n: usize, sender: usize, time: u32, earlier
     ((0 < time) & (time <= steps)) & ((time <= taken) & rest)
 }
 
-pub fn origin_ok(s: &[u8], steps: u32, n: usize, from: usize, time: u32, earlier: usize, since: u32) -> bool
+pub fn origin_ok(
+    s: &[u8],
+    steps: u32,
+    n: usize,
+    from: usize,
+    time: u32,
+    earlier: usize,
+    since: u32,
+) -> bool
     requires { ⌜ Counted (now s) steps ⌝ }
     ensures { λ r. ⌜ r ≡ originRight (lineOf (now (s .entry))) n (originFrom from time) (originFrom earlier since) ⌝ }
 {

@@ -50,9 +50,9 @@ loop-again c =
       there = omega (arith, t .inv .there);
       fits = t .inv .fits;
       same =
-        t .inv .same
-        ∙ ap (λ (k : ℕ). t .ok && logPass (a .s .now) (a .n) (t .last) (t .slot) k) (sym more)
-        ∙ entries-more (a .s .now) (a .steps) (a .n) (a .at) page (t .ok) (c .entry-ok .result) (t .last) (t .slot) (t .left - 1) (c .before .get322 .result) (c .before .before .before .before .get32 .result) (c .before .get322 .ensures) (time-in (a .s .now) (a .steps) (a .n) (a .at) page (c .before .before .before .before .get32 .result) (c .before .before .before .before .get32 .ensures)) (c .entry-ok .ensures);
+          t .inv .same
+          ∙ ap (λ (k : ℕ). t .ok && logPass (a .s .now) (a .n) (t .last) (t .slot) k) (sym more)
+          ∙ entries-more (a .s .now) (a .steps) (a .n) (a .at) page (t .ok) (c .entry-ok .result) (t .last) (t .slot) (t .left - 1) (c .before .get322 .result) (c .before .before .before .before .get32 .result) (c .before .get322 .ensures) (time-in (a .s .now) (a .steps) (a .n) (a .at) page (c .before .before .before .before .get32 .result) (c .before .before .before .before .get32 .ensures)) (c .entry-ok .ensures);
     }
 
 returns : tie.Need-returns Inv-loop μ-loop

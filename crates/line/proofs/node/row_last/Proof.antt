@@ -6,7 +6,7 @@ use Rattle.line.proofs.node.row_last.Statement.{statement}
 use Rattle.line.proofs.node.row_last.Tie as tie
 
 returns-2 : tie.Need-returns-2
-returns-2 c = let a = c .before .args in sym (List·getD-eq-default (a .t1) 0 (omega arith))
+returns-2 c = let a = c .before .args in sym (List·getD-eq-default (a .last .now) 0 (omega (arith, c .before .pre)))
 
 pub row-last-spec : {M : Type 1} → statement M
 row-last-spec =

@@ -1,89 +1,42 @@
+use Prim.Native.Nat.{_+_}
+use native.Mathlib.Omega.{arith}
 use borrow.Author.Needs.{needs}
+use mathlib.Core.Path.{refl}
+use lib.ListN.{getD}
+use Rattle.line.proofs.NodeLaws.{page-room, status-tested}
 use Rattle.line.proofs.node.status_ok.Statement.{statement}
 use Rattle.line.proofs.node.status_ok.Tie as tie
-use Rattle.line.proofs.node.status_ok.Reads as reads
-use Rattle.line.proofs.node.status_ok.Lts as lts
-use Rattle.line.proofs.bytes.get32.Reads as get32-reads
-use Rattle.line.proofs.look.is_sink.Reads as is-sink-reads
-use Rattle.line.proofs.look.is_source.Reads as is-source-reads
-use Rattle.line.proofs.node.holds_nothing.Reads as holds-nothing-reads
 
--- src/node.rt:237:18
-shared-slice-read-status : tie.Need-shared-slice-read-status
-shared-slice-read-status c = search needs
-
--- src/node.rt:238:21
-add-crashed : tie.Need-add-crashed
-add-crashed c = search needs
-
--- src/node.rt:238:19
-shared-slice-read-crashed : tie.Need-shared-slice-read-crashed
-shared-slice-read-crashed c = search needs
-
--- src/node.rt:239:32
-add-get32 : tie.Need-add-get32
-add-get32 c = search needs
-
--- src/node.rt:239:9
-get32-requires : tie.Need-get32-requires
-get32-requires c κs = search needs
-
--- src/node.rt:240:31
-add-get32-2 : tie.Need-add-get32-2
-add-get32-2 c = search needs
-
--- src/node.rt:240:9
-get32-requires-2 : tie.Need-get32-requires-2
-get32-requires-2 c κs = search needs
-
--- src/node.rt:241:32
-add-get32-3 : tie.Need-add-get32-3
-add-get32-3 c = search needs
-
--- src/node.rt:241:9
-get32-requires-3 : tie.Need-get32-requires-3
-get32-requires-3 c κs = search needs
-
--- src/node.rt:242:35
-add-get32-4 : tie.Need-add-get32-4
-add-get32-4 c = search needs
-
--- src/node.rt:242:9
-get32-requires-4 : tie.Need-get32-requires-4
-get32-requires-4 c κs = search needs
-
--- src/node.rt:243:9
-is-source-requires : tie.Need-is-source-requires
-is-source-requires c κs = search needs
-
--- src/node.rt:244:9
-is-sink-requires : tie.Need-is-sink-requires
-is-sink-requires c κs = search needs
-
--- src/node.rt:245:9
-holds-nothing-requires : tie.Need-holds-nothing-requires
-holds-nothing-requires c κs = search needs
-
--- src/node.rt:233:1
 returns : tie.Need-returns
-returns c = ?
+returns c =
+    let sink = c .before in
+    let source = sink .before in
+    let targets = source .before in
+    let held = targets .before in
+    let log = held .before in
+    let time = log .before in
+    let start = time .before .before .before .before in
+    let a = start .args in
+    let s = a .s .now in
+    status-tested s (a .steps) (a .n) (a .at) (start .pre) (getD s (a .at) 0) (getD s (a .at + 1) 0) (time .get32 .result) (log .get322 .result) (held .get323 .result) (targets .get324 .result) (source .is-source .result) (sink .is-sink .result) (c .holds-nothing .result)
+    refl refl (time .get32 .ensures) (log .get322 .ensures) (held .get323 .ensures) (targets .get324 .ensures) (source .is-source .ensures) (sink .is-sink .ensures) (c .holds-nothing .ensures)
 
 pub status-ok-spec : {M : Type 1} → statement M
 status-ok-spec =
     tie.close
     (tie.spec
-    shared-slice-read-status
-    add-crashed
-    shared-slice-read-crashed
-    add-get32
-    get32-requires
-    add-get32-2
-    get32-requires-2
-    add-get32-3
-    get32-requires-3
-    add-get32-4
-    get32-requires-4
-    is-source-requires
-    is-sink-requires
-    holds-nothing-requires
+    (λ c. search needs)
+    (λ c. search needs)
+    (λ c. search needs)
+    (λ c. search needs)
+    (λ c κs. search needs)
+    (λ c. search needs)
+    (λ c κs. search needs)
+    (λ c. search needs)
+    (λ c κs. search needs)
+    (λ c. search needs)
+    (λ c κs. search needs)
+    (λ c κs. search needs)
+    (λ c κs. search needs)
+    (λ c κs. search needs)
     returns)
