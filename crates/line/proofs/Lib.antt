@@ -12,3 +12,6 @@ pub mod OriginLaws
 pub mod MessageLaws
 pub mod QueueLaws
 pub mod BlockCheck
+pub mod SlotLaws
+pub mod PieceBytes
+pub mod NodeLaws

@@ -5,8 +5,9 @@ use mathlib.Core.Bool.{Bool, true, false, not, _&&_, and-true, and-false, and-co
 use mathlib.Core.List.{List, [], _∷_}
 use mathlib.Core.Option.{Option, none, some}
 use native.Mathlib.Omega.{arith}
-use borrow.Author.Tests.{lt-ltb}
-use lib.Dec.{leb, ltb, eqb, eqb·suc-zero}
+use borrow.Author.Tests.{lt-ltb, le-ltb}
+use lib.Seq.{take-take}
+use lib.Dec.{lit≤, leb, ltb, eqb, eqb·suc-zero}
 use lib.ListN.{length, getD, take, drop, length-map}
 use Rattle.plan.specs.Lawful.{Bytes}
 use Rattle.plan.specs.Layout.{spelled}
@@ -39,15 +40,15 @@ use Rattle.line.specs.Check.{Counted, recordIn}
 word-small : (w a : ℕ) (s : List ℕ) → Bytes s → a + w ≤ length s → spelled 0 (take w (drop a s)) < 256 ^ w
 word-small w a s h l = rw (part-long a w s l) at (spelled-below (take w (drop a s)) (part-bytes a w s h))
 
-pub record-in : (a : ℕ) (s : List ℕ) → recordIn a s ≡ record { piece = wordAt (a + 0) s; material = getD s (a + 4) 0; mass = spelled 0 (take 2 (drop (a + 6) s)) }
+pub record-in : (a : ℕ) (s : List ℕ) → recordIn a s ≡ record { piece = wordAt a s; material = getD s (a + 4) 0; mass = spelled 0 (take 2 (drop (a + 6) s)) }
 record-in a s =
     record-read (take 8 (drop a s))
-    ∙ (λ i. record { piece = spelled 0 (part-part 4 0 8 a s (omega arith) i); material = byte-part 4 8 a s (omega arith) i; mass = spelled 0 (part-part 2 6 8 a s (omega arith) i) })
+    ∙ (λ i. record { piece = spelled 0 (take-take 4 8 (drop a s) (lit≤ tt) i); material = byte-part 4 8 a s (omega arith) i; mass = spelled 0 (part-part 2 6 8 a s (omega arith) i) })
 
 record-right : (a : ℕ) (s : List ℕ) → Bytes s → a + 8 ≤ length s → recordRight (recordIn a s) ≡ leb (getD s (a + 4) 0) 15
 record-right a s h l =
     ap recordRight (record-in a s)
-    ∙ rw (lt-ltb (wordAt (a + 0) s) 4294967296 (word-small 4 (a + 0) s h (omega arith)), lt-ltb (spelled 0 (take 2 (drop (a + 6) s))) 65536 (word-small 2 (a + 6) s h (omega arith)), and-true, and-true)
+    ∙ rw (lt-ltb (wordAt a s) 4294967296 (word-small 4 a s h (omega arith)), lt-ltb (spelled 0 (take 2 (drop (a + 6) s))) 65536 (word-small 2 (a + 6) s h (omega arith)), and-true, and-true)
 
 pub record-tested : (a : ℕ) (s : List ℕ) → Bytes s → a + 8 ≤ length s → (eqb (getD s (a + 5) 0) 0 && leb (getD s (a + 4) 0) 15) ≡ (recordExact a s && recordRight (recordIn a s))
 record-tested a s h l = ap (λ (t : Bool). recordExact a s && t) (sym (record-right a s h l))
@@ -61,6 +62,10 @@ some-found d r (some b) e h = ap some (sym e)
 none-found : (d r : ℕ) (o : Option ℕ) → r ≡ numberOr d o → ((b : ℕ) → o ≡ some b → b < d) → d ≤ r → o ≡ none
 none-found d r none e below h = refl
 none-found d r (some b) e below h = let no : ⊥ = omega (arith, below b refl) in absurd no
+
+found-test : (d r : ℕ) (o : Option ℕ) → r ≡ numberOr d o → ((b : ℕ) → o ≡ some b → b < d) → ltb r d ≡ ifFound o (λ (b : ℕ). true)
+found-test d r none e below = le-ltb r d (omega arith)
+found-test d r (some b) e below = lt-ltb r d (omega (arith, below b refl))
 
 place-below : (p : Plan) (q k i : ℕ) (bs : List ℕ) → placeFrom p q k bs ≡ some i → i < k + length bs
 place-below p q k i [] e = none-some e
@@ -137,6 +142,9 @@ module _ (s : List ℕ) (steps : ℕ) (count : Counted s steps) where
 
       channel-below : (b : ℕ) → fromSender p q (entering p n) ≡ some b → b < planChannels s
       channel-below b f = rw channel-count at (entering-in p n b (found-in p q (entering p n) b f .0) .0)
+
+      pub parent-found : ltb r (planChannels s) ≡ ifFound (fromSender (l .plan) q (entering (l .plan) n)) (λ (b : ℕ). true)
+      parent-found = rw (line-plan s) (found-test (planChannels s) r (fromSender p q (entering p n)) e channel-below)
 
       pub made-missing : planChannels s ≤ r → originRight l n (made q t) o ≡ false
       made-missing k = made-is ∙ rw (none-found (planChannels s) r (fromSender p q (entering p n)) e channel-below k, and-false)

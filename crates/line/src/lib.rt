@@ -6,6 +6,7 @@ mod bytes;
 mod check;
 mod channel;
 mod look;
+mod node;
 mod origin;
 
 // The line's own limits (document 01, "The limits belong to the line itself").
