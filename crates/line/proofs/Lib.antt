@@ -7,3 +7,4 @@ pub mod OriginLaws
 pub mod SlotLaws
 pub mod PieceBytes
 pub mod NodeLaws
+pub mod TableLaws

@@ -67,7 +67,7 @@ found-test : (d r : ℕ) (o : Option ℕ) → r ≡ numberOr d o → ((b : ℕ) 
 found-test d r none e below = le-ltb r d (omega arith)
 found-test d r (some b) e below = lt-ltb r d (omega (arith, below b refl))
 
-place-below : (p : Plan) (q k i : ℕ) (bs : List ℕ) → placeFrom p q k bs ≡ some i → i < k + length bs
+pub place-below : (p : Plan) (q k i : ℕ) (bs : List ℕ) → placeFrom p q k bs ≡ some i → i < k + length bs
 place-below p q k i [] e = none-some e
 place-below p q k i (b ∷ bs) e = one (eqb (channelAt p b .sender) q) (λ f. place-below p q (suc k) i bs f) e
   where

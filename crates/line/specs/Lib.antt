@@ -6,3 +6,4 @@ pub mod Ready
 pub mod Look
 pub mod Check
 pub mod NodeCheck
+pub mod Table
