@@ -208,7 +208,7 @@ module _ (s : List ℕ) (ready : Ready s) where
       pub place-missing : code ≡ 255 → 4 ≡ numberOr 4 (placeFrom p q 0 (entering p n))
       place-missing h =
           let unfound : ifFound (placeFrom p q 0 (entering p n)) (λ (b : ℕ). true) ≡ false =
-              sym (sender-placed p q 0 (entering p n)) ∙ sender-found p q (entering p n) ∙ ap (λ (o : Option ℕ). ifFound o (λ (b : ℕ). true)) (code-none h (fromSender p q (entering p n)) refl) in
+          sym (sender-placed p q 0 (entering p n)) ∙ sender-found p q (entering p n) ∙ ap (λ (o : Option ℕ). ifFound o (λ (b : ℕ). true)) (code-none h (fromSender p q (entering p n)) refl) in
           sym (ap (numberOr 4) (none-placed (placeFrom p q 0 (entering p n)) refl unfound))
 
       pub place-coded : (code ≡ 255 → ⊥) → code / 32 ≡ numberOr 4 (placeFrom p q 0 (entering p n))

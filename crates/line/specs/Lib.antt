@@ -4,6 +4,6 @@ pub mod Load
 pub mod Exact
 pub mod Ready
 pub mod Look
+pub mod Table
 pub mod Check
 pub mod NodeCheck
-pub mod Table
