@@ -15,3 +15,4 @@ pub mod BlockCheck
 pub mod SlotLaws
 pub mod PieceBytes
 pub mod NodeLaws
+pub mod TableLaws

@@ -30,30 +30,31 @@ module _ (p : Plan) (f : Channel → Bool) (b : ℕ) where
 
 -- ---- the channel between two nodes
 
-module _ (p : Plan) (q n d : ℕ) where
+-- What is made of the channel found.
+module _ (p : Plan) (q n : ℕ) (g : Option ℕ → ℕ) where
   abbrev to : Channel → Bool
   to c = eqb (c .receiver) n
 
   abbrev pub foundOn : ℕ → ℕ
-  foundOn b = numberOr d (fromSender p q (numbersOn p (λ (c : Channel). eqb (c .receiver) n) b))
+  foundOn b = g (fromSender p q (numbersOn p (λ (c : Channel). eqb (c .receiver) n) b))
 
-  pub found-whole : numberOr d (fromSender p q (entering p n)) ≡ foundOn 0
+  pub found-whole : g (fromSender p q (entering p n)) ≡ foundOn 0
   unfolding entering
   found-whole = refl
 
-  found-kept : (t : Bool) (b : ℕ) (bs : List ℕ) → numberOr d (fromSender p q (keepIf t b bs)) ≡ cond (eqb (channelAt p b .sender) q && t) b (numberOr d (fromSender p q bs))
+  found-kept : (t : Bool) (b : ℕ) (bs : List ℕ) → g (fromSender p q (keepIf t b bs)) ≡ cond (eqb (channelAt p b .sender) q && t) (g (some b)) (g (fromSender p q bs))
   found-kept true b bs = one (eqb (channelAt p b .sender) q)
     where
-      one : (t : Bool) → numberOr d (elim t [ true ↦ some b | false ↦ fromSender p q bs ]) ≡ cond (t && true) b (numberOr d (fromSender p q bs))
+      one : (t : Bool) → g (elim t [ true ↦ some b | false ↦ fromSender p q bs ]) ≡ cond (t && true) (g (some b)) (g (fromSender p q bs))
       one true = refl
       one false = refl
   found-kept false b bs = rw (and-false (eqb (channelAt p b .sender) q))
 
-  pub found-turn : (b : ℕ) → b < channelCount p → foundOn b ≡ cond (eqb (channelAt p b .sender) q && eqb (channelAt p b .receiver) n) b (foundOn (suc b))
-  found-turn b h = ap (λ (bs : List ℕ). numberOr d (fromSender p q bs)) (numbers-turn p to b h) ∙ found-kept (to (channelAt p b)) b (numbersOn p to (suc b))
+  pub found-turn : (b : ℕ) → b < channelCount p → foundOn b ≡ cond (eqb (channelAt p b .sender) q && eqb (channelAt p b .receiver) n) (g (some b)) (foundOn (suc b))
+  found-turn b h = ap (λ (bs : List ℕ). g (fromSender p q bs)) (numbers-turn p to b h) ∙ found-kept (to (channelAt p b)) b (numbersOn p to (suc b))
 
-  pub found-end : (b : ℕ) → channelCount p ≤ b → foundOn b ≡ d
-  found-end b h = ap (λ (bs : List ℕ). numberOr d (fromSender p q bs)) (numbers-end p to b h)
+  pub found-end : (b : ℕ) → channelCount p ≤ b → foundOn b ≡ g none
+  found-end b h = ap (λ (bs : List ℕ). g (fromSender p q bs)) (numbers-end p to b h)
 
 -- ---- the place of a sender
 
@@ -143,17 +144,17 @@ module _ (s : List ℕ) (b : ℕ) (h : b < planChannels s) where
 
 module _ (s : List ℕ) (q n : ℕ) where
   abbrev pub foundFrom : ℕ → ℕ
-  foundFrom b = foundOn (planOf s) q n (planChannels s) b
+  foundFrom b = foundOn (planOf s) q n (numberOr (planChannels s)) b
 
   pub found-last : foundFrom (planChannels s) ≡ planChannels s
-  found-last = found-end (planOf s) q n (planChannels s) (planChannels s) (rw channel-count (omega arith))
+  found-last = found-end (planOf s) q n (numberOr (planChannels s)) (planChannels s) (rw channel-count (omega arith))
 
   pub found-back : (at b found from to : ℕ) → b < planChannels s → at ≡ channelFrom s b → from ≡ getD s at 0 → to ≡ getD s (at + 1) 0 → found ≡ foundFrom (suc b)
       → cond (eqb from q && eqb to n) b found ≡ foundFrom b
   found-back at b found from to h place e f rest =
       let sender : from ≡ channelAt (planOf s) b .sender = e ∙ rw place (sender-byte s b h) in
       let receiver : to ≡ channelAt (planOf s) b .receiver = f ∙ rw place (receiver-byte s b h) in
-      rw (sender, receiver, rest) (sym (found-turn (planOf s) q n (planChannels s) b (rw channel-count h)))
+      rw (sender, receiver, rest) (sym (found-turn (planOf s) q n (numberOr (planChannels s)) b (rw channel-count h)))
 
   pub place-here-at : (at b k from to : ℕ) → b < planChannels s → at ≡ channelFrom s b → from ≡ getD s at 0 → to ≡ getD s (at + 1) 0 → (eqb from q && eqb to n) ≡ true → placeOn (planOf s) q n k b ≡ some k
   place-here-at at b k from to h place e f t =

@@ -24,14 +24,15 @@ use Rattle.items.specs.Items.{timesRise, entryRight, logRight, heldRise, noneHe
 use Rattle.line.specs.Exact.{zeroAt, entryExact, heldExact, targetExact, slotsExact, listExact, pageExact}
 use Rattle.line.specs.NodeCheck.{headExact, holdsNothing, nodePlain}
 use Rattle.line.specs.Ready.{Ready}
+use Rattle.line.specs.Table.{Table}
 use Rattle.line.specs.Check.{Counted, PageOf, recordIn, entryIn, heldIn, targetIn}
 use Rattle.line.proofs.SlotLaws.{swap-middle, slotsIn, passes, length-slots, slots-at, slotsPass, slots-pass, pass-more}
 use Rattle.line.proofs.PieceBytes.{entry-in, held-in, target-in, two-zero}
 
-pub few-of : {s : List ℕ} {steps : ℕ} → Counted s steps → Few s
+pub few-of : {s table : List ℕ} {steps : ℕ} → Counted s table steps → Few s
 few-of h = record { nodes = h .ready .nodes; channels = h .ready .channels }
 
-pub page-room : {s : List ℕ} {steps n at : ℕ} → PageOf s steps n at → at + 4096 ≤ length s
+pub page-room : {s table : List ℕ} {steps n at : ℕ} → PageOf s table steps n at → at + 4096 ≤ length s
 page-room page = omega (arith, page .counted .ready .long, page .counted .ready .nodes, page .within, page .start)
 
 -- A pass over the slots of a list: those left, and that what is asked of all is what was found so far and what is left.
@@ -70,7 +71,7 @@ module _ (l : Line) (n top : ℕ) where
 abbrev pub logPass : List ℕ → ℕ → ℕ → ℕ → ℕ → Bool
 logPass s n last a k = slotsPass entryIn entrySize s entryExact (entryPasses (lineOf s) n (nodeAt (lineOf s) n .time)) (entryNext (lineOf s) n (nodeAt (lineOf s) n .time)) last a k
 
-module _ (s : List ℕ) (steps n at : ℕ) (page : PageOf s steps n at) where
+module _ (s table : List ℕ) (steps n at : ℕ) (page : PageOf s table steps n at) where
   abbrev pub lineIn : Line
   lineIn = lineOf s
 
@@ -125,7 +126,7 @@ module _ (l : Line) (n : ℕ) where
 abbrev pub heldPass : List ℕ → ℕ → List ℕ → ℕ → ℕ → Bool
 heldPass s n last a k = slotsPass heldIn heldSize s heldExact (heldPasses (lineOf s) n) (heldNext (lineOf s) n) last a k
 
-module _ (s : List ℕ) (steps n at : ℕ) (page : PageOf s steps n at) where
+module _ (s table : List ℕ) (steps n at : ℕ) (page : PageOf s table steps n at) where
   -- One held record more.
   pub held-more : (ok one : Bool) (last after : List ℕ) (a k sender time row : ℕ) → sender ≡ getD s (a + 8) 0 → time ≡ wordAt (a + 9) s → row ≡ getD last sender 0 → after ≡ set last sender time
       → one ≡ (heldExact a s && heldRight (lineOf s) n (heldIn a s)) → (ok && heldPass s n last a (suc k)) ≡ ((ok && (one && ltb row time)) && heldPass s n after (a + heldSize) k)
@@ -170,7 +171,7 @@ module _ (l : Line) (n : ℕ) where
 abbrev pub targetPass : List ℕ → ℕ → ℕ → ℕ → Bool
 targetPass s n a k = slotsPass targetIn targetSize s targetExact (targetPasses (lineOf s) n) (targetNext (lineOf s) n) 0 a k
 
-module _ (s : List ℕ) (steps n at : ℕ) (page : PageOf s steps n at) where
+module _ (s table : List ℕ) (steps n at : ℕ) (page : PageOf s table steps n at) where
   -- One target more.
   pub target-more : (ok one : Bool) (a k : ℕ) → one ≡ (targetExact a s && targetRight (lineOf s) n (targetIn a s)) → (ok && targetPass s n a (suc k)) ≡ ((ok && one) && targetPass s n (a + targetSize) k)
   target-more ok one a k g = pass-more targetIn targetSize s targetExact (targetPasses (lineOf s) n) (targetNext (lineOf s) n) ok 0 a k ∙ rw g refl
@@ -239,7 +240,7 @@ nothing-replay zero time log held targets a b = absurd (a refl)
 nothing-replay (suc zero) time log held targets a b = absurd (b refl)
 nothing-replay (suc (suc n)) time log held targets a b = refl
 
-module _ (s : List ℕ) (steps n at : ℕ) (page : PageOf s steps n at) where
+module _ (s table : List ℕ) (steps n at : ℕ) (page : PageOf s table steps n at) where
   abbrev x : Node
   x = nodeAt (lineOf s) n
 
@@ -251,7 +252,7 @@ module _ (s : List ℕ) (steps n at : ℕ) (page : PageOf s steps n at) where
 
   pub head-tested : (time : ℕ) → time ≡ wordAt (at + timeAt) s → (leb (getD s at 0) 2 && leb (getD s (at + 1) 0) 1 && (eqb (getD s (at + 2) 0) 0 && eqb (getD s (at + 3) 0) 0) && leb time steps) ≡ (headExact (pageAt n) s && leb (x .time) (lineOf s .steps))
   head-tested time e =
-      let same : time ≡ x .time = time-in s steps n at page time e in
+      let same : time ≡ x .time = time-in s table steps n at page time e in
       let next : at + 3 ≡ at + 2 + 1 = omega arith in
       rw (next, ← two-zero (at + 2) s (omega (arith, page-room page)), ← same, ← page .counted .same, ← page .start, add-zero) refl
 
@@ -263,7 +264,7 @@ module _ (s : List ℕ) (steps n at : ℕ) (page : PageOf s steps n at) where
   status-tested status mark time log held targets source sink nothing a b c d e f g h i =
       let is : x .status ≡ statusOf status = line-status s few n (page .within) ∙ ap statusOf (rw (page .start, ← add-zero (pageAt n)) at (sym a)) in
       let marked : x .crashed ≡ not (eqb mark 0) = line-crashed s few n (page .within) ∙ ap crashOf (rw (page .start) at (sym b)) ∙ sym (crash-mark mark) in
-      let empty = holds-not x status time log held targets (time-in s steps n at page time c) (empty-count (x .log) log (line-log-count s few n (page .within) ∙ rw (at-page logAt log d) refl)) (empty-count (x .held) held (line-held-count s few n (page .within) ∙ rw (at-page heldAt held e) refl)) (empty-count (x .targets) targets (line-targets-count s few n (page .within) ∙ rw (at-page targetsAt targets f) refl)) in
+      let empty = holds-not x status time log held targets (time-in s table steps n at page time c) (empty-count (x .log) log (line-log-count s few n (page .within) ∙ rw (at-page logAt log d) refl)) (empty-count (x .held) held (line-held-count s few n (page .within) ∙ rw (at-page heldAt held e) refl)) (empty-count (x .targets) targets (line-targets-count s few n (page .within) ∙ rw (at-page targetsAt targets f) refl)) in
       rw (is, marked, line-plan s, i, empty, g, h, not-missing status (not (eqb mark 0))) refl
 
   counts-right : countsRight x ≡ true
@@ -305,9 +306,9 @@ module _ (s : List ℕ) (steps n at : ℕ) (page : PageOf s steps n at) where
       ∙ swap-middle (E && L && H && T) (time && lr && hr && tr) R sr)
 
 -- What the check of a node is asked with.
-pub page-of : (s : List ℕ) (steps n at : ℕ) → Ready s → n < planNodes s → steps ≡ wordAt stepsAt s → at ≡ pageAt n → PageOf s steps n at
-page-of s steps n at ready within e start =
-    record { counted = record { ready = ready; same = e ∙ sym (line-steps s (record { nodes = ready .nodes; channels = ready .channels })) }; within = within; start = start }
+pub page-of : (s table : List ℕ) (steps n at : ℕ) → Ready s → Table s table → n < planNodes s → steps ≡ wordAt stepsAt s → at ≡ pageAt n → PageOf s table steps n at
+page-of s table steps n at ready tabled within e start =
+    record { counted = record { ready = ready; tabled = tabled; same = e ∙ sym (line-steps s (record { nodes = ready .nodes; channels = ready .channels })) }; within = within; start = start }
 
 -- A right node is one that is right but for what a replay asks, and what a replay asks.
 pub node-plain : (l : Line) (n : ℕ) → nodeRight l n ≡ (nodePlain l n && (not (replaying l n) || replayRight l n))

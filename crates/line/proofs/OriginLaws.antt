@@ -67,7 +67,7 @@ found-test : (d r : ℕ) (o : Option ℕ) → r ≡ numberOr d o → ((b : ℕ) 
 found-test d r none e below = le-ltb r d (omega arith)
 found-test d r (some b) e below = lt-ltb r d (omega (arith, below b refl))
 
-place-below : (p : Plan) (q k i : ℕ) (bs : List ℕ) → placeFrom p q k bs ≡ some i → i < k + length bs
+pub place-below : (p : Plan) (q k i : ℕ) (bs : List ℕ) → placeFrom p q k bs ≡ some i → i < k + length bs
 place-below p q k i [] e = none-some e
 place-below p q k i (b ∷ bs) e = one (eqb (channelAt p b .sender) q) (λ f. place-below p q (suc k) i bs f) e
   where
@@ -88,7 +88,7 @@ pub origin-fed : (q t : ℕ) → isFed (originFrom q t) ≡ eqb q 0
 origin-fed zero t = refl
 origin-fed (suc q) t = sym (eqb·suc-zero q)
 
-module _ (s : List ℕ) (steps : ℕ) (count : Counted s steps) where
+module _ (s table : List ℕ) (steps : ℕ) (count : Counted s table steps) where
   abbrev l : Line
   l = lineOf s
 
@@ -135,7 +135,7 @@ module _ (s : List ℕ) (steps : ℕ) (count : Counted s steps) where
     unfolding originRight
     origin-at-source o = rw line-plan
 
-    module _ (q t : ℕ) (o : Origin) (r : ℕ) (e : r ≡ numberOr (planChannels s) (fromSender p q (entering p n))) where
+    module _ (q t : ℕ) (o : Origin) (r : ℕ) (e : r ≡ numberOr 24 (fromSender p q (entering p n))) where
       made-is : originRight l n (made q t) o ≡ (timeRight steps t && ifFound (fromSender p q (entering p n)) (λ (b : ℕ). leb t (laneAt l b .taken) && beforeRight l q b o))
       unfolding originRight
       made-is = rw (line-plan s, ← count .same)
@@ -143,14 +143,23 @@ module _ (s : List ℕ) (steps : ℕ) (count : Counted s steps) where
       channel-below : (b : ℕ) → fromSender p q (entering p n) ≡ some b → b < planChannels s
       channel-below b f = rw channel-count at (entering-in p n b (found-in p q (entering p n) b f .0) .0)
 
-      pub parent-found : ltb r (planChannels s) ≡ ifFound (fromSender (l .plan) q (entering (l .plan) n)) (λ (b : ℕ). true)
-      parent-found = rw (line-plan s) (found-test (planChannels s) r (fromSender p q (entering p n)) e channel-below)
+      channel-small : (b : ℕ) → fromSender p q (entering p n) ≡ some b → b < 24
+      channel-small b f = omega (arith, channel-below b f, count .ready .channels)
 
-      pub made-missing : planChannels s ≤ r → originRight l n (made q t) o ≡ false
-      made-missing k = made-is ∙ rw (none-found (planChannels s) r (fromSender p q (entering p n)) e channel-below k, and-false)
+      found : r < 24 → fromSender p q (entering p n) ≡ some r
+      found k = some-found 24 r (fromSender p q (entering p n)) e k
 
-      pub made-sender : r < planChannels s → channelAt p r .sender ≡ q
-      made-sender k = found-in p q (entering p n) r (some-found (planChannels s) r (fromSender p q (entering p n)) e k) .1
+      pub parent-found : ltb r 24 ≡ ifFound (fromSender (l .plan) q (entering (l .plan) n)) (λ (b : ℕ). true)
+      parent-found = rw (line-plan s) (found-test 24 r (fromSender p q (entering p n)) e channel-small)
 
-      pub made-there : r < planChannels s → originRight l n (made q t) o ≡ (timeRight steps t && (leb t (wordAt (blockAt r + takenAt) s) && beforeRight l q r o))
-      made-there k = made-is ∙ rw (some-found (planChannels s) r (fromSender p q (entering p n)) e k) (ap (λ (v : ℕ). timeRight steps t && (leb t v && beforeRight l q r o)) (line-taken s few r k))
+      pub made-missing : 24 ≤ r → originRight l n (made q t) o ≡ false
+      made-missing k = made-is ∙ rw (none-found 24 r (fromSender p q (entering p n)) e channel-small k, and-false)
+
+      pub made-below : r < 24 → r < planChannels s
+      made-below k = channel-below r (found k)
+
+      pub made-sender : r < 24 → channelAt p r .sender ≡ q
+      made-sender k = found-in p q (entering p n) r (found k) .1
+
+      pub made-there : r < 24 → originRight l n (made q t) o ≡ (timeRight steps t && (leb t (wordAt (blockAt r + takenAt) s) && beforeRight l q r o))
+      made-there k = made-is ∙ rw (found k) (ap (λ (v : ℕ). timeRight steps t && (leb t v && beforeRight l q r o)) (line-taken s few r (made-below k)))

@@ -11,10 +11,12 @@ use Rattle.state.specs.Sizes.{pageAt, entrySize, heldSize, targetSize}
 use Rattle.state.specs.Pieces.{entryLayout, heldLayout, targetLayout}
 use Rattle.state.specs.State.{lineOf}
 use Rattle.line.specs.Ready.{Ready}
+use Rattle.line.specs.Table.{Table}
 
--- A state that is ready, and its accepted steps.
-pub record Counted (s : List ℕ) (steps : ℕ) : Type 0 where
+-- A state that is ready, the table of its plan, and its accepted steps.
+pub record Counted (s table : List ℕ) (steps : ℕ) : Type 0 where
   pub ready : Ready s
+  pub tabled : Table s table
   pub same : steps ≡ lineOf s .steps
 
 abbrev pub recordIn : ℕ → List ℕ → Record
@@ -30,7 +32,7 @@ abbrev pub targetIn : ℕ → List ℕ → Target
 targetIn a s = targetLayout .read (take targetSize (drop a s))
 
 -- A node of it, and where its page starts.
-pub record PageOf (s : List ℕ) (steps n at : ℕ) : Type 0 where
-  pub counted : Counted s steps
+pub record PageOf (s table : List ℕ) (steps n at : ℕ) : Type 0 where
+  pub counted : Counted s table steps
   pub within : n < planNodes s
   pub start : at ≡ pageAt n

@@ -7,4 +7,5 @@ pub mod NodeCheck
 pub mod Whole
 pub mod Channel
 pub mod Look
+pub mod Table
 pub mod Check

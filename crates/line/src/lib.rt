@@ -8,6 +8,7 @@ mod channel;
 mod look;
 mod node;
 mod origin;
+mod table;
 
 // The line's own limits (document 01, "The limits belong to the line itself").
 pub struct Line {

@@ -28,7 +28,7 @@ pub fn channel_count(s: &[u8]) -> usize
     index(s[4])
 }
 
-fn channels_at(s: &[u8]) -> usize
+pub fn channels_at(s: &[u8]) -> usize
     requires { ⌜ Ready (now s) ⌝ }
     ensures { λ r. ⌜ (r ≡ channelFrom (now (s .entry)) 0) × (r ≤ 53) ⌝ }
 {

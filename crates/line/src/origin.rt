@@ -11,7 +11,7 @@ ghost use Rattle.items.specs.Items.{recordRight, beforeRight, originRight};
 ghost use Rattle.line.specs.Exact.{recordExact};
 ghost use Rattle.line.specs.Check.{Counted, recordIn};
 use crate::bytes;
-use crate::look;
+use crate::table;
 
 // A record: its material and its zero byte.
 pub fn record_ok(s: &[u8], at: usize) -> bool
@@ -22,14 +22,22 @@ pub fn record_ok(s: &[u8], at: usize) -> bool
 }
 
 // What an input was made from that came on channel b from a sender.
-pub fn before_ok(s: &[u8], steps: u32, sender: usize, b: usize, from: usize, time: u32) -> bool
-    requires { ⌜ Counted (now s) steps × (b < planChannels (now s)) × (channelAt (planOf (now s)) b .sender ≡ sender) ⌝ }
+pub fn before_ok(
+    s: &[u8],
+    t: &[u8; 156],
+    steps: u32,
+    sender: usize,
+    b: usize,
+    from: usize,
+    time: u32,
+) -> bool
+    requires { ⌜ Counted (now s) (now t) steps × (b < planChannels (now s)) × (channelAt (planOf (now s)) b .sender ≡ sender) ⌝ }
     ensures { λ r. ⌜ r ≡ beforeRight (lineOf (now (s .entry))) sender b (originFrom from time) ⌝ }
 {
     if from == 0 {
-        return look::is_source(s, sender);
+        return table::source_in(s, t, sender);
     }
-    let place = look::place_among(s, from - 1, sender);
+    let place = table::place_in(s, t, from - 1, sender);
     if 4 <= place {
         return false;
     }
@@ -40,6 +48,7 @@ pub fn before_ok(s: &[u8], steps: u32, sender: usize, b: usize, from: usize, tim
 // What node n made something from, a sender and its time, and what that was made from.
 pub fn made_ok(
     s: &[u8],
+    t: &[u8; 156],
     steps: u32,
     n: usize,
     sender: usize,
@@ -47,20 +56,21 @@ pub fn made_ok(
     earlier: usize,
     since: u32,
 ) -> bool
-    requires { ⌜ Counted (now s) steps ⌝ }
+    requires { ⌜ Counted (now s) (now t) steps ⌝ }
     ensures { λ r. ⌜ r ≡ originRight (lineOf (now (s .entry))) n (made sender time) (originFrom earlier since) ⌝ }
 {
-    let b = look::channel_between(s, sender, n);
-    if look::channel_count(s) <= b {
+    let b = table::channel_in(s, t, sender, n);
+    if 24 <= b {
         return false;
     }
     let taken = bytes::get32(s, 53_248 + 320 * b + 4);
-    let rest = before_ok(s, steps, sender, b, earlier, since);
+    let rest = before_ok(s, t, steps, sender, b, earlier, since);
     ((0 < time) & (time <= steps)) & ((time <= taken) & rest)
 }
 
 pub fn origin_ok(
     s: &[u8],
+    t: &[u8; 156],
     steps: u32,
     n: usize,
     from: usize,
@@ -68,12 +78,12 @@ pub fn origin_ok(
     earlier: usize,
     since: u32,
 ) -> bool
-    requires { ⌜ Counted (now s) steps ⌝ }
+    requires { ⌜ Counted (now s) (now t) steps ⌝ }
     ensures { λ r. ⌜ r ≡ originRight (lineOf (now (s .entry))) n (originFrom from time) (originFrom earlier since) ⌝ }
 {
     if from == 0 {
-        let source = look::is_source(s, n);
+        let source = table::source_in(s, t, n);
         return source & (earlier == 0);
     }
-    made_ok(s, steps, n, from - 1, time, earlier, since)
+    made_ok(s, t, steps, n, from - 1, time, earlier, since)
 }

@@ -3,7 +3,7 @@ use mathlib.Core.Path.{_≡_, sym, ap, _∙_}
 use mathlib.Core.List.{List}
 use native.Mathlib.Omega.{arith}
 use Rattle.plan.specs.Plan.{planOf, planChannels}
-use Rattle.line.specs.Look.{channelFrom}
+use Rattle.line.specs.Look.{numberOr, channelFrom}
 use Rattle.line.proofs.LookLaws.{foundFrom, found-last, found-back, found-whole}
 use Rattle.line.proofs.look.channel_between.Statement.{statement}
 use Rattle.line.proofs.look.channel_between.Tie as tie
@@ -45,7 +45,7 @@ returns c =
     let a = c .before .before .before .before .before .args in
     let t = c .before .loop in
     let none : t .b ≡ 0 = omega arith in
-    t .inv .now ∙ ap (foundFrom (a .s .now) (a .sender) (a .receiver)) none ∙ sym (found-whole (planOf (a .s .now)) (a .sender) (a .receiver) (planChannels (a .s .now)))
+    t .inv .now ∙ ap (foundFrom (a .s .now) (a .sender) (a .receiver)) none ∙ sym (found-whole (planOf (a .s .now)) (a .sender) (a .receiver) (numberOr (planChannels (a .s .now))))
 
 pub channel-between-spec : {M : Type 1} → statement M
 channel-between-spec =

@@ -10,11 +10,11 @@ use Rattle.line.proofs.node.entries_ok.Statement.{statement}
 use Rattle.line.proofs.node.entries_ok.Tie as tie
 
 abbrev Inv-loop : tie.InvT-loop
-Inv-loop s steps n at count top ok₀ last₀ slot₀ left₀ ok last slot left =
+Inv-loop s t steps n at count top ok₀ last₀ slot₀ left₀ ok last slot left =
     Going (length s) entrySize (pageAt n + logAt + countSize) slot count left (logPass s n 0 (pageAt n + logAt + countSize) count) (ok && logPass s n last slot left)
 
 abbrev μ-loop : tie.MeasureT-loop
-μ-loop s steps n at count top ok₀ last₀ slot₀ left₀ ok last slot left = left
+μ-loop s t steps n at count top ok₀ last₀ slot₀ left₀ ok last slot left = left
 
 loop-holds : tie.Need-loop-holds Inv-loop μ-loop
 loop-holds c =
@@ -52,7 +52,7 @@ loop-again c =
       same =
           t .inv .same
           ∙ ap (λ (k : ℕ). t .ok && logPass (a .s .now) (a .n) (t .last) (t .slot) k) (sym more)
-          ∙ entries-more (a .s .now) (a .steps) (a .n) (a .at) page (t .ok) (c .entry-ok .result) (t .last) (t .slot) (t .left - 1) (c .before .get322 .result) (c .before .before .before .before .get32 .result) (c .before .get322 .ensures) (time-in (a .s .now) (a .steps) (a .n) (a .at) page (c .before .before .before .before .get32 .result) (c .before .before .before .before .get32 .ensures)) (c .entry-ok .ensures);
+          ∙ entries-more (a .s .now) (a .t .now) (a .steps) (a .n) (a .at) page (t .ok) (c .entry-ok .result) (t .last) (t .slot) (t .left - 1) (c .before .get322 .result) (c .before .before .before .before .get32 .result) (c .before .get322 .ensures) (time-in (a .s .now) (a .t .now) (a .steps) (a .n) (a .at) page (c .before .before .before .before .get32 .result) (c .before .before .before .before .get32 .ensures)) (c .entry-ok .ensures);
     }
 
 returns : tie.Need-returns Inv-loop μ-loop
@@ -64,7 +64,7 @@ returns c =
     sym (and-true (t .ok))
     ∙ ap (λ (k : ℕ). t .ok && logPass (a .s .now) (a .n) (t .last) (t .slot) k) (sym none)
     ∙ sym (t .inv .same)
-    ∙ log-whole (a .s .now) (a .steps) (a .n) (a .at) (start .pre .0) (a .count) (start .pre .1) (start .pre .2)
+    ∙ log-whole (a .s .now) (a .t .now) (a .steps) (a .n) (a .at) (start .pre .0) (a .count) (start .pre .1) (start .pre .2)
 
 pub entries-ok-spec : {M : Type 1} → statement M
 entries-ok-spec =

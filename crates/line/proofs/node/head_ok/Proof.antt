@@ -12,7 +12,7 @@ returns c =
     let time = c .before .before .before .before in
     let start = time .before .before in
     let a = start .args in
-    head-tested (a .s .now) (a .steps) (a .n) (a .at) (start .pre) (time .get32 .result) (time .get32 .ensures)
+    head-tested (a .s .now) (a .t .now) (a .steps) (a .n) (a .at) (start .pre) (time .get32 .result) (time .get32 .ensures)
 
 pub head-ok-spec : {M : Type 1} → statement M
 head-ok-spec =

@@ -11,11 +11,11 @@ use Rattle.line.proofs.node.held_each_ok.Statement.{statement}
 use Rattle.line.proofs.node.held_each_ok.Tie as tie
 
 abbrev Inv-loop : tie.InvT-loop
-Inv-loop s steps n at count ok₀ last₀ slot₀ left₀ ok last slot left =
+Inv-loop s t steps n at count ok₀ last₀ slot₀ left₀ ok last slot left =
     (length last ≡ 12) × Going (length s) heldSize (pageAt n + heldAt + countSize) slot count left (heldPass s n noneHeld (pageAt n + heldAt + countSize) count) (ok && heldPass s n last slot left)
 
 abbrev μ-loop : tie.MeasureT-loop
-μ-loop s steps n at count ok₀ last₀ slot₀ left₀ ok last slot left = left
+μ-loop s t steps n at count ok₀ last₀ slot₀ left₀ ok last slot left = left
 
 add-slot : tie.Need-add-slot Inv-loop μ-loop
 add-slot c = omega (arith, page-room (c .before .pre .0))
@@ -52,7 +52,7 @@ loop-again c =
         same =
             t .inv .1 .same
             ∙ ap (λ (k : ℕ). t .ok && heldPass (a .s .now) (a .n) (t .last) (t .slot) k) (sym more)
-            ∙ held-more (a .s .now) (a .steps) (a .n) (a .at) (start .pre .0) (t .ok) (one .held-one-ok .result) (t .last) (c .row-set .last .0) (t .slot) (t .left - 1) (sender .index .result) (time .get32 .result) (row .row-last .result) (sender .index .ensures .0) (time .get32 .ensures) (row .row-last .ensures) (c .row-set .ensures) (one .held-one-ok .ensures);
+            ∙ held-more (a .s .now) (a .t .now) (a .steps) (a .n) (a .at) (start .pre .0) (t .ok) (one .held-one-ok .result) (t .last) (c .row-set .last .0) (t .slot) (t .left - 1) (sender .index .result) (time .get32 .result) (row .row-last .result) (sender .index .ensures .0) (time .get32 .ensures) (row .row-last .ensures) (c .row-set .ensures) (one .held-one-ok .ensures);
       },
     )
 
@@ -65,7 +65,7 @@ returns c =
     sym (and-true (t .ok))
     ∙ ap (λ (k : ℕ). t .ok && heldPass (a .s .now) (a .n) (t .last) (t .slot) k) (sym none)
     ∙ sym (t .inv .1 .same)
-    ∙ held-whole (a .s .now) (a .steps) (a .n) (a .at) (start .pre .0) (a .count) (start .pre .1) (start .pre .2)
+    ∙ held-whole (a .s .now) (a .t .now) (a .steps) (a .n) (a .at) (start .pre .0) (a .count) (start .pre .1) (start .pre .2)
 
 pub held-each-ok-spec : {M : Type 1} → statement M
 held-each-ok-spec =

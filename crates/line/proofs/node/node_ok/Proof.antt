@@ -9,24 +9,24 @@ use Rattle.line.proofs.node.node_ok.Statement.{statement}
 use Rattle.line.proofs.node.node_ok.Tie as tie
 
 head-ok-requires : tie.Need-head-ok-requires
-head-ok-requires c κs = let start = c .before in page-of (start .args .s .now) (start .args .steps) (start .args .n) (4096 + 4096 * start .args .n) (start .pre .0) (start .pre .1) (start .pre .2) (omega arith)
+head-ok-requires c κs = let start = c .before in page-of (start .args .s .now) (start .args .t .now) (start .args .steps) (start .args .n) (4096 + 4096 * start .args .n) (start .pre .0) (start .pre .1) (start .pre .2) (start .pre .3) (omega arith)
 
 log-ok-requires : tie.Need-log-ok-requires
-log-ok-requires c κs = let start = c .before .before in page-of (start .args .s .now) (start .args .steps) (start .args .n) (4096 + 4096 * start .args .n) (start .pre .0) (start .pre .1) (start .pre .2) (omega arith)
+log-ok-requires c κs = let start = c .before .before in page-of (start .args .s .now) (start .args .t .now) (start .args .steps) (start .args .n) (4096 + 4096 * start .args .n) (start .pre .0) (start .pre .1) (start .pre .2) (start .pre .3) (omega arith)
 
 held-ok-requires : tie.Need-held-ok-requires
-held-ok-requires c κs = let start = c .before .before .before in page-of (start .args .s .now) (start .args .steps) (start .args .n) (4096 + 4096 * start .args .n) (start .pre .0) (start .pre .1) (start .pre .2) (omega arith)
+held-ok-requires c κs = let start = c .before .before .before in page-of (start .args .s .now) (start .args .t .now) (start .args .steps) (start .args .n) (4096 + 4096 * start .args .n) (start .pre .0) (start .pre .1) (start .pre .2) (start .pre .3) (omega arith)
 
 targets-ok-requires : tie.Need-targets-ok-requires
-targets-ok-requires c κs = let start = c .before .before .before .before in page-of (start .args .s .now) (start .args .steps) (start .args .n) (4096 + 4096 * start .args .n) (start .pre .0) (start .pre .1) (start .pre .2) (omega arith)
+targets-ok-requires c κs = let start = c .before .before .before .before in page-of (start .args .s .now) (start .args .t .now) (start .args .steps) (start .args .n) (4096 + 4096 * start .args .n) (start .pre .0) (start .pre .1) (start .pre .2) (start .pre .3) (omega arith)
 
 all-zero-requires : tie.Need-all-zero-requires
 all-zero-requires c κs =
     let start = c .before .before .before .before .before in
-    (omega arith, omega (arith, page-room (page-of (start .args .s .now) (start .args .steps) (start .args .n) (4096 + 4096 * start .args .n) (start .pre .0) (start .pre .1) (start .pre .2) (omega arith))))
+    (omega arith, omega (arith, page-room (page-of (start .args .s .now) (start .args .t .now) (start .args .steps) (start .args .n) (4096 + 4096 * start .args .n) (start .pre .0) (start .pre .1) (start .pre .2) (start .pre .3) (omega arith))))
 
 status-ok-requires : tie.Need-status-ok-requires
-status-ok-requires c κs = let start = c .before .before .before .before .before .before in page-of (start .args .s .now) (start .args .steps) (start .args .n) (4096 + 4096 * start .args .n) (start .pre .0) (start .pre .1) (start .pre .2) (omega arith)
+status-ok-requires c κs = let start = c .before .before .before .before .before .before in page-of (start .args .s .now) (start .args .t .now) (start .args .steps) (start .args .n) (4096 + 4096 * start .args .n) (start .pre .0) (start .pre .1) (start .pre .2) (start .pre .3) (omega arith)
 
 returns : tie.Need-returns
 returns c =
@@ -42,7 +42,7 @@ returns c =
     let same : at ≡ pageAt (a .n) = omega arith in
     let from : at + 3604 ≡ pageAt (a .n) + nodeRestAt = omega arith in
     let wide : at + 4096 - (at + 3604) ≡ nodeRest = omega arith in
-    node-tested s (a .steps) (a .n) at (page-of s (a .steps) (a .n) at (start .pre .0) (start .pre .1) (start .pre .2) same) (head .head-ok .result) (log .log-ok .result) (held .held-ok .result) (targets .targets-ok .result) (rest .all-zero .result) (c .status-ok .result) (head .head-ok .ensures) (log .log-ok .ensures) (held .held-ok .ensures) (targets .targets-ok .ensures)
+    node-tested s (a .t .now) (a .steps) (a .n) at (page-of s (a .t .now) (a .steps) (a .n) at (start .pre .0) (start .pre .1) (start .pre .2) (start .pre .3) same) (head .head-ok .result) (log .log-ok .result) (held .held-ok .result) (targets .targets-ok .result) (rest .all-zero .result) (c .status-ok .result) (head .head-ok .ensures) (log .log-ok .ensures) (held .held-ok .ensures) (targets .targets-ok .ensures)
     (rest .all-zero .ensures ∙ zero-part (at + 3604) (at + 4096) (pageAt (a .n) + nodeRestAt) nodeRest s from wide)
     (c .status-ok .ensures)
 

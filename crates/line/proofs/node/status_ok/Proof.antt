@@ -18,8 +18,8 @@ returns c =
     let start = time .before .before .before .before in
     let a = start .args in
     let s = a .s .now in
-    status-tested s (a .steps) (a .n) (a .at) (start .pre) (getD s (a .at) 0) (getD s (a .at + 1) 0) (time .get32 .result) (log .get322 .result) (held .get323 .result) (targets .get324 .result) (source .is-source .result) (sink .is-sink .result) (c .holds-nothing .result)
-    refl refl (time .get32 .ensures) (log .get322 .ensures) (held .get323 .ensures) (targets .get324 .ensures) (source .is-source .ensures) (sink .is-sink .ensures) (c .holds-nothing .ensures)
+    status-tested s (a .t .now) (a .steps) (a .n) (a .at) (start .pre) (getD s (a .at) 0) (getD s (a .at + 1) 0) (time .get32 .result) (log .get322 .result) (held .get323 .result) (targets .get324 .result) (source .source-in .result) (sink .is-sink .result) (c .holds-nothing .result)
+    refl refl (time .get32 .ensures) (log .get322 .ensures) (held .get323 .ensures) (targets .get324 .ensures) (source .source-in .ensures) (sink .is-sink .ensures) (c .holds-nothing .ensures)
 
 pub status-ok-spec : {M : Type 1} → statement M
 status-ok-spec =

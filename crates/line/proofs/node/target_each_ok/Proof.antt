@@ -10,11 +10,11 @@ use Rattle.line.proofs.node.target_each_ok.Statement.{statement}
 use Rattle.line.proofs.node.target_each_ok.Tie as tie
 
 abbrev Inv-loop : tie.InvT-loop
-Inv-loop s steps n at count ok₀ slot₀ left₀ ok slot left =
+Inv-loop s t steps n at count ok₀ slot₀ left₀ ok slot left =
     Going (length s) targetSize (pageAt n + targetsAt + countSize) slot count left (targetPass s n (pageAt n + targetsAt + countSize) count) (ok && targetPass s n slot left)
 
 abbrev μ-loop : tie.MeasureT-loop
-μ-loop s steps n at count ok₀ slot₀ left₀ ok slot left = left
+μ-loop s t steps n at count ok₀ slot₀ left₀ ok slot left = left
 
 add-slot : tie.Need-add-slot Inv-loop μ-loop
 add-slot c = omega (arith, page-room (c .before .pre .0))
@@ -42,7 +42,7 @@ loop-again c =
       same =
           t .inv .same
           ∙ ap (λ (k : ℕ). t .ok && targetPass (a .s .now) (a .n) (t .slot) k) (sym more)
-          ∙ target-more (a .s .now) (a .steps) (a .n) (a .at) (start .pre .0) (t .ok) (c .target-ok .result) (t .slot) (t .left - 1) (c .target-ok .ensures);
+          ∙ target-more (a .s .now) (a .t .now) (a .steps) (a .n) (a .at) (start .pre .0) (t .ok) (c .target-ok .result) (t .slot) (t .left - 1) (c .target-ok .ensures);
     }
 
 returns : tie.Need-returns Inv-loop μ-loop
@@ -54,7 +54,7 @@ returns c =
     sym (and-true (t .ok))
     ∙ ap (λ (k : ℕ). t .ok && targetPass (a .s .now) (a .n) (t .slot) k) (sym none)
     ∙ sym (t .inv .same)
-    ∙ target-whole (a .s .now) (a .steps) (a .n) (a .at) (start .pre .0) (a .count) (start .pre .1) (start .pre .2)
+    ∙ target-whole (a .s .now) (a .t .now) (a .steps) (a .n) (a .at) (start .pre .0) (a .count) (start .pre .1) (start .pre .2)
 
 pub target-each-ok-spec : {M : Type 1} → statement M
 target-each-ok-spec =

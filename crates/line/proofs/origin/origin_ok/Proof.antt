@@ -13,8 +13,8 @@ returns : tie.Need-returns
 returns c =
     let a = c .before .before .before .args in
     let o = originFrom (a .earlier) (a .since) in
-    rw (c .is-source .ensures, ← origin-fed (a .earlier) (a .since))
-    (sym (ap (λ (x : Origin). originRight (lineOf (a .s .now)) (a .n) x o) (origin-none (a .time) (a .from) (c .before .if1 .taken)) ∙ origin-at-source (a .s .now) (a .steps) (c .before .before .before .pre) (a .n) o))
+    rw (c .source-in .ensures, ← origin-fed (a .earlier) (a .since))
+    (sym (ap (λ (x : Origin). originRight (lineOf (a .s .now)) (a .n) x o) (origin-none (a .time) (a .from) (c .before .if1 .taken)) ∙ origin-at-source (a .s .now) (a .t .now) (a .steps) (c .before .before .before .pre) (a .n) o))
 
 returns-2 : tie.Need-returns-2
 returns-2 c =
