@@ -1,6 +1,6 @@
 -- What the check's functions find, tied to the definitions of the whole state.
 use Prim.Native.Nat.{ℕ, suc, _+_, _*_, _-_, _≤_, _<_}
-use mathlib.Core.Path.{_≡_, refl, sym, _∙_}
+use mathlib.Core.Path.{_≡_, refl, sym, ap, _∙_}
 use mathlib.Core.Bool.{Bool, true, false, _&&_, and-assoc, and-true}
 use mathlib.Core.List.{List}
 use native.Mathlib.Nat.{sub-zero}
@@ -20,7 +20,7 @@ use Rattle.rules.specs.Line.{stepLimit, Line}
 use Rattle.rules.specs.Step.{replaying}
 use Rattle.state.specs.Sizes.{stateSize, pageSize, planArea, stepsAt, countSize, stepsRest, nodePages, pageAt, laneBlocks, blockSize, blocksAt, blockAt, tailAt, tailSize}
 use Rattle.state.specs.State.{lineOf}
-use Rattle.state.proofs.StoredPlan.{stored-accepted}
+use Rattle.state.proofs.StoredPlan.{storedPlan, stored-accepted}
 use Rattle.items.specs.Items.{replayRight}
 use Rattle.line.specs.Exact.{zeroAt, pageExact}
 use Rattle.line.specs.Ready.{Ready}
@@ -30,28 +30,27 @@ use Rattle.line.proofs.LoadLaws.{plan-short}
 use Rattle.line.proofs.ExactLaws.{page-stands}
 use Rattle.line.proofs.WholeLaws.{all-stands, fits-counted, plan-stands}
 
--- The stored plan, whose head says how many nodes and channels there are.
-module _ (s : List ℕ) (n m : ℕ) (nodes : n ≡ getD s 3 0) (channels : m ≡ getD s 4 0) where
-  abbrev size : ℕ
-  size = 5 + 4 * n + 6 * m
+-- The stored plan: the part of the state from 0 up to its size.
+pub plan-sized : (s : List ℕ) (n m : ℕ) → n ≡ getD s 3 0 → m ≡ getD s 4 0 → 5 + 4 * n + 6 * m ≡ planSize (planNodes s) (planChannels s)
+plan-sized s n m e f = sym (plan-size (planNodes s) (planChannels s) ∙ rw (nodes-byte, channels-byte, e, f))
 
-  -- The part of the state from 0 up to there.
+module _ (s : List ℕ) (size : ℕ) (is : size ≡ planSize (planNodes s) (planChannels s)) where
   abbrev front : List ℕ
   front = take (size - 0) s
 
-  plan-sized : planSize (planNodes s) (planChannels s) ≡ size
-  plan-sized = plan-size (planNodes s) (planChannels s) ∙ rw (nodes-byte, channels-byte, nodes, channels)
+  pub front-stored : front ≡ storedPlan s
+  front-stored = ap (λ (k : ℕ). take k s) (sub-zero size ∙ is)
 
   pub plan-bad : (r : ℕ) → r ≡ planRefusal front → (r ≡ 0 → ⊥) → false ≡ planExact s
   unfolding planExact
-  plan-bad r e h = rw (plan-sized, ← sub-zero size, ← e, ne-eqb r 0 h)
+  plan-bad r e h = rw (← front-stored, ← e, ne-eqb r 0 h)
 
-  pub plan-within : length s ≡ stateSize → n ≤ 255 → m ≤ 255 → planRefusal front ≡ 0 → size ≤ planArea
-  plan-within long few few′ z = omega (arith, plan-short front z, length-take (size - 0) s)
+  pub plan-within : length s ≡ stateSize → size ≤ 2555 → planRefusal front ≡ 0 → size ≤ planArea
+  plan-within long few z = omega (arith, plan-short front z, length-take (size - 0) s)
 
   pub plan-good : planRefusal front ≡ 0 → zeroAt size (planArea - size) s ≡ planExact s
   unfolding planExact
-  plan-good z = let e : planRefusal (take size s) ≡ 0 = rw sub-zero at z in rw (plan-sized, e)
+  plan-good z = let e : planRefusal (storedPlan s) ≡ 0 = rw front-stored at z in rw (e, is)
 
 -- What the plan leaves unused: as far as the pages, the blocks and the state go.
 pub rest-found : (s : List ℕ) (n m : ℕ) {a b c d : Bool} → n ≡ planNodes s → m ≡ planChannels s → n ≤ nodePages → m ≤ laneBlocks

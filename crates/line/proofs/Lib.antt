@@ -5,6 +5,7 @@ pub mod LoadLaws
 pub mod ExactLaws
 pub mod WholeLaws
 pub mod CheckLaws
+pub mod WriteLaws
 pub mod ReadyLaws
 pub mod ChannelLaws
 pub mod LookLaws

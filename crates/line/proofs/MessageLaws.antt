@@ -25,8 +25,8 @@ use Rattle.items.specs.Items.{fromSender, ifFound, timeRight, recordRight, name
 use Rattle.items.proofs.Lookup.{found-in}
 use Rattle.line.specs.Exact.{zeroAt, recordExact, messageExact}
 use Rattle.line.specs.Look.{numberOr}
-use Rattle.line.specs.Check.{Counted, recordIn}
-use Rattle.line.specs.Channel.{messageAt, messageOk}
+use Rattle.line.specs.Check.{recordIn}
+use Rattle.line.specs.Channel.{Stepped, messageAt, messageOk}
 
 -- ---- what node n made something from
 
@@ -34,7 +34,7 @@ found-number : (d r : ℕ) (o : Option ℕ) → r ≡ numberOr d o → ((b : ℕ
 found-number d r none e below = le-ltb r d (omega arith)
 found-number d r (some b) e below = lt-ltb r d (omega (arith, below b refl))
 
-module _ (s : List ℕ) (steps : ℕ) (count : Counted s steps) (n : ℕ) where
+module _ (s : List ℕ) (steps : ℕ) (count : Stepped s steps) (n : ℕ) where
   pub named-fed : isSource (planOf s) n ≡ namedRight (lineOf s) n fed
   unfolding namedRight
   named-fed = rw line-plan

@@ -19,7 +19,7 @@ use Rattle.rules.proofs.Members.{In, here as first}
 use Rattle.rules.proofs.Inv.{Ordered}
 use Rattle.rules.proofs.PlanOrder.{ordered-channels}
 use Rattle.rules.proofs.Joins.{entering-in}
-use Rattle.rules.proofs.EndInv.{none-some}
+use Rattle.rules.proofs.Options.{none-some}
 use Rattle.items.specs.Items.{fromSender, placeFrom, ifFound}
 use Rattle.items.proofs.Lookup.{found-in, sender-found, sender-placed}
 use Rattle.line.specs.Ready.{Ready}

@@ -1,5 +1,6 @@
 -- What the check of a channel's block goes by: each message where it lies, and the queue message by message.
 use Prim.Native.Nat.{ℕ, zero, suc, _+_, _≤_, _<_}
+use mathlib.Core.Path.{_≡_}
 use mathlib.Core.Bool.{Bool, true, _&&_, _||_}
 use mathlib.Core.List.{List}
 use lib.ListN.{take, drop}
@@ -13,6 +14,11 @@ use Rattle.state.specs.State.{lineOf}
 use Rattle.items.specs.Items.{recordRight, namedRight}
 use Rattle.line.specs.Exact.{messageExact}
 use Rattle.line.specs.Ready.{Ready}
+
+-- A state that can be read, and its accepted steps.
+pub record Stepped (s : List ℕ) (steps : ℕ) : Type 0 where
+  pub ready : Ready s
+  pub same : steps ≡ lineOf s .steps
 
 -- A channel of a state that can be read, and one whose queue is not too long.
 pub record OnChannel (s : List ℕ) (b : ℕ) : Type 0 where

@@ -17,8 +17,7 @@ ghost use Rattle.state.specs.Pieces.{originFrom};
 ghost use Rattle.items.specs.Items.{namedRight, queueRight, channelRight};
 ghost use Rattle.line.specs.Exact.{zeroAt, messageExact, slotsExact, blockExact};
 ghost use Rattle.line.specs.Ready.{Ready};
-ghost use Rattle.line.specs.Check.{Counted};
-ghost use Rattle.line.specs.Channel.{OnChannel, QueueFits, messageOk};
+ghost use Rattle.line.specs.Channel.{Stepped, OnChannel, QueueFits, messageOk};
 use crate::Line;
 use crate::bytes;
 use crate::look;
@@ -144,7 +143,7 @@ fn holds(s: &[u8], b: usize, stopped: bool, most: u32) -> bool
 
 // What node n made something from: nothing, or a parent's message.
 fn named_ok(s: &[u8], steps: u32, n: usize, from: usize, time: u32) -> bool
-    requires { ⌜ Counted (now s) steps ⌝ }
+    requires { ⌜ Stepped (now s) steps ⌝ }
     ensures { λ r. ⌜ r ≡ namedRight (lineOf (now (s .entry))) n (originFrom from time) ⌝ }
 {
     if from == 0 {
@@ -157,7 +156,7 @@ fn named_ok(s: &[u8], steps: u32, n: usize, from: usize, time: u32) -> bool
 
 // A message that node n sent.
 fn message_ok(s: &[u8], steps: u32, n: usize, at: usize) -> bool
-    requires { ⌜ Counted (now s) steps × (at + 20 ≤ length (now s)) ⌝ }
+    requires { ⌜ Stepped (now s) steps × (at + 20 ≤ length (now s)) ⌝ }
     ensures { λ r. ⌜ r ≡ messageOk (now (s .entry)) n at ⌝ }
 {
     let from = look::index(bytes::get8(s, at + 12));
@@ -170,7 +169,7 @@ fn message_ok(s: &[u8], steps: u32, n: usize, at: usize) -> bool
 
 // A channel's messages. Where no end is down, their times rise strictly from above what was taken to the mark.
 fn queue_ok(s: &[u8], steps: u32, b: usize, stopped: bool) -> bool
-    requires { ⌜ Counted (now s) steps × QueueFits (now s) b × (stopped ≡ endDown (lineOf (now s)) b) ⌝ }
+    requires { ⌜ Stepped (now s) steps × QueueFits (now s) b × (stopped ≡ endDown (lineOf (now s)) b) ⌝ }
     ensures { λ r. ⌜ r ≡ (slotsExact messageExact messageSize (blockAt b + queueAt + countSize) (wordAt (blockAt b + queueAt) (now (s .entry))) (now (s .entry))
         && queueRight (lineOf (now (s .entry))) b (laneAt (lineOf (now (s .entry))) b .queue)) ⌝ }
 {
@@ -194,7 +193,7 @@ fn queue_ok(s: &[u8], steps: u32, b: usize, stopped: bool) -> bool
 
 // A channel's block.
 pub fn channel_ok(s: &[u8], b: usize, steps: u32) -> bool
-    requires { ⌜ Counted (now s) steps × (b < planChannels (now s)) ⌝ }
+    requires { ⌜ Stepped (now s) steps × (b < planChannels (now s)) ⌝ }
     ensures { λ r. ⌜ r ≡ (blockExact (heardCount (planOf (now (s .entry))) (channelAt (planOf (now (s .entry))) b)) (blockAt b) (now (s .entry))
         && channelRight (lineOf (now (s .entry))) b) ⌝ }
 {

@@ -1,18 +1,22 @@
-// The check of the whole state (document 01, "Damaged").
+// The check of the stored plan and of the parts that it leaves unused.
 ghost use mathlib.Core.Path.{_≡_};
-ghost use mathlib.Core.Bool.{_&&_};
 ghost use Prim.Native.Nat.{_≤_};
 ghost use lib.ListN.{length};
-ghost use Rattle.plan.specs.Plan.{planNodes, planChannels};
+ghost use Rattle.plan.specs.Plan.{planSize, planNodes, planChannels};
 ghost use Rattle.state.specs.Sizes.{stateSize, nodePages, laneBlocks};
 ghost use Rattle.line.specs.Whole.{planExact, restExact};
 
-use super::bytes;
+use crate::bytes;
+use crate::look;
 
-fn index_of(b: u8) -> usize
-    ensures { λ r. ⌜ (r ≡ b) × (r ≤ 255) ⌝ }
+// How long the stored plan is, by its own counts.
+pub fn plan_size(s: &[u8]) -> usize
+    requires { ⌜ 5 ≤ length (now s) ⌝ }
+    ensures { λ r. ⌜ (r ≡ planSize (planNodes (now (s .entry))) (planChannels (now (s .entry)))) × (r ≤ 2555) ⌝ }
 {
-    b as usize
+    let n = look::index(s[3]);
+    let m = look::index(s[4]);
+    5 + 4 * n + 6 * m
 }
 
 // Whether the stored plan would not be refused, and nothing stands behind it.
@@ -20,9 +24,7 @@ pub fn plan_ok(s: &[u8]) -> bool
     requires { ⌜ length (now s) ≡ stateSize ⌝ }
     ensures { λ r. ⌜ r ≡ planExact (now (s .entry)) ⌝ }
 {
-    let n = index_of(s[3]);
-    let m = index_of(s[4]);
-    let size = 5 + 4 * n + 6 * m;
+    let size = plan_size(s);
     if plan::plan_check(&s[0..size]) != 0 {
         return false;
     }
