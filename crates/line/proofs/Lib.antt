@@ -2,3 +2,4 @@
 pub mod BytesLaws
 pub mod StartBytes
 pub mod LoadLaws
+pub mod ChildLaws

@@ -2,3 +2,5 @@
 pub mod Zero
 pub mod Load
 pub mod Exact
+pub mod Ready
+pub mod Found

@@ -3,6 +3,7 @@ ghost use mathlib.Core.Path.{_≡_};
 ghost use Rattle.line.specs.Load.{loadAnswer, loadLeft};
 
 mod bytes;
+mod recover;
 
 // The line's own limits (document 01, "The limits belong to the line itself").
 pub struct Line {
