@@ -31,11 +31,11 @@ pub receiver-inside : {s : List ℕ} → Ready s → (b : ℕ) → b < planChann
 receiver-inside {s} r b h =
     rw node-count at (ordered-channels (planOf s) (fitting (planOf s) (r .fits) .channels) .inside b (rw channel-count h))
 
--- ---- the leaving channels
+-- ---- the plan's channels, one by one
 
--- Those before channel b.
-abbrev pub leavingTo : Plan → ℕ → ℕ → List ℕ
-leavingTo p n b = numbersFrom 0 (λ (c : Channel). eqb (c .sender) n) (take b (p .channels))
+-- Those before channel b that pass a test.
+abbrev pub numbersTo : Plan → (Channel → Bool) → ℕ → List ℕ
+numbersTo p f b = numbersFrom 0 f (take b (p .channels))
 
 module _ {A : Type 0} (f : A → Bool) where
   kept-behind : (t : Bool) (k : ℕ) (xs ys : List ℕ) → keepIf t k (xs ++ ys) ≡ keepIf t k xs ++ ys
@@ -53,19 +53,23 @@ module _ {A : Type 0} (f : A → Bool) where
       ap (keepIf (f y) k) (numbers-snoc (suc k) xs x ∙ ap (λ (j : ℕ). numbersFrom (suc k) f xs ++ keepOne (f x) j []) e)
       ∙ kept-behind (f y) k (numbersFrom (suc k) f xs) (keepOne (f x) (k + suc (length xs)) [])
 
-module _ (p : Plan) (n b : ℕ) where
-  abbrev leaves : Channel → Bool
-  leaves c = eqb (c .sender) n
-
-  pub leaving-turn : b < channelCount p → leavingTo p n (b + 1) ≡ leavingTo p n b ++ keepOne (eqb (channelAt p b .sender) n) b []
-  leaving-turn h =
+module _ (p : Plan) (f : Channel → Bool) (b : ℕ) where
+  pub numbers-turn : b < channelCount p → numbersTo p f (b + 1) ≡ numbersTo p f b ++ keepOne (f (channelAt p b)) b []
+  numbers-turn h =
       let e : 0 + length (take b (p .channels)) ≡ b = omega (arith, length-take-le b (p .channels) (omega arith)) in
       rw (add-one b, take-suc (p .channels) b noChannel h)
-      (numbers-snoc leaves 0 (take b (p .channels)) (channelAt p b) ∙ ap (λ (j : ℕ). leavingTo p n b ++ keepOne (leaves (channelAt p b)) j []) e)
+      (numbers-snoc f 0 (take b (p .channels)) (channelAt p b) ∙ ap (λ (j : ℕ). numbersTo p f b ++ keepOne (f (channelAt p b)) j []) e)
 
-  pub leaving-whole : channelCount p ≤ b → leavingTo p n b ≡ leaving p n
-  unfolding leaving
-  leaving-whole h = ap (numbersFrom 0 leaves) (take-all b (p .channels) h)
+  pub numbers-whole : channelCount p ≤ b → numbersTo p f b ≡ numbersFrom 0 f (p .channels)
+  numbers-whole h = ap (numbersFrom 0 f) (take-all b (p .channels) h)
+
+-- The channels before b that leave a node.
+abbrev pub leavingTo : Plan → ℕ → ℕ → List ℕ
+leavingTo p n b = numbersTo p (λ (c : Channel). eqb (c .sender) n) b
+
+pub leaving-whole : (p : Plan) (n b : ℕ) → channelCount p ≤ b → leavingTo p n b ≡ leaving p n
+unfolding leaving
+leaving-whole p n b h = numbers-whole p (λ (c : Channel). eqb (c .sender) n) b h
 
 -- ---- low and high
 
@@ -96,7 +100,7 @@ module _ (s : List ℕ) (n b : ℕ) where
 module _ (s : List ℕ) (n b : ℕ) where
   pub times-turn : b < planChannels s → timesTo s n (b + 1) ≡ timesTo s n b ++ keepOne (eqb (channelAt (planOf s) b .sender) n) (laneAt (lineOf s) b .taken) []
   times-turn h =
-      ap (map (λ (c : ℕ). laneAt (lineOf s) c .taken)) (leaving-turn (planOf s) n b (rw channel-count h))
+      ap (map (λ (c : ℕ). laneAt (lineOf s) c .taken)) (numbers-turn (planOf s) (λ (c : Channel). eqb (c .sender) n) b (rw channel-count h))
       ∙ map-more (λ (c : ℕ). laneAt (lineOf s) c .taken) (eqb (channelAt (planOf s) b .sender) n) b (leavingTo (planOf s) n b)
 
   pub times-whole : planChannels s ≤ b → timesTo s n b ≡ childTimes (lineOf s) n

@@ -3,3 +3,4 @@ pub mod BytesLaws
 pub mod StartBytes
 pub mod LoadLaws
 pub mod ChildLaws
+pub mod TripleLaws
