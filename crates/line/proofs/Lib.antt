@@ -4,3 +4,4 @@ pub mod StartBytes
 pub mod LoadLaws
 pub mod ChildLaws
 pub mod TripleLaws
+pub mod TargetLaws
