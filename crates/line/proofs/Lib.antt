@@ -5,3 +5,4 @@ pub mod LoadLaws
 pub mod ChildLaws
 pub mod TripleLaws
 pub mod TargetLaws
+pub mod FoundLaws

@@ -101,3 +101,9 @@ pub record Changed (f : List Target → List Target) (xs : List ℕ) (count : �
 -- Some triples above low, added to those there are.
 abbrev pub addAbove : ℕ → List Target → List Target → List Target
 addAbove low ts sorted = sortTargets sorted (keep (λ (t : Target). ltb low (t .time)) ts)
+
+-- Targets found: the slice holds them, or there are too many.
+pub record Found (xs : List ℕ) (r : ℕ) (ts : List Target) : Type 0 where
+  pub long : length xs ≡ slotsLong
+  pub few : r ≤ tooMany
+  pub holds : Holds xs r ts
