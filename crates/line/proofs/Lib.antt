@@ -6,3 +6,4 @@ pub mod ChildLaws
 pub mod TripleLaws
 pub mod TargetLaws
 pub mod FoundLaws
+pub mod RowLaws

@@ -5,10 +5,10 @@ use mathlib.Core.Bool.{Bool, true, cond, _&&_, _||_}
 use mathlib.Core.List.{List, [], _∷_, _++_, map}
 use lib.Dec.{leb, ltb, eqb}
 use lib.ListN.{length, getD, set, take, drop}
-use Rattle.plan.specs.Plan.{planOf, planNodes, channelAt}
-use Rattle.rules.specs.Lists.{keep, greatestOf}
-use Rattle.rules.specs.Line.{logLimit, Origin, fed, Entry, Target, Line, nodeAt}
-use Rattle.rules.specs.Recover.{triple, triples, sameTarget, targetBefore, addTarget, sortTargets}
+use Rattle.plan.specs.Plan.{planOf, planNodes, channelAt, entering}
+use Rattle.rules.specs.Lists.{keep, allOf, greatestOf}
+use Rattle.rules.specs.Line.{logLimit, Origin, fed, Entry, Target, Line, nodeAt, senderOf}
+use Rattle.rules.specs.Recover.{triple, triples, sameTarget, targetBefore, addTarget, sortTargets, restored, rowGoal}
 use Rattle.state.specs.Sizes.{pageAt, logAt}
 use Rattle.state.specs.Right.{wordAt}
 use Rattle.state.specs.State.{lineOf}
@@ -107,3 +107,12 @@ pub record Found (xs : List ℕ) (r : ℕ) (ts : List Target) : Type 0 where
   pub long : length xs ≡ slotsLong
   pub few : r ≤ tooMany
   pub holds : Holds xs r ts
+
+-- ---- rows
+
+-- Whether a parent's row is complete in the restored node, by some targets; and whether all rows are.
+abbrev pub rowIn : Line → ℕ → List Target → ℕ → Bool
+rowIn l n ts parent = leb (rowGoal ts parent) (restored l n parent)
+
+abbrev pub rowsIn : Line → ℕ → List Target → Bool
+rowsIn l n ts = allOf (λ (c : ℕ). rowIn l n ts (senderOf l c)) (entering (l .plan) n)
