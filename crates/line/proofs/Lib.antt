@@ -7,3 +7,4 @@ pub mod TripleLaws
 pub mod TargetLaws
 pub mod FoundLaws
 pub mod RowLaws
+pub mod ReplayLaws

@@ -1,14 +1,15 @@
 -- What Recover finds, as the code goes over the state's bytes.
 use Prim.Native.Nat.{ℕ, zero, suc, _+_, _*_, _≤_, _<_, min}
 use mathlib.Core.Path.{_≡_}
-use mathlib.Core.Bool.{Bool, true, cond, _&&_, _||_}
+use mathlib.Core.Bool.{Bool, true, not, cond, _&&_, _||_}
 use mathlib.Core.List.{List, [], _∷_, _++_, map}
 use lib.Dec.{leb, ltb, eqb}
 use lib.ListN.{length, getD, set, take, drop}
 use Rattle.plan.specs.Plan.{planOf, planNodes, channelAt, entering}
 use Rattle.rules.specs.Lists.{keep, allOf, greatestOf}
 use Rattle.rules.specs.Line.{logLimit, Origin, fed, Entry, Target, Line, nodeAt, senderOf}
-use Rattle.rules.specs.Recover.{triple, triples, sameTarget, targetBefore, addTarget, sortTargets, restored, rowGoal}
+use Rattle.rules.specs.Recover.{triple, triples, sameTarget, targetBefore, addTarget, sortTargets, restored, conflict, rowGoal}
+use Rattle.rules.specs.Damaged.{sameTargets}
 use Rattle.state.specs.Sizes.{pageAt, logAt}
 use Rattle.state.specs.Right.{wordAt}
 use Rattle.state.specs.State.{lineOf}
@@ -116,3 +117,12 @@ rowIn l n ts parent = leb (rowGoal ts parent) (restored l n parent)
 
 abbrev pub rowsIn : Line → ℕ → List Target → Bool
 rowsIn l n ts = allOf (λ (c : ℕ). rowIn l n ts (senderOf l c)) (entering (l .plan) n)
+
+-- ---- a replaying node
+
+abbrev pub noTarget : Target
+noTarget = target 0 0 0
+
+-- What is left of the test when targets are found, neither none nor too many.
+abbrev pub replayFound : Line → ℕ → ℕ → List Target → Bool
+replayFound l n low ts = not (conflict ts) && not (rowsIn l n ts) && eqb (nodeAt l n .time) low && sameTargets (nodeAt l n .targets) ts
