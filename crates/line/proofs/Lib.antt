@@ -17,3 +17,9 @@ pub mod SlotLaws
 pub mod PieceBytes
 pub mod NodeLaws
 pub mod TableLaws
+pub mod ChildLaws
+pub mod TripleLaws
+pub mod TargetLaws
+pub mod FoundLaws
+pub mod RowLaws
+pub mod ReplayLaws

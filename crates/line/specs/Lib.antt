@@ -10,3 +10,4 @@ pub mod Channel
 pub mod Look
 pub mod Table
 pub mod Check
+pub mod Found

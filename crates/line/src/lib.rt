@@ -12,6 +12,7 @@ mod node;
 mod origin;
 mod table;
 mod whole;
+mod recover;
 
 // The line's own limits (document 01, "The limits belong to the line itself").
 pub struct Line {
