@@ -16,7 +16,7 @@ use Rattle.plan.specs.Check.{planRefusal}
 use Rattle.plan.proofs.PlanLaws.{plan-size}
 use Rattle.plan.proofs.ReadLaws.{nodes-byte, channels-byte}
 use Rattle.rules.specs.Lists.{allOf, upTo}
-use Rattle.rules.specs.Line.{stepLimit, Line}
+use Rattle.rules.specs.Line.{stepLimit}
 use Rattle.rules.specs.Step.{replaying}
 use Rattle.state.specs.Sizes.{stateSize, pageSize, planArea, stepsAt, countSize, stepsRest, nodePages, pageAt, laneBlocks, blockSize, blocksAt, blockAt, tailAt, tailSize}
 use Rattle.state.specs.State.{lineOf}
@@ -103,7 +103,7 @@ unfolding stateChecked
 plan-wrong s e = rw e refl
 
 module _ (s : List ℕ) (n m steps : ℕ) {rest nodes channels : Bool} (plan : planExact s ≡ true) (same : n ≡ planNodes s) (same′ : m ≡ planChannels s) (count : steps ≡ lineOf s .steps)
-  (a : rest ≡ restExact s) (b : nodes ≡ allOf (nodeChecked s) (upTo 0 n)) (c : channels ≡ allOf (channelChecked s) (upTo 0 m)) where
+    (a : rest ≡ restExact s) (b : nodes ≡ allOf (nodeChecked s) (upTo 0 n)) (c : channels ≡ allOf (channelChecked s) (upTo 0 m)) where
   abbrev found : Bool
   found = rest && leb steps stepLimit && nodes && channels
 

@@ -1,20 +1,19 @@
 -- The check's answer and Write by cases, and that Write gives back what was loaded.
 use Prim.Native.Nat.{ℕ, _-_, _≤_, _<_}
-use mathlib.Core.Path.{_≡_, refl, sym, ap, ap₂, subst, _∙_}
+use mathlib.Core.Path.{_≡_, refl, sym, ap, ap₂, _∙_}
 use mathlib.Core.Bool.{Bool, true, false, true≢false}
 use mathlib.Core.List.{List, _++_}
 use native.Mathlib.Omega.{arith}
-use borrow.Author.Tests.{eq-eqb, ne-eqb, eqb-true, le-leb, lt-leb}
+use borrow.Author.Tests.{eq-eqb, ne-eqb, le-leb, lt-leb}
 use lib.Dec.{leb, eqb}
 use lib.ListN.{length, take, drop}
 use Rattle.plan.specs.Lawful.{Bytes}
 use Rattle.plan.specs.Plan.{Plan, planOf, planBytes, planSize, planNodes, planChannels}
-use Rattle.plan.specs.Check.{planRefusal}
 use Rattle.plan.proofs.PlanLaws.{plan-length, plan-written, node-count, channel-count}
 use Rattle.rules.specs.Line.{Line, initialLine}
 use Rattle.rules.proofs.StartSound.{start-undamaged}
 use Rattle.state.specs.Sizes.{stateSize}
-use Rattle.state.specs.State.{lineBytes, lineOf, stateAnswer}
+use Rattle.state.specs.State.{stateAnswer}
 use Rattle.state.proofs.InPlace.{line-plan}
 use Rattle.state.proofs.LineLaws.{line-read}
 use Rattle.state.proofs.SpelledLaws.{state-sane, answer-eight}

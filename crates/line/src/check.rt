@@ -5,7 +5,6 @@ ghost use lib.ListN.{length};
 ghost use Rattle.plan.specs.Plan.{planSize, planNodes, planChannels};
 ghost use Rattle.state.specs.Sizes.{stateSize, nodePages, laneBlocks};
 ghost use Rattle.line.specs.Whole.{planExact, restExact};
-
 use crate::bytes;
 use crate::look;
 

@@ -5,14 +5,14 @@ ghost use Rattle.line.specs.Load.{loadAnswer, loadLeft};
 ghost use Rattle.line.specs.Write.{writeAnswer, writeLeft};
 
 mod bytes;
-mod check;
 mod channel;
+mod check;
 mod look;
 mod node;
 mod origin;
+mod recover;
 mod table;
 mod whole;
-mod recover;
 
 // The line's own limits (document 01, "The limits belong to the line itself").
 pub struct Line {

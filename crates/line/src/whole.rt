@@ -1,7 +1,7 @@
 // The check of the whole state (document 01, "Damaged"): part by part, then every node's page, every channel's block, and what the replays ask.
 ghost use mathlib.Core.Path.{_≡_};
 ghost use mathlib.Core.Bool.{true};
-ghost use Prim.Native.Nat.{_≤_, _<_};
+ghost use Prim.Native.Nat.{_<_};
 ghost use lib.ListN.{length};
 ghost use Rattle.plan.specs.Plan.{planNodes, planChannels};
 ghost use Rattle.rules.specs.Lists.{allOf, upTo};
@@ -11,7 +11,7 @@ ghost use Rattle.state.specs.State.{lineOf};
 ghost use Rattle.line.specs.Ready.{Ready};
 ghost use Rattle.line.specs.Table.{Table};
 ghost use Rattle.line.specs.Whole.{PagesRight, planExact, nodeChecked, channelChecked, replayPlain, stateChecked};
-
+use crate::Line;
 use crate::bytes;
 use crate::channel;
 use crate::check;
@@ -19,7 +19,6 @@ use crate::look;
 use crate::node;
 use crate::recover;
 use crate::table;
-use crate::Line;
 
 // Every node's page, but for what its replay asks.
 fn pages_ok(s: &[u8], t: &[u8; 156], n: usize, steps: u32) -> bool

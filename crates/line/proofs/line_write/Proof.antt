@@ -1,9 +1,9 @@
-use Prim.Native.Nat.{ℕ, _-_, _≤_}
+use Prim.Native.Nat.{ℕ, _-_}
 use mathlib.Core.Path.{_≡_, sym, ap, _∙_}
 use mathlib.Core.List.{List, _++_}
 use native.Mathlib.Omega.{arith}
 use borrow.Author.Needs.{needs}
-use lib.ListN.{length, take, drop, length-take}
+use lib.ListN.{length, drop, length-take}
 use Rattle.plan.proofs.BytesLaws.{bytes-known}
 use Rattle.state.specs.State.{stateAnswer}
 use Rattle.state.proofs.SpelledLaws.{state-sane}

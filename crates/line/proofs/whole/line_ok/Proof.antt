@@ -23,9 +23,12 @@ replays-ok-requires c κs =
     let steps = rest .before in
     let entry = steps .before .before in
     let a = entry .args in
-    let p = entry .pre in
-    (p .0, found-pages (a .s .now) (a .n) (a .m) (steps .get32 .result) (p .1) (p .2) (p .3) (steps .get32 .ensures ∙ sym (line-steps (a .s .now) (counted (p .0)))) (rest .rest-ok .ensures) (c .before .before .nodes-ok .ensures) (c .before .channels-ok .ensures)
-    (not-false _ (c .if1 .left)), p .2)
+    let p = entry .pre in (
+      p .0,
+      found-pages (a .s .now) (a .n) (a .m) (steps .get32 .result) (p .1) (p .2) (p .3) (steps .get32 .ensures ∙ sym (line-steps (a .s .now) (counted (p .0)))) (rest .rest-ok .ensures) (c .before .before .nodes-ok .ensures) (c .before .channels-ok .ensures)
+          (not-false _ (c .if1 .left)),
+      p .2,
+    )
 
 returns-2 : tie.Need-returns-2
 returns-2 c =
