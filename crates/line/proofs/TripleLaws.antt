@@ -181,7 +181,7 @@ pub restored-turn : (n low parent start : ℕ) (log : List Entry) (i best : ℕ)
     → RestoredTo n low parent start log (i + 1) (cond (f .is && eqb (f .parent) parent && leb (f .time) low) (max best (f .sent)) best)
 restored-turn n low parent start log i best f h e k =
     let more : restoredOver low parent (triples n (take (i + 1) log)) ≡ max (restoredOver low parent (triples n (take i log))) (restoredOver low parent (tripleList f)) =
-        rw e (ap (restoredOver low parent) (triples-turn n log i h) ∙ restored-append low parent (triples n (take i log)) (tripleOf n (getD log i noEntry))) in
+    rw e (ap (restoredOver low parent) (triples-turn n log i h) ∙ restored-append low parent (triples n (take i log)) (tripleOf n (getD log i noEntry))) in
     record { within = omega arith; best-is = omega (arith, restored-found low parent best f, more, k .best-is) }
 
 pub restored-end : (n low parent start : ℕ) (log : List Entry) (i best : ℕ) → length log ≤ i → RestoredTo n low parent start log i best → best ≡ max start (restoredOver low parent (triples n log))
@@ -202,5 +202,5 @@ pub before-turn : (s : List ℕ) (n low parent b best : ℕ) → b < planChannel
     → RestoredBefore s n low parent (b + 1) (max best (restoredOver low parent (triplesOn s n b)))
 before-turn s n low parent b best h k =
     let more : restoredOver low parent (triplesTo s n (b + 1)) ≡ max (restoredOver low parent (triplesTo s n b)) (restoredOver low parent (triplesOn s n b)) =
-        ap (restoredOver low parent) (child-turn s n b h) ∙ restored-append low parent (triplesTo s n b) (triplesOn s n b) in
+    ap (restoredOver low parent) (child-turn s n b h) ∙ restored-append low parent (triplesTo s n b) (triplesOn s n b) in
     record { within = omega arith; best-is = omega (arith, more, k .best-is) }

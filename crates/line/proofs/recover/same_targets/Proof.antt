@@ -30,7 +30,7 @@ returns c =
     let s = a .s .now in
     let p = first .pre in
     let is : c .before .size .result ≡ length (nodeAt (lineOf s) (a .n) .targets) =
-        c .before .size .ensures ∙ c .before .before .get32 .ensures ∙ ap (λ (x : ℕ). wordAt x s) (place (a .n)) ∙ sym (stored-length s (p .0) (a .n) (p .1) (p .2)) in
+    c .before .size .ensures ∙ c .before .before .get32 .ensures ∙ ap (λ (x : ℕ). wordAt x s) (place (a .n)) ∙ sym (stored-length s (p .0) (a .n) (p .1) (p .2)) in
     sym (sizes-differ (nodeAt (lineOf s) (a .n) .targets) (targetsIn (a .xs .now) (a .count)) (λ e. c .if1 .taken (is ∙ e ∙ targets-length (a .xs .now) (a .count))))
 
 loop-holds : tie.Need-loop-holds Inv-loop μ-loop
@@ -42,7 +42,7 @@ stored-goal-requires c κs =
     let a = first .args in
     let p = first .pre in
     let is : a .count ≡ wordAt (pageAt (a .n) + targetsAt) (a .s .now) =
-        sym (c .before .before .if1 .left) ∙ c .before .before .before .size .ensures ∙ c .before .before .before .before .get32 .ensures ∙ ap (λ (x : ℕ). wordAt x (a .s .now)) (place (a .n)) in
+    sym (c .before .before .if1 .left) ∙ c .before .before .before .size .ensures ∙ c .before .before .before .before .get32 .ensures ∙ ap (λ (x : ℕ). wordAt x (a .s .now)) (place (a .n)) in
     (p .0, p .1, omega (arith, p .4), omega (arith, is))
 
 goal-at-requires : tie.Need-goal-at-requires Inv-loop μ-loop
@@ -57,7 +57,7 @@ loop-again c =
     let s = a .s .now in
     let p = first .pre in
     let is : a .count ≡ length (nodeAt (lineOf s) (a .n) .targets) =
-        sym (asked .if1 .left) ∙ asked .before .size .ensures ∙ asked .before .before .get32 .ensures ∙ ap (λ (x : ℕ). wordAt x s) (place (a .n)) ∙ sym (stored-length s (p .0) (a .n) (p .1) (p .2)) in
+    sym (asked .if1 .left) ∙ asked .before .size .ensures ∙ asked .before .before .get32 .ensures ∙ ap (λ (x : ℕ). wordAt x s) (place (a .n)) ∙ sym (stored-length s (p .0) (a .n) (p .1) (p .2)) in
     matching-turn (nodeAt (lineOf s) (a .n) .targets) (targetsIn (a .xs .now) (a .count)) (t .ok) (t .i) (goalTarget (c .before .before .stored-goal .result)) (goalTarget (c .before .goal-at .result)) (c .is-same .result)
     (omega (arith, is)) (rw targets-length (omega arith)) (c .before .before .stored-goal .ensures) (c .before .goal-at .ensures ∙ sym (targets-at (a .xs .now) (a .count) (t .i) noTarget (omega arith))) (c .is-same .ensures) (t .inv)
 
@@ -70,7 +70,7 @@ returns-2 c =
     let s = a .s .now in
     let p = first .pre in
     let is : a .count ≡ length (nodeAt (lineOf s) (a .n) .targets) =
-        sym (asked .if1 .left) ∙ asked .before .size .ensures ∙ asked .before .before .get32 .ensures ∙ ap (λ (x : ℕ). wordAt x s) (place (a .n)) ∙ sym (stored-length s (p .0) (a .n) (p .1) (p .2)) in
+    sym (asked .if1 .left) ∙ asked .before .size .ensures ∙ asked .before .before .get32 .ensures ∙ ap (λ (x : ℕ). wordAt x s) (place (a .n)) ∙ sym (stored-length s (p .0) (a .n) (p .1) (p .2)) in
     matching-end (nodeAt (lineOf s) (a .n) .targets) (targetsIn (a .xs .now) (a .count)) (t .ok) (t .i) (omega (arith, is)) (rw targets-length (omega arith)) (t .inv)
 
 pub same-targets-spec : {M : Type 1} → statement M
