@@ -1,5 +1,5 @@
 -- Lookups among a plan's channels, one channel at a time.
-use Prim.Native.Nat.{ℕ, zero, suc, _+_, _*_, _≤_, _<_}
+use Prim.Native.Nat.{ℕ, zero, suc, _+_, _≤_, _<_}
 use mathlib.Core.Path.{_≡_, refl, sym, ap, _∙_}
 use mathlib.Core.Bool.{Bool, true, false, not, cond, _&&_, and-assoc, and-true, and-false, true≢false}
 use mathlib.Core.List.{List, [], _∷_}
@@ -8,10 +8,10 @@ use native.Mathlib.Nat.{add-zero}
 use native.Mathlib.Numerals.{add-one}
 use native.Mathlib.Omega.{arith}
 use lib.Dec.{eqb}
-use lib.ListN.{length, getD, drop, drop-of-length-le}
+use lib.ListN.{getD, drop, drop-of-length-le}
 use lib.Seq.{drop-cons}
 use Rattle.plan.specs.declared.Channel.{Channel}
-use Rattle.plan.specs.Plan.{Plan, planOf, planNodes, planChannels, channelAt, channelCount, noChannel, keepIf, numbersFrom, isNone, entering, leaving, isSource, isSink}
+use Rattle.plan.specs.Plan.{Plan, planOf, planChannels, channelAt, channelCount, noChannel, keepIf, numbersFrom, isNone, entering, isSource, isSink}
 use Rattle.plan.proofs.ReadLaws.{channel-at}
 use Rattle.plan.proofs.PlanLaws.{channel-count}
 use Rattle.items.specs.Items.{fromSender, placeFrom}

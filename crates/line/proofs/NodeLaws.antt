@@ -7,7 +7,7 @@ use native.Mathlib.Nat.{add-zero}
 use native.Mathlib.Omega.{arith}
 use borrow.Author.Tests.{le-leb, lt-leb, eq-eqb, ne-eqb}
 use lib.Dec.{leb, ltb, eqb, eqb·suc-zero}
-use lib.ListN.{length, getD, set, take, drop}
+use lib.ListN.{length, getD, set}
 use lib.Seq.{ext-getD}
 use Rattle.plan.specs.Plan.{planOf, planNodes, isSource, isSink}
 use Rattle.rules.specs.Lists.{allOf, isEmpty}
@@ -25,9 +25,9 @@ use Rattle.line.specs.Exact.{zeroAt, entryExact, heldExact, targetExact,
 use Rattle.line.specs.NodeCheck.{headExact, holdsNothing, nodePlain}
 use Rattle.line.specs.Ready.{Ready}
 use Rattle.line.specs.Table.{Table}
-use Rattle.line.specs.Check.{Counted, PageOf, recordIn, entryIn, heldIn, targetIn}
+use Rattle.line.specs.Check.{Counted, PageOf, entryIn, heldIn, targetIn}
 use Rattle.line.proofs.SlotLaws.{swap-middle, slotsIn, passes, length-slots, slots-at, slotsPass, slots-pass, pass-more}
-use Rattle.line.proofs.PieceBytes.{entry-in, held-in, target-in, two-zero}
+use Rattle.line.proofs.PieceBytes.{entry-in, held-in, two-zero}
 
 pub few-of : {s table : List ℕ} {steps : ℕ} → Counted s table steps → Few s
 few-of h = record { nodes = h .ready .nodes; channels = h .ready .channels }

@@ -1,7 +1,7 @@
 -- Records and origins in the state's bytes.
 use Prim.Native.Nat.{ℕ, zero, suc, _+_, _*_, _-_, _^_, _≤_, _<_}
 use mathlib.Core.Path.{_≡_, refl, sym, ap, _∙_}
-use mathlib.Core.Bool.{Bool, true, false, not, _&&_, and-true, and-false, and-comm}
+use mathlib.Core.Bool.{Bool, true, false, _&&_, and-true, and-false}
 use mathlib.Core.List.{List, [], _∷_}
 use mathlib.Core.Option.{Option, none, some}
 use native.Mathlib.Omega.{arith}
@@ -11,10 +11,10 @@ use lib.Dec.{lit≤, leb, ltb, eqb, eqb·suc-zero}
 use lib.ListN.{length, getD, take, drop, length-map}
 use Rattle.plan.specs.Lawful.{Bytes}
 use Rattle.plan.specs.Layout.{spelled}
-use Rattle.plan.specs.Plan.{Plan, planOf, planChannels, channelAt, channelCount, entering, isSource}
+use Rattle.plan.specs.Plan.{Plan, planOf, planChannels, channelAt, entering, isSource}
 use Rattle.plan.proofs.NumberLaws.{spelled-below}
 use Rattle.plan.proofs.PlanLaws.{channel-count}
-use Rattle.rules.specs.Line.{Origin, fed, made, Lane, Line, laneAt, parents}
+use Rattle.rules.specs.Line.{Origin, fed, made, Line, laneAt, parents}
 use Rattle.rules.specs.Damaged.{isFed}
 use Rattle.rules.proofs.Joins.{entering-in}
 use Rattle.rules.proofs.Options.{none-some, some-same}
@@ -31,7 +31,6 @@ use Rattle.state.proofs.HeardLaws.{heard-few}
 use Rattle.items.specs.Items.{fromSender, placeFrom, ifFound, timeRight, recordRight, beforeRight, originRight}
 use Rattle.items.proofs.Lookup.{found-in}
 use Rattle.line.specs.Exact.{recordExact}
-use Rattle.line.specs.Ready.{Ready}
 use Rattle.line.specs.Look.{numberOr}
 use Rattle.line.specs.Check.{Counted, recordIn}
 

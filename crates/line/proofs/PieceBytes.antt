@@ -17,7 +17,7 @@ use Rattle.plan.specs.Plan.{planOf, planChannels, entering}
 use Rattle.plan.specs.Mask.{maskOf, taking, planMask}
 use Rattle.plan.proofs.MaskLaws.{mask-few}
 use Rattle.rules.specs.Lists.{isEmpty}
-use Rattle.rules.specs.Line.{Line, Entry, made}
+use Rattle.rules.specs.Line.{Line, made}
 use Rattle.rules.specs.Replay.{passedOn}
 use Rattle.state.specs.Pieces.{originFrom, originLayout}
 use Rattle.state.specs.Right.{wordAt}

@@ -1,31 +1,29 @@
 -- The table of a plan's channels, filled channel by channel, and what it has.
-use Prim.Native.Nat.{ℕ, zero, suc, _+_, _*_, _/_, _%_, _≤_, _<_}
-use mathlib.Core.Path.{_≡_, refl, sym, ap, ap₂, _∙_}
+use Prim.Native.Nat.{ℕ, suc, _+_, _*_, _/_, _%_, _≤_, _<_}
+use mathlib.Core.Path.{_≡_, refl, sym, ap, _∙_}
 use mathlib.Core.Bool.{Bool, true, false, not, cond, _&&_, true≢false}
 use mathlib.Core.List.{List, [], _∷_}
 use mathlib.Core.Option.{Option, none, some}
 use native.Mathlib.Omega.{arith}
-use borrow.Author.Tests.{eqb-true, eqb-false, eq-eqb, ne-eqb}
+use borrow.Author.Tests.{eqb-true, eqb-false}
 use lib.Dec.{eqb}
-use lib.ListN.{length, getD, set, replicate, length-set, length-replicate, getD-replicate}
+use lib.ListN.{length, getD, set, length-set, length-replicate, getD-replicate}
 use lib.Seq.{getD-set-same, getD-set-other}
 use Rattle.plan.specs.declared.Channel.{Channel}
-use Rattle.plan.specs.Plan.{Plan, planOf, planNodes, planChannels, nodeCount, channelAt, channelCount, keepIf, isNone, entering, isSource}
-use Rattle.plan.specs.Check.{planFits}
-use Rattle.plan.proofs.PlanLaws.{node-count, channel-count}
+use Rattle.plan.specs.Plan.{Plan, planOf, planChannels, nodeCount, channelAt, channelCount, keepIf, isNone, entering, isSource}
+use Rattle.plan.proofs.PlanLaws.{channel-count}
 use Rattle.plan.proofs.FitsLaws.{fitting}
 use Rattle.plan.proofs.AcceptedLaws.{four-at}
-use Rattle.rules.proofs.Members.{In, here as first}
+use Rattle.rules.proofs.Members.{here as first}
 use Rattle.rules.proofs.Inv.{Ordered}
 use Rattle.rules.proofs.PlanOrder.{ordered-channels}
 use Rattle.rules.proofs.Joins.{entering-in}
-use Rattle.rules.proofs.Options.{none-some}
 use Rattle.items.specs.Items.{fromSender, placeFrom, ifFound}
 use Rattle.items.proofs.Lookup.{found-in, sender-found, sender-placed}
 use Rattle.line.specs.Ready.{Ready}
 use Rattle.line.specs.Look.{numberOr, channelFrom}
 use Rattle.line.specs.Table.{Table, placeOf, codeOr, emptyTable}
-use Rattle.line.proofs.LookLaws.{numbersOn, numbers-turn, numbers-end, foundOn, found-whole, found-turn, found-end, sender-byte, receiver-byte}
+use Rattle.line.proofs.LookLaws.{numbersOn, numbers-turn, numbers-end, foundOn, found-turn, found-end, sender-byte, receiver-byte}
 use Rattle.line.proofs.OriginLaws.{place-below}
 
 -- The channels from b on are in the table.

@@ -2,7 +2,6 @@
 ghost use mathlib.Core.Path.{_≡_};
 ghost use mathlib.Core.Bool.{cond};
 ghost use Prim.Native.Nat.{_+_, _≤_, _<_};
-ghost use lib.ListN.{length};
 ghost use Rattle.plan.specs.Plan.{planOf, planChannels, entering, isSource, isSink};
 ghost use Rattle.items.specs.Items.{fromSender, placeFrom};
 ghost use Rattle.line.specs.Ready.{Ready};

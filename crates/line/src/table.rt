@@ -1,6 +1,6 @@
 // The plan's channels as a table, made once for a check: looking a sender up is then one read.
 ghost use mathlib.Core.Path.{_≡_};
-ghost use Prim.Native.Nat.{_+_, _*_, _≤_, _<_};
+ghost use Prim.Native.Nat.{_+_, _*_, _<_};
 ghost use lib.ListN.{length, set};
 ghost use Rattle.plan.specs.Plan.{planOf, entering, isSource};
 ghost use Rattle.items.specs.Items.{fromSender, placeFrom};

@@ -1,12 +1,12 @@
-use Prim.Native.Nat.{ℕ, suc, _+_, _-_, _≤_, _<_}
-use mathlib.Core.Path.{_≡_, refl, sym, ap, _∙_}
+use Prim.Native.Nat.{ℕ, _+_, _-_, _≤_}
+use mathlib.Core.Path.{_≡_, refl, sym, _∙_}
 use mathlib.Core.Bool.{Bool, _&&_}
 use mathlib.Core.List.{List}
 use native.Mathlib.Numerals.{add-one}
 use native.Mathlib.Omega.{arith}
 use Rattle.plan.specs.Plan.{planOf, planChannels}
 use Rattle.plan.proofs.PlanLaws.{channel-count}
-use Rattle.line.specs.Look.{channelFrom, unnamed}
+use Rattle.line.specs.Look.{channelFrom}
 use Rattle.line.proofs.LookLaws.{noneOn, none-whole, none-next, none-end}
 use Rattle.line.proofs.look.at_no_end.Statement.{statement}
 use Rattle.line.proofs.look.at_no_end.Tie as tie

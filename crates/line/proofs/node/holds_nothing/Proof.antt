@@ -1,6 +1,3 @@
-use mathlib.Core.Path.{_≡_, refl, sym}
-use mathlib.Core.Bool.{Bool}
-use borrow.Author.Needs.{needs}
 use Rattle.line.proofs.NodeLaws.{nothing-up, nothing-down, nothing-replay}
 use Rattle.line.proofs.node.holds_nothing.Statement.{statement}
 use Rattle.line.proofs.node.holds_nothing.Tie as tie

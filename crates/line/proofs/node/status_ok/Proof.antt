@@ -1,9 +1,8 @@
 use Prim.Native.Nat.{_+_}
-use native.Mathlib.Omega.{arith}
 use borrow.Author.Needs.{needs}
 use mathlib.Core.Path.{refl}
 use lib.ListN.{getD}
-use Rattle.line.proofs.NodeLaws.{page-room, status-tested}
+use Rattle.line.proofs.NodeLaws.{status-tested}
 use Rattle.line.proofs.node.status_ok.Statement.{statement}
 use Rattle.line.proofs.node.status_ok.Tie as tie
 

@@ -1,7 +1,6 @@
 use mathlib.Core.Path.{sym, ap, _∙_}
 use native.Mathlib.Omega.{arith}
 use borrow.Author.Needs.{needs}
-use Rattle.rules.specs.Line.{Origin}
 use Rattle.state.specs.State.{lineOf}
 use Rattle.items.specs.Items.{beforeRight}
 use Rattle.line.proofs.OriginLaws.{origin-none, origin-some, before-fed, before-missing, before-there}
