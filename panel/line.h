@@ -15,4 +15,13 @@
 uint32_t line_load(const uint8_t *plan, size_t plan_length,
                    uint8_t *state, size_t state_length);
 
+/* Check: returns 0 for a line's state, or 8 for a state of another size or a damaged one. */
+uint32_t line_check(const uint8_t *state, size_t state_length);
+
+/* Write: writes the plan of a state into an output.
+   Returns 0, or 8 as line_check does, or 23 for an output shorter than the plan.
+   Past the plan the output stays as it was; a refusal leaves all of it. The state is only read. */
+uint32_t line_write(const uint8_t *state, size_t state_length,
+                    uint8_t *plan, size_t plan_length);
+
 #endif

@@ -1,5 +1,6 @@
-/* Loads the two-node plan of document 01, "The sheet", and prints the number. */
+/* Loads the two-node plan of document 01, "The sheet", checks the state, writes the plan back and prints the numbers. */
 #include <stdio.h>
+#include <string.h>
 
 #include "line.h"
 
@@ -11,8 +12,12 @@ static const uint8_t plan[] = {
 };
 
 static uint8_t state[LINE_STATE_SIZE];
+static uint8_t written[sizeof plan];
 
 int main(void) {
-    printf("%u\n", (unsigned)line_load(plan, sizeof plan, state, sizeof state));
-    return 0;
+    unsigned loaded = line_load(plan, sizeof plan, state, sizeof state);
+    unsigned checked = line_check(state, sizeof state);
+    unsigned back = line_write(state, sizeof state, written, sizeof written);
+    printf("%u %u %u\n", loaded, checked, back);
+    return memcmp(plan, written, sizeof plan) != 0;
 }

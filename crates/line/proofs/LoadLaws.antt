@@ -4,7 +4,7 @@ use mathlib.Core.Path.{_≡_, refl, sym, _∙_}
 use mathlib.Core.Bool.{Bool, true, false}
 use mathlib.Core.List.{List, _++_, append-nil}
 use native.Mathlib.Omega.{arith}
-use borrow.Author.Tests.{eq-eqb, ne-eqb}
+use borrow.Author.Tests.{eq-eqb, ne-eqb, eqb-true}
 use lib.Dec.{eqb}
 use lib.ListN.{length, take, drop, replicate, drop-of-length-le}
 use lib.Seq.{take-append-seam}
@@ -52,6 +52,14 @@ module _ (plan state : List ℕ) where
   loaded h z e =
       let a : loadAnswer plan state ≡ 0 = answer-is ∙ rw (eq-eqb (planRefusal plan) 0 z, eq-eqb (length state) stateSize e) in
       (sym a, sym (left-is ∙ rw a (start-bytes plan h z)))
+
+  -- An accepted Load: the plan is not refused, and the state becomes its line.
+  pub load-accepted : loadAnswer plan state ≡ 0 → (planRefusal plan ≡ 0) × (loadLeft plan state ≡ lineBytes (initialLine (planOf plan)))
+  load-accepted z = (not-refused (eqb (planRefusal plan) 0) refl (sym answer-is ∙ z), left-is ∙ rw z refl)
+    where
+      not-refused : (b : Bool) → eqb (planRefusal plan) 0 ≡ b → answerBy b (eqb (length state) stateSize) (planRefusal plan) ≡ 0 → planRefusal plan ≡ 0
+      not-refused true e f = eqb-true (planRefusal plan) 0 e
+      not-refused false e f = f
 
   -- What the code writes: the plan to the front, then 0 behind it.
   pub load-written : (copied : List ℕ) → copied ≡ plan ++ drop (length plan) state → length copied ≡ stateSize

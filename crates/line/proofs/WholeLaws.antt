@@ -1,13 +1,12 @@
 -- The check over the whole state: it finds nothing exactly where `stateAnswer` is 0.
 use Prim.Native.Nat.{ℕ, zero, suc, min, _+_, _*_, _-_, _<_, _≤_}
-use mathlib.Core.Path.{_≡_, refl, sym, ap, subst, _∙_}
-use mathlib.Core.Logic.{_↔_}
-use mathlib.Core.Bool.{Bool, true, false, not, _&&_, _||_, true≢false}
-use mathlib.Core.List.{List, [], _∷_}
+use mathlib.Core.Path.{_≡_, refl, sym, ap, _∙_}
+use mathlib.Core.Bool.{Bool, true, false, not, _&&_, true≢false}
+use mathlib.Core.List.{List}
 use native.Mathlib.Omega.{arith}
-use lib.ListN.{length, getD, take, drop, length-take}
+use lib.ListN.{length, take, length-take}
 use lib.Dec.{leb, eqb}
-use borrow.Author.Tests.{eq-eqb, eqb-true, le-leb, leb-true}
+use borrow.Author.Tests.{eq-eqb}
 use Rattle.plan.specs.Lawful.{Bytes}
 use Rattle.plan.specs.Plan.{Plan, planOf, planBytes, planSize, planNodes, planChannels, nodeCount, channelCount, channelAt}
 use Rattle.plan.specs.Check.{planRefusal, planFits}
@@ -15,8 +14,7 @@ use Rattle.plan.proofs.PlanLaws.{node-count, channel-count}
 use Rattle.plan.proofs.FitsLaws.{fitting}
 use Rattle.basics.specs.Bools.{both-true}
 use Rattle.rules.specs.Lists.{allOf, upTo}
-use Rattle.rules.specs.Line.{stepLimit, Lane, Line, nodeAt, laneAt, nodeNumbers, channelNumbersOf, parents, senderOf}
-use Rattle.rules.specs.Step.{replaying}
+use Rattle.rules.specs.Line.{stepLimit, Lane, Line, laneAt, nodeNumbers, channelNumbersOf, parents, senderOf}
 use Rattle.rules.specs.Damaged.{damaged}
 use Rattle.rules.proofs.Members.{all-in, in-up-to}
 use Rattle.state.specs.Sizes.{stateSize, planArea, stepsAt, countSize, stepsRest, pageAt, pageSize, blockAt, blockSize, parentLimit, nodePages, laneBlocks, tailAt, tailSize}
@@ -28,12 +26,12 @@ use Rattle.state.proofs.FieldLaws.{heard-four}
 use Rattle.state.proofs.HeardLaws.{heard-few}
 use Rattle.state.proofs.StoredPlan.{storedPlan, stored-accepted}
 use Rattle.state.proofs.AcceptedState.{state-checked}
-use Rattle.items.specs.Items.{nodeRight, channelRight, shapeRight, lineRight, replayRight}
+use Rattle.items.specs.Items.{nodeRight, channelRight, shapeRight, lineRight}
 use Rattle.items.proofs.LineItems.{line-items}
 use Rattle.line.specs.Exact.{pageExact, blockExact}
 use Rattle.line.specs.NodeCheck.{nodePlain}
 use Rattle.line.specs.Whole.{planExact, restExact, replayPlain, nodeChecked, channelChecked, stateChecked}
-use Rattle.line.proofs.ExactLaws.{Stands, and-stands, stands-as, leb-stands, eqb-stands, zero-stands, page-stands, block-stands}
+use Rattle.line.proofs.ExactLaws.{Stands, and-stands, eqb-stands, zero-stands, page-stands, block-stands}
 
 -- A test of each of some numbers.
 all-from : (f : ℕ → Bool) (k n : ℕ) → ((i : ℕ) → k ≤ i → i < k + n → f i ≡ true) → allOf f (upTo k n) ≡ true
@@ -49,7 +47,7 @@ unfolding nodeRight nodePlain replayPlain
 node-parts l n = and-stands (λ e. e, λ e. e) (λ e. e, λ e. e)
 
 -- A plan that fits: so many nodes and channels, and on a channel so many heard.
-fits-counted : (s : List ℕ) → planFits (planOf s) ≡ true → Counted s
+pub fits-counted : (s : List ℕ) → planFits (planOf s) ≡ true → Counted s
 fits-counted s e =
     let p = fitting (planOf s) e in
     record { nodes = rw node-count at (p .nodesMost); channels = rw channel-count at (p .channelsMost) }
@@ -167,7 +165,7 @@ checked-parts s =
     same : {b : Bool} → Stands b (b ≡ true)
     same = (λ e. e, λ e. e)
 
-plan-stands : (s : List ℕ) → Stands (planExact s) ((planRefusal (storedPlan s) ≡ 0) × ZerosAt (planSize (planNodes s) (planChannels s)) (planArea - planSize (planNodes s) (planChannels s)) s)
+pub plan-stands : (s : List ℕ) → Stands (planExact s) ((planRefusal (storedPlan s) ≡ 0) × ZerosAt (planSize (planNodes s) (planChannels s)) (planArea - planSize (planNodes s) (planChannels s)) s)
 unfolding planExact
 plan-stands s = and-stands (eqb-stands (planRefusal (storedPlan s)) 0) (zero-stands (planSize (planNodes s) (planChannels s)) (planArea - planSize (planNodes s) (planChannels s)) s)
 

@@ -5,3 +5,9 @@ pub mod Exact
 pub mod Ready
 pub mod NodeCheck
 pub mod Whole
+pub mod Write
+pub mod Channel
+pub mod Look
+pub mod Table
+pub mod Check
+pub mod Found

@@ -1,5 +1,5 @@
 -- The whole state as the check goes over it. `check-answer` of the proofs says that it is `stateAnswer`; the outer contract does not rest on believing this.
-use Prim.Native.Nat.{ℕ, _+_, _*_, _-_}
+use Prim.Native.Nat.{ℕ, _+_, _*_, _-_, _<_}
 use mathlib.Core.Bool.{Bool, not, _&&_, _||_}
 use mathlib.Core.List.{List}
 use lib.ListN.{take}
@@ -10,6 +10,7 @@ use Rattle.rules.specs.Lists.{allOf, upTo}
 use Rattle.rules.specs.Line.{stepLimit, Line}
 use Rattle.rules.specs.Step.{replaying}
 use Rattle.state.specs.Sizes.{planArea, stepsAt, countSize, stepsRest, pageAt, pageSize, nodePages, blockAt, blockSize, laneBlocks, tailAt, tailSize}
+use Rattle.state.specs.Right.{NodeRight}
 use Rattle.state.specs.Lane.{heardCount}
 use Rattle.state.specs.State.{lineOf}
 use Rattle.items.specs.Items.{replayRight, channelRight}
@@ -27,6 +28,10 @@ unfoldable pub restExact : List ℕ → Bool
 restExact s =
     zeroAt (stepsAt + countSize) stepsRest s && zeroAt (pageAt (planNodes s)) (pageSize * (nodePages - planNodes s)) s
     && zeroAt (blockAt (planChannels s)) (blockSize * (laneBlocks - planChannels s)) s && zeroAt tailAt tailSize s
+
+-- Every node's page has right bytes, so its counts are within their limits.
+abbrev pub PagesRight : List ℕ → Type 0
+PagesRight s = (k : ℕ) → k < planNodes s → NodeRight (pageAt k) s
 
 -- What a replay asks of a node.
 unfoldable pub replayPlain : Line → ℕ → Bool

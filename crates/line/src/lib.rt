@@ -1,8 +1,18 @@
 // The line in its lent buffer, for the panel: what is passed are bytes, what comes back is one number.
 ghost use mathlib.Core.Path.{_≡_};
+ghost use Rattle.state.specs.State.{stateAnswer};
 ghost use Rattle.line.specs.Load.{loadAnswer, loadLeft};
+ghost use Rattle.line.specs.Write.{writeAnswer, writeLeft};
 
 mod bytes;
+mod channel;
+mod check;
+mod look;
+mod node;
+mod origin;
+mod recover;
+mod table;
+mod whole;
 
 // The line's own limits (document 01, "The limits belong to the line itself").
 pub struct Line {
@@ -39,5 +49,37 @@ pub extern "C" fn line_load(plan: &[u8], state: &mut [u8]) -> u32
     }
     bytes::copy_to(plan, state);
     bytes::fill_zero(state, plan.len(), Line::STATE_SIZE);
+    0
+}
+
+// Check: 8 for a state of another size or a damaged one, 0 for a line.
+#[no_mangle]
+pub extern "C" fn line_check(state: &[u8]) -> u32
+    ensures { λ r. ⌜ r ≡ stateAnswer (now (state .entry)) ⌝ }
+{
+    if state.len() != Line::STATE_SIZE {
+        return 8;
+    }
+    if !whole::state_ok(state) {
+        return 8;
+    }
+    0
+}
+
+// Write: 8 as the check says, 23 for an output shorter than the plan, or 0 with the state's plan in the output.
+#[no_mangle]
+pub extern "C" fn line_write(state: &[u8], plan: &mut [u8]) -> u32
+    ensures { λ r. ⌜ (r ≡ writeAnswer (now (state .entry)) (now (plan .entry)))
+        × (now (plan .exit) ≡ writeLeft (now (state .entry)) (now (plan .entry))) ⌝ }
+{
+    let refusal = line_check(state);
+    if refusal != 0 {
+        return refusal;
+    }
+    let size = check::plan_size(state);
+    if plan.len() < size {
+        return 23;
+    }
+    bytes::copy_to(&state[0..size], plan);
     0
 }

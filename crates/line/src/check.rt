@@ -1,0 +1,43 @@
+// The check of the stored plan and of the parts that it leaves unused.
+ghost use mathlib.Core.Path.{_≡_};
+ghost use Prim.Native.Nat.{_≤_};
+ghost use lib.ListN.{length};
+ghost use Rattle.plan.specs.Plan.{planSize, planNodes, planChannels};
+ghost use Rattle.state.specs.Sizes.{stateSize, nodePages, laneBlocks};
+ghost use Rattle.line.specs.Whole.{planExact, restExact};
+use crate::bytes;
+use crate::look;
+
+// How long the stored plan is, by its own counts.
+pub fn plan_size(s: &[u8]) -> usize
+    requires { ⌜ 5 ≤ length (now s) ⌝ }
+    ensures { λ r. ⌜ (r ≡ planSize (planNodes (now (s .entry))) (planChannels (now (s .entry)))) × (r ≤ 2555) ⌝ }
+{
+    let n = look::index(s[3]);
+    let m = look::index(s[4]);
+    5 + 4 * n + 6 * m
+}
+
+// Whether the stored plan would not be refused, and nothing stands behind it.
+pub fn plan_ok(s: &[u8]) -> bool
+    requires { ⌜ length (now s) ≡ stateSize ⌝ }
+    ensures { λ r. ⌜ r ≡ planExact (now (s .entry)) ⌝ }
+{
+    let size = plan_size(s);
+    if plan::plan_check(&s[0..size]) != 0 {
+        return false;
+    }
+    bytes::all_zero(s, size, 512)
+}
+
+// Whether nothing stands in the parts that the plan leaves unused.
+pub fn rest_ok(s: &[u8], n: usize, m: usize) -> bool
+    requires { ⌜ (length (now s) ≡ stateSize) × (n ≡ planNodes (now s)) × (m ≡ planChannels (now s)) × (n ≤ nodePages) × (m ≤ laneBlocks) ⌝ }
+    ensures { λ r. ⌜ r ≡ restExact (now (s .entry)) ⌝ }
+{
+    let a = bytes::all_zero(s, 516, 4096);
+    let b = bytes::all_zero(s, 4096 * (1 + n), 53_248);
+    let c = bytes::all_zero(s, 53_248 + 320 * m, 60_928);
+    let d = bytes::all_zero(s, 60_928, 61_440);
+    ((a & b) & c) & d
+}

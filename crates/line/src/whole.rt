@@ -1,0 +1,110 @@
+// The check of the whole state (document 01, "Damaged"): part by part, then every node's page, every channel's block, and what the replays ask.
+ghost use mathlib.Core.Path.{_≡_};
+ghost use mathlib.Core.Bool.{true};
+ghost use Prim.Native.Nat.{_<_};
+ghost use lib.ListN.{length};
+ghost use Rattle.plan.specs.Plan.{planNodes, planChannels};
+ghost use Rattle.rules.specs.Lists.{allOf, upTo};
+ghost use Rattle.state.specs.Sizes.{stateSize, stepsAt};
+ghost use Rattle.state.specs.Right.{wordAt};
+ghost use Rattle.state.specs.State.{lineOf};
+ghost use Rattle.line.specs.Ready.{Ready};
+ghost use Rattle.line.specs.Table.{Table};
+ghost use Rattle.line.specs.Whole.{PagesRight, planExact, nodeChecked, channelChecked, replayPlain, stateChecked};
+use crate::Line;
+use crate::bytes;
+use crate::channel;
+use crate::check;
+use crate::look;
+use crate::node;
+use crate::recover;
+use crate::table;
+
+// Every node's page, but for what its replay asks.
+fn pages_ok(s: &[u8], t: &[u8; 156], n: usize, steps: u32) -> bool
+    requires { ⌜ Ready (now s) × Table (now s) (now t) × (n ≡ planNodes (now s)) × (steps ≡ wordAt stepsAt (now s)) ⌝ }
+    ensures { λ r. ⌜ r ≡ allOf (nodeChecked (now (s .entry))) (upTo 0 n) ⌝ }
+{
+    let mut ok = true;
+    let mut k: usize = 0;
+    while k < n {
+        ok = ok & node::node_ok(s, t, k, steps);
+        k += 1;
+    }
+    ok
+}
+
+fn nodes_ok(s: &[u8], n: usize, steps: u32) -> bool
+    requires { ⌜ Ready (now s) × (n ≡ planNodes (now s)) × (steps ≡ wordAt stepsAt (now s)) ⌝ }
+    ensures { λ r. ⌜ r ≡ allOf (nodeChecked (now (s .entry))) (upTo 0 n) ⌝ }
+{
+    let mut t: [u8; 156] = [255; 156];
+    table::fill(s, &mut t);
+    pages_ok(s, &t, n, steps)
+}
+
+// Every channel's block.
+fn channels_ok(s: &[u8], m: usize, steps: u32) -> bool
+    requires { ⌜ Ready (now s) × (m ≡ planChannels (now s)) × (steps ≡ wordAt stepsAt (now s)) ⌝ }
+    ensures { λ r. ⌜ r ≡ allOf (channelChecked (now (s .entry))) (upTo 0 m) ⌝ }
+{
+    let mut ok = true;
+    let mut b: usize = 0;
+    while b < m {
+        ok = ok & channel::channel_ok(s, b, steps);
+        b += 1;
+    }
+    ok
+}
+
+// What a node's replay asks, if it has one.
+fn replay_kept(s: &[u8], k: usize) -> bool
+    requires { ⌜ Ready (now s) × PagesRight (now s) × (k < planNodes (now s)) ⌝ }
+    ensures { λ r. ⌜ r ≡ replayPlain (lineOf (now (s .entry))) k ⌝ }
+{
+    if !channel::is_replaying(s, k) {
+        return true;
+    }
+    recover::replay_ok(s, k)
+}
+
+// What every node's replay asks.
+fn replays_ok(s: &[u8], n: usize) -> bool
+    requires { ⌜ Ready (now s) × PagesRight (now s) × (n ≡ planNodes (now s)) ⌝ }
+    ensures { λ r. ⌜ r ≡ allOf (replayPlain (lineOf (now (s .entry)))) (upTo 0 n) ⌝ }
+{
+    let mut ok = true;
+    let mut k: usize = 0;
+    while k < n {
+        ok = ok & replay_kept(s, k);
+        k += 1;
+    }
+    ok
+}
+
+// All that stands behind a plan that would not be refused.
+fn line_ok(s: &[u8], n: usize, m: usize) -> bool
+    requires { ⌜ Ready (now s) × (planExact (now s) ≡ true) × (n ≡ planNodes (now s)) × (m ≡ planChannels (now s)) ⌝ }
+    ensures { λ r. ⌜ r ≡ stateChecked (now (s .entry)) ⌝ }
+{
+    let steps = bytes::get32(s, 512);
+    let rest = check::rest_ok(s, n, m);
+    let nodes = nodes_ok(s, n, steps);
+    let channels = channels_ok(s, m, steps);
+    let found = rest & (steps <= Line::STEP_LIMIT) & nodes & channels;
+    if !found {
+        return false;
+    }
+    replays_ok(s, n)
+}
+
+// All of it.
+pub fn state_ok(s: &[u8]) -> bool
+    requires { ⌜ length (now s) ≡ stateSize ⌝ }
+    ensures { λ r. ⌜ r ≡ stateChecked (now (s .entry)) ⌝ }
+{
+    if !check::plan_ok(s) {
+        return false;
+    }
+    line_ok(s, look::index(s[3]), look::index(s[4]))
+}
