@@ -8,8 +8,9 @@ use Rattle.plan.specs.declared.Rule.the-variants.{Keep}
 use Rattle.plan.specs.Plan.{Plan}
 use Rattle.plan.specs.Check.{planRefusal}
 use Rattle.rules.specs.Lists.{keep, joined}
-use Rattle.rules.specs.Line.{made, initialLine}
-use Rattle.rules.specs.Clock.{raiseHeard}
+use Rattle.rules.specs.Line.{fed, made, Message, Lane, initialLine}
+use Rattle.rules.specs.Clock.{raiseHeard, takenFrom}
+use Rattle.rules.specs.Plain.{Receipt}
 use Rattle.rules.specs.Claim.{startOf, storyFrom, told}
 use Rattle.rules.specs.Marked.{channel, feedFrame, frame, moved, replayPlan, replayBegun, replayAfter}
 
@@ -43,8 +44,11 @@ unfoldable pub answers : ℕ → List (List ℕ) → List ℕ
 unfolding chain answersOn
 answers = answersOn chain
 
+abbrev clockNumbers : Lane → List ℕ
+clockNumbers s = s .mark ∷ s .taken ∷ s .heard
+
 unfoldable pub exampleTable : List Example
-unfolding planRefusal answers answersOn replayPlan replayBegun replayAfter told
+unfolding planRefusal answers answersOn chain initialLine takenFrom replayPlan replayBegun replayAfter told
 exampleTable =
     record { given = map planRefusal ((0 ∷ 5 ∷ 1 ∷ []) ∷ smallPlan 19 0 2 0 0 ∷ smallPlan 19 1 13 0 0 ∷ (0 ∷ 18 ∷ 1 ∷ 2 ∷ 1 ∷ replicate 13 0) ∷ smallPlan 19 1 2 3 0 ∷ smallPlan 19 1 2 0 1 ∷ widePlan ∷ smallPlan 19 1 2 0 0 ∷ []); expected = 1 ∷ 2 ∷ 3 ∷ 4 ∷ 5 ∷ 6 ∷ 7 ∷ 0 ∷ [] }
     -- 9, 10, 11: "`00 05 01 02`", "third byte 0", "Send of 13 bytes"
@@ -80,6 +84,11 @@ exampleTable =
     ∷ record { given = replayAfter .line .steps ∷ length (keep (eqb 0) (replayAfter .numbers)) ∷ []; expected = 25 ∷ 25 ∷ [] }
     -- a clock entry is raised: the greatest time heard stays
     ∷ record { given = raiseHeard (0 ∷ 1 ∷ []) (5 ∷ 2 ∷ []) (made 0 3); expected = 5 ∷ 2 ∷ [] }
+    ∷ record { given = raiseHeard (0 ∷ 1 ∷ []) (5 ∷ 2 ∷ []) (made 1 3); expected = 5 ∷ 3 ∷ [] }
+    -- so is the entry for the sender; a Take leaves the mark
+    ∷ record { given = clockNumbers (takenFrom [] (record { what = record { piece = 1; material = 1; mass = 0 }; time = 1; origin = fed }) [] (record { mark = 5; taken = 3; heard = []; queue = [] })); expected = 5 ∷ 3 ∷ [] }
+    -- "removes the belt's first message": pieces 1 and 2 go on it, 1 is taken
+    ∷ record { given = map (λ (r : Receipt). r .what .piece) (storyFrom (startOf (initialLine chain)) (feedFrame 0 1 1 ∷ feedFrame 0 2 1 ∷ frame 2 0 ∷ frame 2 0 ∷ frame 3 0 ∷ []) .receipts); expected = 1 ∷ [] }
     ∷ []
 
 pub examples-hold : map (λ (r : Example). r .given) exampleTable ≡ map (λ (r : Example). r .expected) exampleTable
