@@ -89,7 +89,7 @@ plan-ready s long bytes e =
     let few = fits-counted s fits in
     record { long = long; fits = fits; nodes = few .nodes; channels = few .channels }
 
--- A channel's check, and a replay's, by what is found.
+-- What a replay asks, by whether the node replays.
 pub replay-none : (s : List ℕ) (k : ℕ) → replaying (lineOf s) k ≡ false → true ≡ replayPlain (lineOf s) k
 unfolding replayPlain
 replay-none s k e = rw e refl

@@ -1,5 +1,5 @@
 -- The channels that leave a node, found one by one among the plan's; low and high over them.
-use Prim.Native.Nat.{ℕ, suc, _+_, _≤_, _<_, min, max}
+use Prim.Native.Nat.{ℕ, suc, _+_, _≤_, _<_, max}
 use mathlib.Core.Path.{_≡_, refl, sym, ap, _∙_}
 use mathlib.Core.Bool.{Bool, true, false, not, cond, _||_}
 use mathlib.Core.List.{List, [], _∷_, _++_, map}
@@ -7,16 +7,16 @@ use native.Mathlib.Nat.{add-zero}
 use native.Mathlib.Numerals.{add-one}
 use native.Mathlib.Omega.{arith}
 use lib.Dec.{eqb}
-use lib.ListN.{length, getD, take}
+use lib.ListN.{length, take}
 use lib.Seq.{take-suc, take-all, length-take-le}
 use Rattle.plan.specs.declared.Channel.{Channel}
-use Rattle.plan.specs.Plan.{Plan, planOf, planNodes, planChannels, nodeCount, channelCount, channelAt, noChannel, keepIf, numbersFrom, leaving}
+use Rattle.plan.specs.Plan.{Plan, planOf, planNodes, planChannels, channelCount, channelAt, noChannel, keepIf, numbersFrom, leaving}
 use Rattle.plan.proofs.PlanLaws.{node-count, channel-count}
 use Rattle.plan.proofs.FitsLaws.{fitting}
 use Rattle.rules.specs.Lists.{keepOne, isEmpty, greatestOf, leastOf}
-use Rattle.rules.specs.Line.{Line, laneAt}
+use Rattle.rules.specs.Line.{laneAt}
 use Rattle.rules.specs.Recover.{childTimes, lowOf, highOf}
-use Rattle.rules.proofs.ListLaws.{nil-right, map-append, map-more}
+use Rattle.rules.proofs.ListLaws.{nil-right, map-more}
 use Rattle.rules.proofs.PlanOrder.{ordered-channels}
 use Rattle.state.specs.State.{lineOf}
 use Rattle.state.proofs.InPlace.{Counted, line-plan}

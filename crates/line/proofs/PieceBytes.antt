@@ -1,21 +1,22 @@
 -- What stands in a slot, byte by byte.
-use Prim.Native.Nat.{ℕ, _+_, _-_, _^_, _≤_}
+use Prim.Native.Nat.{ℕ, _+_, _-_, suc, _≤_, _<_}
 use mathlib.Core.Path.{_≡_, refl, sym, ap, ap₂, _∙_}
-use mathlib.Core.Bool.{Bool, true, false, not, _&&_, _||_, and-true, and-assoc}
+use mathlib.Core.Bool.{Bool, true, false, not, _&&_, _||_, and-true, and-assoc, or-false}
 use mathlib.Core.List.{List, [], _∷_}
 use native.Mathlib.Nat.{add-zero}
 use native.Mathlib.Omega.{arith}
-use borrow.Author.Tests.{ne-eqb}
-use lib.Pow.{pow-pos}
+use borrow.Author.Tests.{eq-eqb, ne-eqb}
 use lib.Dec.{lit≤, lit<, leb, eqb}
 use lib.ListN.{length, getD, take, drop, length-drop}
 use lib.Seq.{take-take, getD-drop}
 use Rattle.plan.specs.Layout.{spelled}
 use Rattle.plan.specs.declared.Record.{Record}
 use Rattle.plan.specs.Record.{recordLayout}
-use Rattle.plan.specs.Plan.{planOf, planChannels, entering}
-use Rattle.plan.specs.Mask.{maskOf, taking, planMask}
-use Rattle.plan.proofs.MaskLaws.{mask-few}
+use Rattle.plan.specs.Plan.{Plan, planOf, planChannels, channelAt, keepIf, entering}
+use Rattle.plan.specs.declared.Channel.{Channel}
+use Rattle.plan.specs.Channel.{takes}
+use Rattle.plan.specs.Mask.{taking}
+use Rattle.plan.proofs.PlanLaws.{channel-count}
 use Rattle.rules.specs.Lists.{isEmpty}
 use Rattle.rules.specs.Line.{Line, made}
 use Rattle.rules.specs.Replay.{passedOn}
@@ -25,6 +26,8 @@ use Rattle.state.proofs.ReadLaws.{part-part, byte-part, origin-read, entry-read
 use Rattle.items.specs.Items.{ifFound, fromSender, recordRight, originRight, entryRight, heldRight, targetRight}
 use Rattle.line.specs.Exact.{zeroAt, recordExact, entryExact, heldExact, targetExact}
 use Rattle.line.specs.Zero.{zeroBytes}
+use Rattle.line.specs.Look.{channelFrom}
+use Rattle.line.proofs.LookLaws.{numbersOn, numbers-turn, numbers-end, sender-byte}
 use Rattle.line.specs.Check.{recordIn, entryIn, heldIn, targetIn}
 use Rattle.line.proofs.BytesLaws.{zero-test}
 
@@ -153,14 +156,37 @@ module _ (l : Line) (n a : ℕ) (s : List ℕ) (long : a + 20 ≤ length s) (q t
       rw (f, g, h, held-right, held-exact)
       (held-parts (recordExact a s) (not (eqb e 0) || eqb u 0) (eqb (getD s (a + 18) 0) 0 && eqb (getD s (a + 19) 0) 0) (recordRight (recordIn a s)) (originRight l n (made q t) (originFrom e u)) (passedOn (l .plan) n (recordIn a s)))
 
--- A mask is 0 where no channel is in it.
-mask-empty : (bs : List ℕ) → eqb (maskOf bs) 0 ≡ isEmpty bs
-mask-empty [] = refl
-mask-empty (b ∷ bs) = ne-eqb (2 ^ b + maskOf bs) 0 (λ e. omega (arith, e, pow-pos b))
+-- Whether a channel takes a record, one channel at a time: of those from b on.
+abbrev pub takesOn : Plan → ℕ → Record → ℕ → Bool
+takesOn p n r b = not (isEmpty (numbersOn p (λ (c : Channel). eqb (c .sender) n && takes c r) b))
 
-pub passed-tested : (s : List ℕ) (n mask : ℕ) (r : Record) → planChannels s ≤ 24 → mask ≡ planMask s (taking (planOf s) n r) → not (eqb mask 0) ≡ passedOn (planOf s) n r
-unfolding passedOn
-passed-tested s n mask r h e = rw (e, mask-few s h (taking (planOf s) n r)) (ap not (mask-empty (taking (planOf s) n r)))
+pub takes-whole : (p : Plan) (n : ℕ) (r : Record) → takesOn p n r 0 ≡ passedOn p n r
+unfolding passedOn taking
+takes-whole p n r = refl
+
+some-kept : (found t : Bool) (b : ℕ) (bs : List ℕ) → (found || not (isEmpty (keepIf t b bs))) ≡ ((found || t) || not (isEmpty bs))
+some-kept true t b bs = refl
+some-kept false true b bs = refl
+some-kept false false b bs = refl
+
+module _ (s : List ℕ) (n : ℕ) (r : Record) (found : Bool) (b : ℕ) where
+  takes-turn : b < planChannels s → (found || takesOn (planOf s) n r b) ≡ ((found || (eqb (channelAt (planOf s) b .sender) n && takes (channelAt (planOf s) b) r)) || takesOn (planOf s) n r (suc b))
+  takes-turn h =
+      let f : Channel → Bool = λ c. eqb (c .sender) n && takes c r in
+      ap (λ (bs : List ℕ). found || not (isEmpty bs)) (numbers-turn (planOf s) f b (rw channel-count h)) ∙ some-kept found (f (channelAt (planOf s) b)) b (numbersOn (planOf s) f (suc b))
+
+  module _ (at sender : ℕ) (h : b < planChannels s) (there : at ≡ channelFrom s b) (e : sender ≡ getD s at 0) where
+    named : sender ≡ channelAt (planOf s) b .sender
+    named = e ∙ rw there (sender-byte s b h)
+
+    pub takes-here : (now : Bool) → sender ≡ n → now ≡ takes (channelAt (planOf s) b) r → (found || takesOn (planOf s) n r b) ≡ ((found || now) || takesOn (planOf s) n r (suc b))
+    takes-here now same g = takes-turn h ∙ rw (eq-eqb (channelAt (planOf s) b .sender) n (sym named ∙ same), g) refl
+
+    pub takes-past : (sender ≡ n → ⊥) → (found || takesOn (planOf s) n r b) ≡ (found || takesOn (planOf s) n r (suc b))
+    takes-past other = takes-turn h ∙ rw (ne-eqb (channelAt (planOf s) b .sender) n (λ z. other (named ∙ z)), or-false found) refl
+
+  pub takes-end : planChannels s ≤ b → (found || takesOn (planOf s) n r b) ≡ found
+  takes-end h = ap (λ (bs : List ℕ). found || not (isEmpty bs)) (numbers-end (planOf s) (λ (c : Channel). eqb (c .sender) n && takes c r) b (rw channel-count h)) ∙ or-false found
 
 -- ---- a target
 

@@ -1,5 +1,5 @@
 -- A replaying node's own targets, compared with those found.
-use Prim.Native.Nat.{ℕ, zero, suc, _+_, _*_, _≤_, _<_, min}
+use Prim.Native.Nat.{ℕ, suc, _+_, _*_, _≤_, _<_}
 use mathlib.Core.Path.{_≡_, refl, sym, ap, _∙_}
 use mathlib.Core.Logic.{_⊎_, inl, inr}
 use mathlib.Core.Bool.{Bool, true, false, not, _&&_, _||_, and-assoc, and-true, and-false}
@@ -13,9 +13,9 @@ use lib.ListN.{length, getD, take, drop, drop-of-length-le}
 use lib.Seq.{drop-cons, take-take}
 use Rattle.basics.specs.Bools.{neither-true}
 use Rattle.plan.specs.Layout.{spelled}
-use Rattle.plan.specs.Plan.{planNodes, entering}
+use Rattle.plan.specs.Plan.{planNodes}
 use Rattle.plan.proofs.ReadLaws.{byte-field}
-use Rattle.rules.specs.Lists.{isEmpty, allOf}
+use Rattle.rules.specs.Lists.{isEmpty}
 use Rattle.rules.specs.Line.{targetLimit, Target, Line, nodeAt}
 use Rattle.rules.specs.Recover.{sameTarget, lowOf, targetsOf, conflict}
 use Rattle.rules.specs.Damaged.{sameTargets}
@@ -25,16 +25,20 @@ use Rattle.state.specs.Right.{wordAt}
 use Rattle.state.specs.State.{lineOf}
 use Rattle.state.proofs.ReadLaws.{part-part, byte-part, target-read}
 use Rattle.state.proofs.OffsetLaws.{line-targets-count, line-target-at}
-use Rattle.items.specs.Items.{rowRestored, replayRight}
+use Rattle.items.specs.Items.{replayRight}
 use Rattle.line.specs.Ready.{Ready}
-use Rattle.line.specs.Found.{target, targetsIn, Holds, Found, rowsIn, noTarget, replayFound}
+use Rattle.line.specs.Found.{target, targetsIn, Found, rowsIn, noTarget, replayFound}
 use Rattle.line.proofs.ChildLaws.{ready-counted}
 
 -- ---- a node's own targets
 
 module _ (s : List ℕ) (ready : Ready s) (n : ℕ) (inside : n < planNodes s) where
-  pub stored-length : wordAt (pageAt n + targetsAt) s ≤ targetLimit → length (nodeAt (lineOf s) n .targets) ≡ wordAt (pageAt n + targetsAt) s
+  stored-length : wordAt (pageAt n + targetsAt) s ≤ targetLimit → length (nodeAt (lineOf s) n .targets) ≡ wordAt (pageAt n + targetsAt) s
   stored-length few = omega (arith, line-targets-count s (ready-counted ready) n inside, few)
+
+  -- The count, as the code reads it.
+  pub stored-count : wordAt (pageAt n + targetsAt) s ≤ targetLimit → (at r : ℕ) → at ≡ pageAt n + targetsAt → r ≡ wordAt at s → r ≡ length (nodeAt (lineOf s) n .targets)
+  stored-count few at r place e = e ∙ ap (λ (a : ℕ). wordAt a s) place ∙ sym (stored-length few)
 
   pub stored-at : (i at time parent sent : ℕ) → i < targetLimit → i < wordAt (pageAt n + targetsAt) s → at ≡ pageAt n + (targetsAt + countSize + targetSize * i)
       → time ≡ wordAt at s → parent ≡ spelled 0 (take 1 (drop (at + 8) s)) → sent ≡ wordAt (at + 4) s → target time parent sent ≡ getD (nodeAt (lineOf s) n .targets) i noTarget

@@ -5,14 +5,14 @@ use mathlib.Core.Bool.{Bool, true, false, not, cond, _&&_, _||_, or-assoc, or-fa
 use mathlib.Core.List.{List, [], _∷_, _++_, map}
 use native.Mathlib.Numerals.{add-one}
 use native.Mathlib.Omega.{arith}
-use lib.Dec.{leb, eqb}
+use lib.Dec.{eqb}
 use lib.ListN.{length, getD, take, drop, drop-of-length-le}
 use lib.Seq.{take-suc, take-all, drop-cons}
 use Rattle.plan.specs.declared.Channel.{Channel}
 use Rattle.plan.specs.Plan.{Plan, planOf, planChannels, channelAt, entering}
 use Rattle.plan.proofs.PlanLaws.{channel-count}
 use Rattle.rules.specs.Lists.{keep, keepOne, allOf, anyOf, greatestOf}
-use Rattle.rules.specs.Line.{Target, Line}
+use Rattle.rules.specs.Line.{Target}
 use Rattle.rules.specs.Recover.{clash, conflict, rowGoal}
 use Rattle.rules.proofs.ListLaws.{keep-append, map-more}
 use Rattle.state.specs.State.{lineOf}

@@ -1,13 +1,13 @@
 -- The triples of a child's log, entry by entry, and of all the children's, channel by channel.
-use Prim.Native.Nat.{ℕ, zero, suc, _+_, _*_, _-_, _≤_, _<_, min, max}
+use Prim.Native.Nat.{ℕ, zero, suc, _+_, _*_, _-_, _≤_, _<_, max}
 use mathlib.Core.Path.{_≡_, refl, sym, ap, ap₂, _∙_}
-use mathlib.Core.Bool.{Bool, true, false, not, cond, _&&_, and-false, and-assoc}
+use mathlib.Core.Bool.{Bool, true, false, not, cond, _&&_, and-false}
 use mathlib.Core.List.{List, [], _∷_, _++_, map, append-assoc}
-use native.Mathlib.Nat.{add-zero, add-assoc}
+use native.Mathlib.Nat.{add-zero}
 use native.Mathlib.Numerals.{add-one}
 use native.Mathlib.Omega.{arith}
 use borrow.Author.Tests.{eq-eqb, ne-eqb}
-use lib.Dec.{lit≤, leb, ltb, eqb, eqb·zero-suc, eqb·suc-zero, eqb·suc-suc}
+use lib.Dec.{lit≤, leb, eqb, eqb·zero-suc, eqb·suc-zero, eqb·suc-suc}
 use lib.ListN.{length, getD, take, drop}
 use lib.Seq.{take-suc, take-all}
 use Rattle.plan.specs.declared.Channel.{Channel}
@@ -16,7 +16,7 @@ use Rattle.plan.specs.Plan.{planOf, planNodes, planChannels, channelAt}
 use Rattle.plan.proofs.PlanLaws.{channel-count}
 use Rattle.plan.proofs.ReadLaws.{byte-field}
 use Rattle.rules.specs.Lists.{keep, keepOne, joined, greatestOf}
-use Rattle.rules.specs.Line.{logLimit, Origin, Entry, Target, Line, nodeAt}
+use Rattle.rules.specs.Line.{Entry, Target, nodeAt}
 use Rattle.rules.specs.Recover.{lowOf, triple, triples, childTriples, restored}
 use Rattle.rules.proofs.ListLaws.{nil-right, keep-append, map-append, map-more}
 use Rattle.state.specs.Sizes.{countSize, entrySize, pageAt, logAt}

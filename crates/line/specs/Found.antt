@@ -7,7 +7,7 @@ use lib.Dec.{leb, ltb, eqb}
 use lib.ListN.{length, getD, set, take, drop}
 use Rattle.plan.specs.Plan.{planOf, planNodes, channelAt, entering}
 use Rattle.rules.specs.Lists.{keep, allOf, greatestOf}
-use Rattle.rules.specs.Line.{logLimit, Origin, fed, Entry, Target, Line, nodeAt, senderOf}
+use Rattle.rules.specs.Line.{logLimit, fed, Entry, Target, Line, nodeAt, senderOf}
 use Rattle.rules.specs.Recover.{triple, triples, sameTarget, targetBefore, addTarget, sortTargets, restored, conflict, rowGoal}
 use Rattle.rules.specs.Damaged.{sameTargets}
 use Rattle.state.specs.Sizes.{pageAt, logAt}

@@ -91,7 +91,20 @@ fn passed_on(s: &[u8], n: usize, at: usize) -> bool
     requires { ⌜ Ready (now s) × (at + 8 ≤ length (now s)) ⌝ }
     ensures { λ r. ⌜ r ≡ passedOn (planOf (now (s .entry))) n (recordIn at (now (s .entry))) ⌝ }
 {
-    plan::taking_mask(s, n, record_at(s, at)) != 0
+    let what = record_at(s, at);
+    let m = look::channel_count(s);
+    let mut from = look::channels_at(s);
+    let mut found = false;
+    let mut b: usize = 0;
+    while b < m {
+        let sender = look::index(s[from]);
+        if sender == n {
+            found = found | plan::channel_takes(plan::channel_at(s, b), what);
+        }
+        from += 6;
+        b += 1;
+    }
+    found
 }
 
 // A held record: record, sender and its time, what that was made from, two bytes unused.

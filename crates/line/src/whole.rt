@@ -34,6 +34,7 @@ fn pages_ok(s: &[u8], t: &[u8; 156], n: usize, steps: u32) -> bool
     ok
 }
 
+// The same, with the plan's channels in a table.
 fn nodes_ok(s: &[u8], n: usize, steps: u32) -> bool
     requires { ⌜ Ready (now s) × (n ≡ planNodes (now s)) × (steps ≡ wordAt stepsAt (now s)) ⌝ }
     ensures { λ r. ⌜ r ≡ allOf (nodeChecked (now (s .entry))) (upTo 0 n) ⌝ }

@@ -2,11 +2,8 @@ use Prim.Native.Nat.{ℕ, _+_, _*_}
 use mathlib.Core.Path.{_≡_, ap, sym, _∙_}
 use native.Mathlib.Omega.{arith}
 use borrow.Author.Needs.{needs}
-use lib.ListN.{length}
-use Rattle.rules.specs.Line.{nodeAt}
 use Rattle.state.specs.Right.{wordAt}
 use Rattle.state.specs.Sizes.{pageAt, logAt}
-use Rattle.state.specs.State.{lineOf}
 use Rattle.line.proofs.TripleLaws.{log-length}
 use Rattle.line.proofs.recover.log_count.Statement.{statement}
 use Rattle.line.proofs.recover.log_count.Tie as tie

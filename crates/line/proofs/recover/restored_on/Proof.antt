@@ -1,8 +1,8 @@
-use Prim.Native.Nat.{ℕ, max, _<_}
+use Prim.Native.Nat.{ℕ, max}
 use mathlib.Core.Path.{_≡_, sym, ap, _∙_}
 use native.Mathlib.Omega.{arith}
-use Rattle.plan.specs.Plan.{planOf, planNodes, channelAt}
-use Rattle.rules.specs.Line.{nodeAt, Target}
+use Rattle.plan.specs.Plan.{planOf, channelAt}
+use Rattle.rules.specs.Line.{nodeAt}
 use Rattle.rules.specs.Recover.{triples}
 use Rattle.state.specs.State.{lineOf}
 use Rattle.line.specs.Found.{restoredOver}

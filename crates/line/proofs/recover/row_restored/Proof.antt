@@ -1,10 +1,7 @@
-use mathlib.Core.Path.{_≡_, refl, sym, ap, ap₂, _∙_}
-use mathlib.Core.Bool.{Bool, not, _||_}
-use Prim.Native.Nat.{ℕ}
+use mathlib.Core.Path.{_≡_, sym, ap, ap₂, _∙_}
 use borrow.Author.Tests.{eq-eqb, ne-eqb}
 use lib.Dec.{leb}
 use Rattle.plan.specs.Plan.{planOf, channelAt}
-use Rattle.rules.specs.Recover.{rowGoal, restored}
 use Rattle.state.specs.State.{lineOf}
 use Rattle.line.specs.Found.{targetsIn, rowIn}
 use Rattle.line.proofs.recover.row_restored.Statement.{statement}

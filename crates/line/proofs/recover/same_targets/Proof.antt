@@ -1,16 +1,15 @@
-use Prim.Native.Nat.{ℕ, _+_, _*_, _-_, _≤_, _<_}
+use Prim.Native.Nat.{ℕ, _+_, _*_, _-_}
 use mathlib.Core.Path.{_≡_, refl, sym, ap, _∙_}
-use mathlib.Core.List.{List}
 use native.Mathlib.Omega.{arith}
 use borrow.Author.Needs.{needs}
 use lib.ListN.{length}
-use Rattle.rules.specs.Line.{Target, nodeAt}
+use Rattle.rules.specs.Line.{nodeAt}
 use Rattle.state.specs.Sizes.{pageAt, targetsAt}
 use Rattle.state.specs.Right.{wordAt}
 use Rattle.state.specs.State.{lineOf}
 use Rattle.line.specs.Found.{noTarget, goalTarget, targetsIn}
 use Rattle.line.proofs.TargetLaws.{targets-length, targets-at}
-use Rattle.line.proofs.ReplayLaws.{stored-length, sizes-differ, Matching, matching-turn, matching-end}
+use Rattle.line.proofs.ReplayLaws.{stored-count, sizes-differ, Matching, matching-turn, matching-end}
 use Rattle.line.proofs.recover.same_targets.Statement.{statement}
 use Rattle.line.proofs.recover.same_targets.Tie as tie
 
@@ -20,9 +19,6 @@ Inv-loop s n xs count stored ok₀ i₀ ok i = Matching (nodeAt (lineOf s) n .ta
 abbrev μ-loop : tie.MeasureT-loop
 μ-loop s n xs count stored ok₀ i₀ ok i = count - i
 
-place : (n : ℕ) → 6928 + 4096 * n ≡ pageAt n + targetsAt
-place n = omega arith
-
 returns : tie.Need-returns Inv-loop μ-loop
 returns c =
     let first = c .before .before .before .before .before in
@@ -30,7 +26,7 @@ returns c =
     let s = a .s .now in
     let p = first .pre in
     let is : c .before .size .result ≡ length (nodeAt (lineOf s) (a .n) .targets) =
-    c .before .size .ensures ∙ c .before .before .get32 .ensures ∙ ap (λ (x : ℕ). wordAt x s) (place (a .n)) ∙ sym (stored-length s (p .0) (a .n) (p .1) (p .2)) in
+    stored-count s (p .0) (a .n) (p .1) (p .2) (6928 + 4096 * a .n) (c .before .size .result) (omega arith) (c .before .size .ensures ∙ c .before .before .get32 .ensures) in
     sym (sizes-differ (nodeAt (lineOf s) (a .n) .targets) (targetsIn (a .xs .now) (a .count)) (λ e. c .if1 .taken (is ∙ e ∙ targets-length (a .xs .now) (a .count))))
 
 loop-holds : tie.Need-loop-holds Inv-loop μ-loop
@@ -38,11 +34,12 @@ loop-holds c = record { within = omega arith; now = refl }
 
 stored-goal-requires : tie.Need-stored-goal-requires Inv-loop μ-loop
 stored-goal-requires c κs =
-    let first = c .before .before .before .before .before .before .before in
+    let asked = c .before .before in
+    let first = asked .before .before .before .before .before in
     let a = first .args in
     let p = first .pre in
-    let is : a .count ≡ wordAt (pageAt (a .n) + targetsAt) (a .s .now) =
-    sym (c .before .before .if1 .left) ∙ c .before .before .before .size .ensures ∙ c .before .before .before .before .get32 .ensures ∙ ap (λ (x : ℕ). wordAt x (a .s .now)) (place (a .n)) in
+    let place : 6928 + 4096 * a .n ≡ pageAt (a .n) + targetsAt = omega arith in
+    let is : a .count ≡ wordAt (pageAt (a .n) + targetsAt) (a .s .now) = sym (asked .if1 .left) ∙ asked .before .size .ensures ∙ asked .before .before .get32 .ensures ∙ ap (λ (x : ℕ). wordAt x (a .s .now)) place in
     (p .0, p .1, omega (arith, p .4), omega (arith, is))
 
 goal-at-requires : tie.Need-goal-at-requires Inv-loop μ-loop
@@ -57,7 +54,7 @@ loop-again c =
     let s = a .s .now in
     let p = first .pre in
     let is : a .count ≡ length (nodeAt (lineOf s) (a .n) .targets) =
-    sym (asked .if1 .left) ∙ asked .before .size .ensures ∙ asked .before .before .get32 .ensures ∙ ap (λ (x : ℕ). wordAt x s) (place (a .n)) ∙ sym (stored-length s (p .0) (a .n) (p .1) (p .2)) in
+    stored-count s (p .0) (a .n) (p .1) (p .2) (6928 + 4096 * a .n) (a .count) (omega arith) (sym (asked .if1 .left) ∙ asked .before .size .ensures ∙ asked .before .before .get32 .ensures) in
     matching-turn (nodeAt (lineOf s) (a .n) .targets) (targetsIn (a .xs .now) (a .count)) (t .ok) (t .i) (goalTarget (c .before .before .stored-goal .result)) (goalTarget (c .before .goal-at .result)) (c .is-same .result)
     (omega (arith, is)) (rw targets-length (omega arith)) (c .before .before .stored-goal .ensures) (c .before .goal-at .ensures ∙ sym (targets-at (a .xs .now) (a .count) (t .i) noTarget (omega arith))) (c .is-same .ensures) (t .inv)
 
@@ -70,7 +67,7 @@ returns-2 c =
     let s = a .s .now in
     let p = first .pre in
     let is : a .count ≡ length (nodeAt (lineOf s) (a .n) .targets) =
-    sym (asked .if1 .left) ∙ asked .before .size .ensures ∙ asked .before .before .get32 .ensures ∙ ap (λ (x : ℕ). wordAt x s) (place (a .n)) ∙ sym (stored-length s (p .0) (a .n) (p .1) (p .2)) in
+    stored-count s (p .0) (a .n) (p .1) (p .2) (6928 + 4096 * a .n) (a .count) (omega arith) (sym (asked .if1 .left) ∙ asked .before .size .ensures ∙ asked .before .before .get32 .ensures) in
     matching-end (nodeAt (lineOf s) (a .n) .targets) (targetsIn (a .xs .now) (a .count)) (t .ok) (t .i) (omega (arith, is)) (rw targets-length (omega arith)) (t .inv)
 
 pub same-targets-spec : {M : Type 1} → statement M
