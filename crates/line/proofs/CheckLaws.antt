@@ -22,9 +22,9 @@ use Rattle.state.specs.Sizes.{stateSize, pageSize, planArea, stepsAt, countSize
 use Rattle.state.specs.State.{lineOf}
 use Rattle.state.proofs.StoredPlan.{storedPlan, stored-accepted}
 use Rattle.items.specs.Items.{replayRight}
-use Rattle.line.specs.Exact.{zeroAt, pageExact}
-use Rattle.line.specs.Ready.{Ready}
-use Rattle.line.specs.NodeCheck.{nodePlain}
+use Rattle.buffer.specs.Exact.{zeroAt, pageExact}
+use Rattle.buffer.specs.Ready.{Ready}
+use Rattle.node_check.specs.NodeCheck.{nodePlain}
 use Rattle.line.specs.Whole.{PagesRight, planExact, restExact, replayPlain, nodeChecked, channelChecked, stateChecked}
 use Rattle.line.proofs.LoadLaws.{plan-short}
 use Rattle.line.proofs.ExactLaws.{page-stands}

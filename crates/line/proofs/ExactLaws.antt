@@ -16,9 +16,9 @@ use Rattle.rules.specs.Line.{logLimit, queueLimit, heldLimit, targetLimit}
 use Rattle.state.specs.Sizes.{countSize, entrySize, heldSize, targetSize, messageSize, heardAt, parentLimit, blockSize}
 use Rattle.state.specs.Right.{ZerosAt, wordAt, RecordRight, OriginRight, MessageRight, EntryRight, HeldRight, TargetRight, ListRight, NodeRight, LaneRight}
 use Rattle.state.proofs.BlockRight.{spelled-zero}
-use Rattle.line.specs.Zero.{zeroBytes}
-use Rattle.line.specs.Exact.{zeroAt, recordExact, originExact, messageExact, entryExact, heldExact, targetExact, slotsExact, listExact, pageExact, blockExact}
-use Rattle.line.proofs.BytesLaws.{zero-bytes}
+use Rattle.buffer.specs.Zero.{zeroBytes}
+use Rattle.buffer.specs.Exact.{zeroAt, recordExact, originExact, messageExact, entryExact, heldExact, targetExact, slotsExact, listExact, pageExact, blockExact}
+use Rattle.buffer.proofs.BytesLaws.{zero-bytes}
 
 -- A test stands for a property.
 abbrev pub Stands : Bool → Type 0 → Type 0

@@ -1,25 +1,7 @@
 -- What the line's code rests on.
-pub mod BytesLaws
+pub mod ExactLaws
 pub mod StartBytes
 pub mod LoadLaws
-pub mod ExactLaws
 pub mod WholeLaws
 pub mod CheckLaws
 pub mod WriteLaws
-pub mod ReadyLaws
-pub mod ChannelLaws
-pub mod LookLaws
-pub mod OriginLaws
-pub mod MessageLaws
-pub mod QueueLaws
-pub mod BlockCheck
-pub mod SlotLaws
-pub mod PieceBytes
-pub mod NodeLaws
-pub mod TableLaws
-pub mod ChildLaws
-pub mod TripleLaws
-pub mod TargetLaws
-pub mod FoundLaws
-pub mod RowLaws
-pub mod ReplayLaws

@@ -28,8 +28,8 @@ use Rattle.state.proofs.StoredPlan.{storedPlan, stored-accepted}
 use Rattle.state.proofs.AcceptedState.{state-checked}
 use Rattle.items.specs.Items.{nodeRight, channelRight, shapeRight, lineRight}
 use Rattle.items.proofs.LineItems.{line-items}
-use Rattle.line.specs.Exact.{pageExact, blockExact}
-use Rattle.line.specs.NodeCheck.{nodePlain}
+use Rattle.buffer.specs.Exact.{pageExact, blockExact}
+use Rattle.node_check.specs.NodeCheck.{nodePlain}
 use Rattle.line.specs.Whole.{planExact, restExact, replayPlain, nodeChecked, channelChecked, stateChecked}
 use Rattle.line.proofs.ExactLaws.{Stands, and-stands, eqb-stands, zero-stands, page-stands, block-stands}
 

@@ -14,8 +14,8 @@ use Rattle.state.specs.Right.{NodeRight}
 use Rattle.state.specs.Lane.{heardCount}
 use Rattle.state.specs.State.{lineOf}
 use Rattle.items.specs.Items.{replayRight, channelRight}
-use Rattle.line.specs.Exact.{zeroAt, pageExact, blockExact}
-use Rattle.line.specs.NodeCheck.{nodePlain}
+use Rattle.buffer.specs.Exact.{zeroAt, pageExact, blockExact}
+use Rattle.node_check.specs.NodeCheck.{nodePlain}
 
 -- The stored plan would not be refused, and nothing stands behind it.
 unfoldable pub planExact : List ℕ → Bool

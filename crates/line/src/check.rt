@@ -5,8 +5,8 @@ ghost use lib.ListN.{length};
 ghost use Rattle.plan.specs.Plan.{planSize, planNodes, planChannels};
 ghost use Rattle.state.specs.Sizes.{stateSize, nodePages, laneBlocks};
 ghost use Rattle.line.specs.Whole.{planExact, restExact};
-use crate::bytes;
-use crate::look;
+use buffer::bytes;
+use buffer::look;
 
 // How long the stored plan is, by its own counts.
 pub fn plan_size(s: &[u8]) -> usize

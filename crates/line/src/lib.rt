@@ -4,35 +4,11 @@ ghost use Rattle.state.specs.State.{stateAnswer};
 ghost use Rattle.line.specs.Load.{loadAnswer, loadLeft};
 ghost use Rattle.line.specs.Write.{writeAnswer, writeLeft};
 
-mod bytes;
-mod channel;
+use buffer::Line;
+use buffer::bytes;
+
 mod check;
-mod look;
-mod node;
-mod origin;
-mod recover;
-mod table;
 mod whole;
-
-// The line's own limits (document 01, "The limits belong to the line itself").
-pub struct Line {
-    pub steps: u32,
-}
-
-impl Line {
-    // "a lent buffer of 61,440 bytes"
-    pub const STATE_SIZE: usize = 61_440;
-    // "64 log entries a node"
-    pub const LOG_LIMIT: u32 = 64;
-    // "8 messages on a belt"
-    pub const QUEUE_LIMIT: u32 = 8;
-    // "64 held records a node"
-    pub const HELD_LIMIT: u32 = 64;
-    // "64 targets a node"
-    pub const TARGET_LIMIT: u32 = 64;
-    // "1,000,000 accepted steps"
-    pub const STEP_LIMIT: u32 = 1_000_000;
-}
 
 // Load: the plan's first refusal, 8 for a state of another size, or 0 with the plan's line, in which nothing has happened yet, in the state.
 #[no_mangle]

@@ -8,17 +8,14 @@ ghost use Rattle.rules.specs.Lists.{allOf, upTo};
 ghost use Rattle.state.specs.Sizes.{stateSize, stepsAt};
 ghost use Rattle.state.specs.Right.{wordAt};
 ghost use Rattle.state.specs.State.{lineOf};
-ghost use Rattle.line.specs.Ready.{Ready};
-ghost use Rattle.line.specs.Table.{Table};
+ghost use Rattle.buffer.specs.Ready.{Ready};
+ghost use Rattle.buffer.specs.Table.{Table};
 ghost use Rattle.line.specs.Whole.{PagesRight, planExact, nodeChecked, channelChecked, replayPlain, stateChecked};
-use crate::Line;
-use crate::bytes;
-use crate::channel;
+use buffer::Line;
+use buffer::bytes;
 use crate::check;
-use crate::look;
-use crate::node;
-use crate::recover;
-use crate::table;
+use buffer::look;
+use buffer::table;
 
 // Every node's page, but for what its replay asks.
 fn pages_ok(s: &[u8], t: &[u8; 156], n: usize, steps: u32) -> bool
@@ -28,7 +25,7 @@ fn pages_ok(s: &[u8], t: &[u8; 156], n: usize, steps: u32) -> bool
     let mut ok = true;
     let mut k: usize = 0;
     while k < n {
-        ok = ok & node::node_ok(s, t, k, steps);
+        ok = ok & node_check::node_ok(s, t, k, steps);
         k += 1;
     }
     ok
@@ -52,7 +49,7 @@ fn channels_ok(s: &[u8], m: usize, steps: u32) -> bool
     let mut ok = true;
     let mut b: usize = 0;
     while b < m {
-        ok = ok & channel::channel_ok(s, b, steps);
+        ok = ok & channel_check::channel_ok(s, b, steps);
         b += 1;
     }
     ok
@@ -63,7 +60,7 @@ fn replay_kept(s: &[u8], k: usize) -> bool
     requires { ⌜ Ready (now s) × PagesRight (now s) × (k < planNodes (now s)) ⌝ }
     ensures { λ r. ⌜ r ≡ replayPlain (lineOf (now (s .entry))) k ⌝ }
 {
-    if !channel::is_replaying(s, k) {
+    if !channel_check::is_replaying(s, k) {
         return true;
     }
     recover::replay_ok(s, k)

@@ -1,5 +1,5 @@
 use borrow.Author.Needs.{needs}
-use Rattle.line.specs.Table.{emptyTable}
+use Rattle.buffer.specs.Table.{emptyTable}
 use Rattle.line.proofs.whole.nodes_ok.Statement.{statement}
 use Rattle.line.proofs.whole.nodes_ok.Tie as tie
 

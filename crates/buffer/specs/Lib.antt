@@ -1,0 +1,7 @@
+-- Right bytes at an offset of the state, and the plan at its front as it is looked up.
+pub mod Zero
+pub mod Exact
+pub mod Ready
+pub mod Look
+pub mod Table
+pub mod Check

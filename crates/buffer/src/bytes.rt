@@ -1,0 +1,81 @@
+// Bytes of a lent buffer, read and written in place. Numbers are big-endian.
+ghost use mathlib.Core.Path.{_≡_};
+ghost use mathlib.Core.List.{_++_};
+ghost use Prim.Native.Nat.{_+_, _-_, _≤_, _<_};
+ghost use lib.ListN.{length, take, drop, replicate};
+ghost use Rattle.plan.specs.Layout.{spelled};
+ghost use Rattle.buffer.specs.Zero.{zeroBytes};
+
+fn wide16(b: u8) -> u16
+    ensures { λ r. ⌜ (r ≡ b) × (r < 256) ⌝ }
+{
+    b as u16
+}
+
+fn wide32(b: u8) -> u32
+    ensures { λ r. ⌜ (r ≡ b) × (r < 256) ⌝ }
+{
+    b as u32
+}
+
+// The byte at a place.
+pub fn get8(s: &[u8], at: usize) -> u8
+    requires { ⌜ at + 1 ≤ length (now s) ⌝ }
+    ensures { λ r. ⌜ r ≡ spelled 0 (take 1 (drop at (now (s .entry)))) ⌝ }
+{
+    s[at]
+}
+
+// The number that two bytes spell.
+pub fn get16(s: &[u8], at: usize) -> u16
+    requires { ⌜ at + 2 ≤ length (now s) ⌝ }
+    ensures { λ r. ⌜ r ≡ spelled 0 (take 2 (drop at (now (s .entry)))) ⌝ }
+{
+    wide16(s[at]) * 256 + wide16(s[at + 1])
+}
+
+// The number that four bytes spell.
+pub fn get32(s: &[u8], at: usize) -> u32
+    requires { ⌜ at + 4 ≤ length (now s) ⌝ }
+    ensures { λ r. ⌜ r ≡ spelled 0 (take 4 (drop at (now (s .entry)))) ⌝ }
+{
+    ((wide32(s[at]) * 256 + wide32(s[at + 1])) * 256 + wide32(s[at + 2])) * 256 + wide32(s[at + 3])
+}
+
+// Whether the bytes from a place up to another are all 0. They are or-ed together and tested once, so that the compiler takes many at a time.
+pub fn all_zero(s: &[u8], from: usize, to: usize) -> bool
+    requires { ⌜ (from ≤ to) × (to ≤ length (now s)) ⌝ }
+    ensures { λ r. ⌜ r ≡ zeroBytes (take (to - from) (drop from (now (s .entry)))) ⌝ }
+{
+    let mut seen: u8 = 0;
+    let mut i = from;
+    while i < to {
+        seen = seen | s[i];
+        i += 1;
+    }
+    seen == 0
+}
+
+// The bytes from a place up to another become 0.
+pub fn fill_zero(s: &mut [u8], from: usize, to: usize)
+    requires { ⌜ (from ≤ to) × (to ≤ length (now s)) ⌝ }
+    ensures { λ _. ⌜ now (s .exit) ≡ take from (now (s .entry)) ++ replicate (to - from) 0 ++ drop to (now (s .entry)) ⌝ }
+{
+    let mut i = from;
+    while i < to {
+        s[i] = 0;
+        i += 1;
+    }
+}
+
+// One slice to the front of another.
+pub fn copy_to(from: &[u8], to: &mut [u8])
+    requires { ⌜ length (now from) ≤ length (now to) ⌝ }
+    ensures { λ _. ⌜ now (to .exit) ≡ now (from .entry) ++ drop (length (now (from .entry))) (now (to .entry)) ⌝ }
+{
+    let mut i: usize = 0;
+    while i < from.len() {
+        to[i] = from[i];
+        i += 1;
+    }
+}

@@ -1,0 +1,89 @@
+// Records and origins at an offset of the state. An origin's first byte is 0 for none, else the sender and 1.
+ghost use mathlib.Core.Path.{_≡_};
+ghost use mathlib.Core.Bool.{_&&_};
+ghost use Prim.Native.Nat.{_+_, _≤_, _<_};
+ghost use lib.ListN.{length};
+ghost use Rattle.plan.specs.Plan.{planOf, planChannels, channelAt};
+ghost use Rattle.rules.specs.Line.{made};
+ghost use Rattle.state.specs.Pieces.{originFrom};
+ghost use Rattle.state.specs.State.{lineOf};
+ghost use Rattle.items.specs.Items.{recordRight, beforeRight, originRight};
+ghost use Rattle.buffer.specs.Exact.{recordExact};
+ghost use Rattle.buffer.specs.Check.{Counted, recordIn};
+use crate::bytes;
+use crate::table;
+
+// A record: its material and its zero byte.
+pub fn record_ok(s: &[u8], at: usize) -> bool
+    requires { ⌜ at + 8 ≤ length (now s) ⌝ }
+    ensures { λ r. ⌜ r ≡ (recordExact at (now (s .entry)) && recordRight (recordIn at (now (s .entry)))) ⌝ }
+{
+    (s[at + 5] == 0) & (s[at + 4] <= 15)
+}
+
+// What an input was made from that came on channel b from a sender.
+pub fn before_ok(
+    s: &[u8],
+    t: &[u8; 156],
+    steps: u32,
+    sender: usize,
+    b: usize,
+    from: usize,
+    time: u32,
+) -> bool
+    requires { ⌜ Counted (now s) (now t) steps × (b < planChannels (now s)) × (channelAt (planOf (now s)) b .sender ≡ sender) ⌝ }
+    ensures { λ r. ⌜ r ≡ beforeRight (lineOf (now (s .entry))) sender b (originFrom from time) ⌝ }
+{
+    if from == 0 {
+        return table::source_in(s, t, sender);
+    }
+    let place = table::place_in(s, t, from - 1, sender);
+    if 4 <= place {
+        return false;
+    }
+    let heard = bytes::get32(s, 53_248 + 320 * b + (8 + 4 * place));
+    ((0 < time) & (time <= steps)) & (time <= heard)
+}
+
+// What node n made something from, a sender and its time, and what that was made from.
+pub fn made_ok(
+    s: &[u8],
+    t: &[u8; 156],
+    steps: u32,
+    n: usize,
+    sender: usize,
+    time: u32,
+    earlier: usize,
+    since: u32,
+) -> bool
+    requires { ⌜ Counted (now s) (now t) steps ⌝ }
+    ensures { λ r. ⌜ r ≡ originRight (lineOf (now (s .entry))) n (made sender time) (originFrom earlier since) ⌝ }
+{
+    let b = table::channel_in(s, t, sender, n);
+    if 24 <= b {
+        return false;
+    }
+    let taken = bytes::get32(s, 53_248 + 320 * b + 4);
+    let rest = before_ok(s, t, steps, sender, b, earlier, since);
+    ((0 < time) & (time <= steps)) & ((time <= taken) & rest)
+}
+
+pub fn origin_ok(
+    s: &[u8],
+    t: &[u8; 156],
+    steps: u32,
+    n: usize,
+    from: usize,
+    time: u32,
+    earlier: usize,
+    since: u32,
+) -> bool
+    requires { ⌜ Counted (now s) (now t) steps ⌝ }
+    ensures { λ r. ⌜ r ≡ originRight (lineOf (now (s .entry))) n (originFrom from time) (originFrom earlier since) ⌝ }
+{
+    if from == 0 {
+        let source = table::source_in(s, t, n);
+        return source & (earlier == 0);
+    }
+    made_ok(s, t, steps, n, from - 1, time, earlier, since)
+}

@@ -1,0 +1,84 @@
+// The plan's channels as a table, made once for a check: looking a sender up is then one read.
+ghost use mathlib.Core.Path.{_≡_};
+ghost use Prim.Native.Nat.{_+_, _*_, _<_};
+ghost use lib.ListN.{length, set};
+ghost use Rattle.plan.specs.Plan.{planOf, entering, isSource};
+ghost use Rattle.items.specs.Items.{fromSender, placeFrom};
+ghost use Rattle.buffer.specs.Ready.{Ready};
+ghost use Rattle.buffer.specs.Look.{numberOr};
+ghost use Rattle.buffer.specs.Table.{Table, codeOr, emptyTable};
+use crate::look;
+
+// One channel, by its ends and its place.
+fn enter(t: &mut [u8; 156], from: usize, to: usize, b: usize, place: usize)
+    requires { ⌜ (length (now t) ≡ 156) × (from < 12) × (to < 12) × (b + 32 * place < 255) ⌝ }
+    ensures { λ _. ⌜ now (t .exit) ≡ set (set (now (t .entry)) (12 * to + from) (b + 32 * place)) (144 + to) 0 ⌝ }
+{
+    t[12 * to + from] = (b + 32 * place) as u8;
+    t[144 + to] = 0;
+}
+
+// Fills an empty table from the plan at the state's front.
+pub fn fill(s: &[u8], t: &mut [u8; 156])
+    requires { ⌜ Ready (now s) × (now t ≡ emptyTable) ⌝ }
+    ensures { λ _. ⌜ Table (now (s .entry)) (now (t .exit)) ⌝ }
+{
+    let mut b = look::channel_count(s);
+    let mut at = look::channels_at(s) + 6 * b;
+    while 0 < b {
+        at -= 6;
+        b -= 1;
+        let from = look::index(s[at]);
+        let to = look::index(s[at + 1]);
+        let place = look::place_among(s, from, to);
+        enter(t, from, to, b, place);
+    }
+}
+
+// What the table of a state's plan has for a sender and a receiver.
+fn joined(s: &[u8], t: &[u8; 156], sender: usize, node: usize) -> usize
+    requires { ⌜ Ready (now s) × Table (now s) (now t) ⌝ }
+    ensures { λ r. ⌜ r ≡ codeOr (planOf (now (s .entry))) (fromSender (planOf (now (s .entry))) sender (entering (planOf (now (s .entry))) node)) ⌝ }
+{
+    if 12 <= sender {
+        return 255;
+    }
+    if 12 <= node {
+        return 255;
+    }
+    look::index(t[12 * node + sender])
+}
+
+// The channel from a sender to a receiver, 24 if there is none.
+pub fn channel_in(s: &[u8], t: &[u8; 156], sender: usize, node: usize) -> usize
+    requires { ⌜ Ready (now s) × Table (now s) (now t) ⌝ }
+    ensures { λ r. ⌜ r ≡ numberOr 24 (fromSender (planOf (now (s .entry))) sender (entering (planOf (now (s .entry))) node)) ⌝ }
+{
+    let code = joined(s, t, sender, node);
+    if code == 255 {
+        return 24;
+    }
+    code % 32
+}
+
+// The place of a sender among the channels that enter a node, 4 if it is at none.
+pub fn place_in(s: &[u8], t: &[u8; 156], sender: usize, node: usize) -> usize
+    requires { ⌜ Ready (now s) × Table (now s) (now t) ⌝ }
+    ensures { λ r. ⌜ r ≡ numberOr 4 (placeFrom (planOf (now (s .entry))) sender 0 (entering (planOf (now (s .entry))) node)) ⌝ }
+{
+    let code = joined(s, t, sender, node);
+    if code == 255 {
+        return 4;
+    }
+    code / 32
+}
+
+pub fn source_in(s: &[u8], t: &[u8; 156], node: usize) -> bool
+    requires { ⌜ Ready (now s) × Table (now s) (now t) ⌝ }
+    ensures { λ r. ⌜ r ≡ isSource (planOf (now (s .entry))) node ⌝ }
+{
+    if 12 <= node {
+        return true;
+    }
+    t[144 + node] == 255
+}

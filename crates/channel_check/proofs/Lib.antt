@@ -1,0 +1,6 @@
+-- What the check of a channel's block rests on.
+pub mod ReadyLaws
+pub mod ChannelLaws
+pub mod MessageLaws
+pub mod QueueLaws
+pub mod BlockCheck

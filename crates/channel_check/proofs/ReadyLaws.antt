@@ -1,0 +1,92 @@
+-- What a state that can be read gives: its counts, its channels' ends, and its nodes' status by their bytes.
+use Prim.Native.Nat.{ℕ, zero, suc, _+_, _≤_, _<_}
+use mathlib.Core.Path.{_≡_, refl, sym, ap, _∙_}
+use mathlib.Core.List.{List}
+use native.Mathlib.Nat.{add-zero}
+use native.Mathlib.Omega.{arith}
+use borrow.Author.Tests.{ne-eqb, lt-ltb}
+use lib.Dec.{ltb, eqb}
+use lib.ListN.{length, getD, take, drop, length-take, length-map}
+use Rattle.plan.specs.Layout.{spelled}
+use Rattle.plan.specs.Plan.{planOf, planNodes, channelCount, channelAt, entering}
+use Rattle.plan.specs.Mask.{planMask, CountOf}
+use Rattle.plan.proofs.FitsLaws.{fitting}
+use Rattle.plan.proofs.PlanLaws.{node-count, channel-count}
+use Rattle.plan.proofs.ReadLaws.{byte-field}
+use Rattle.plan.proofs.MaskLaws.{entering-rise, mask-few}
+use Rattle.rules.specs.Line.{Lane, nodeAt, laneAt, isDown, isReplay, parents}
+use Rattle.rules.specs.Step.{nodeDown, replaying}
+use Rattle.rules.proofs.PlanOrder.{ordered-channels}
+use Rattle.state.specs.Sizes.{pageAt, parentLimit}
+use Rattle.state.specs.Node.{statusOf, crashOf}
+use Rattle.state.specs.Lane.{heardCount, cutHeard, laneLayout}
+use Rattle.state.specs.State.{lineOf}
+use Rattle.state.proofs.HeardLaws.{heard-few}
+use Rattle.state.proofs.FieldLaws.{heard-four}
+use Rattle.state.proofs.InPlace.{Counted, blockOf, lane-in}
+use Rattle.state.proofs.OffsetLaws.{line-status, line-crashed}
+use Rattle.buffer.specs.Ready.{Ready}
+use Rattle.channel_check.specs.Channel.{OnChannel}
+
+pub counted : {s : List ℕ} → Ready s → Counted s
+counted r = record { nodes = r .nodes; channels = r .channels }
+
+-- ---- a node's status
+
+down-byte : (n : ℕ) → eqb n 1 ≡ isDown (statusOf n)
+down-byte zero = refl
+down-byte (suc zero) = refl
+down-byte (suc (suc n)) = ne-eqb (suc (suc n)) 1 (λ e. omega arith)
+
+replay-byte : (n : ℕ) → ltb 1 n ≡ isReplay (statusOf n)
+replay-byte zero = refl
+replay-byte (suc zero) = refl
+replay-byte (suc (suc n)) = lt-ltb 1 (suc (suc n)) (omega arith)
+
+crash-byte : (n : ℕ) → ltb 0 n ≡ crashOf n
+crash-byte zero = refl
+crash-byte (suc n) = lt-ltb 0 (suc n) (omega arith)
+
+module _ (s : List ℕ) (ready : Ready s) (n : ℕ) (inside : n < planNodes s) where
+  status-byte : statusOf (spelled 0 (take 1 (drop (pageAt n) s))) ≡ nodeAt (lineOf s) n .status
+  status-byte = ap statusOf (byte-field (pageAt n) s ∙ ap (λ (a : ℕ). getD s a 0) (sym (add-zero (pageAt n)))) ∙ sym (line-status s (counted ready) n inside)
+
+  pub down-at : eqb (spelled 0 (take 1 (drop (pageAt n) s))) 1 ≡ nodeDown (lineOf s) n
+  down-at = down-byte (spelled 0 (take 1 (drop (pageAt n) s))) ∙ ap isDown status-byte
+
+  pub replaying-at : ltb 1 (spelled 0 (take 1 (drop (pageAt n) s))) ≡ replaying (lineOf s) n
+  replaying-at = replay-byte (spelled 0 (take 1 (drop (pageAt n) s))) ∙ ap isReplay status-byte
+
+  pub crashed-at : ltb 0 (spelled 0 (take 1 (drop (pageAt n + 1) s))) ≡ nodeAt (lineOf s) n .crashed
+  crashed-at = crash-byte (spelled 0 (take 1 (drop (pageAt n + 1) s))) ∙ ap crashOf (byte-field (pageAt n + 1) s) ∙ sym (line-crashed s (counted ready) n inside)
+
+-- ---- a channel's ends and what is heard on it
+
+module _ (s : List ℕ) (b : ℕ) (on : OnChannel s b) where
+  below-count : b < channelCount (planOf s)
+  below-count = rw (channel-count s) (on .below)
+
+  pub receiver-inside : channelAt (planOf s) b .receiver < planNodes s
+  receiver-inside = let o = ordered-channels (planOf s) (fitting (planOf s) (on .ready .fits) .channels) in omega (arith, o .inside b below-count, node-count s)
+
+  pub sender-inside : channelAt (planOf s) b .sender < planNodes s
+  sender-inside = let o = ordered-channels (planOf s) (fitting (planOf s) (on .ready .fits) .channels) in omega (arith, o .forward b below-count, receiver-inside)
+
+  pub few-heard : heardCount (planOf s) (channelAt (planOf s) b) ≤ parentLimit
+  few-heard = heard-few (planOf s) (on .ready .fits) b below-count
+
+  pub heard-long : length (laneAt (lineOf s) b .heard) ≡ heardCount (planOf s) (channelAt (planOf s) b)
+  unfolding cutHeard
+  heard-long =
+      let count : ℕ = heardCount (planOf s) (channelAt (planOf s) b) in
+      ap (λ (x : Lane). length (x .heard)) (lane-in s (counted (on .ready)) b (on .below))
+      ∙ length-take count (laneLayout .read (blockOf b s) .heard)
+      ∙ omega (arith, heard-four (blockOf b s), few-heard)
+
+  -- The ones of the mask of the channels that enter the sender.
+  pub heard-ones : (r : ℕ) → CountOf (planMask s (entering (planOf s) (channelAt (planOf s) b .sender))) r → r ≡ heardCount (planOf s) (channelAt (planOf s) b)
+  unfolding heardCount parents
+  heard-ones r h =
+      let n : ℕ = channelAt (planOf s) b .sender in
+      h .listed (entering (planOf s) n) (entering-rise (planOf s) n) (mask-few s (on .ready .channels) (entering (planOf s) n))
+      ∙ sym (length-map (entering (planOf s) n) (λ (c : ℕ). channelAt (planOf s) c .sender))

@@ -1,0 +1,45 @@
+-- What the check of a channel's block goes by: each message where it lies, and the queue message by message.
+use Prim.Native.Nat.{ℕ, zero, suc, _+_, _≤_, _<_}
+use mathlib.Core.Path.{_≡_}
+use mathlib.Core.Bool.{Bool, true, _&&_, _||_}
+use mathlib.Core.List.{List}
+use lib.ListN.{take, drop}
+use lib.Dec.{leb, ltb}
+use Rattle.plan.specs.Plan.{planChannels}
+use Rattle.rules.specs.Line.{queueLimit, Message}
+use Rattle.state.specs.Sizes.{blockAt, queueAt, messageSize}
+use Rattle.state.specs.Right.{wordAt}
+use Rattle.state.specs.Pieces.{messageLayout}
+use Rattle.state.specs.State.{lineOf}
+use Rattle.items.specs.Items.{recordRight, namedRight}
+use Rattle.buffer.specs.Exact.{messageExact}
+use Rattle.buffer.specs.Ready.{Ready}
+
+-- A state that can be read, and its accepted steps.
+pub record Stepped (s : List ℕ) (steps : ℕ) : Type 0 where
+  pub ready : Ready s
+  pub same : steps ≡ lineOf s .steps
+
+-- A channel of a state that can be read, and one whose queue is not too long.
+pub record OnChannel (s : List ℕ) (b : ℕ) : Type 0 where
+  pub ready : Ready s
+  pub below : b < planChannels s
+
+pub record QueueFits (s : List ℕ) (b : ℕ) : Type 0 where
+  pub on : OnChannel s b
+  pub few : wordAt (blockAt b + queueAt) s ≤ queueLimit
+
+-- The message at a place.
+abbrev pub messageAt : List ℕ → ℕ → Message
+messageAt s a = messageLayout .read (take messageSize (drop a s))
+
+-- A message at a place, sent by a node.
+unfoldable pub messageOk : List ℕ → ℕ → ℕ → Bool
+unfolding lineOf messageLayout messageExact namedRight
+messageOk s sender a = messageExact a s && (recordRight (messageAt s a .what) && namedRight (lineOf s) sender (messageAt s a .origin))
+
+-- So many messages from a place on, whose times rise from above the last to the mark where no end is down.
+abbrev pub messagesOk : List ℕ → ℕ → Bool → ℕ → ℕ → ℕ → ℕ → Bool
+messagesOk s sender stopped mark last a zero = true
+messagesOk s sender stopped mark last a (suc n) =
+    messageOk s sender a && (stopped || (ltb last (messageAt s a .time) && leb (messageAt s a .time) mark)) && messagesOk s sender stopped mark (messageAt s a .time) (a + messageSize) n

@@ -1,0 +1,213 @@
+// The check of a channel's block: its bytes are right, and the channel keeps the rules.
+ghost use mathlib.Core.Path.{_≡_};
+ghost use mathlib.Core.Bool.{_&&_};
+ghost use mathlib.Core.List.{_∷_};
+ghost use Prim.Native.Nat.{_+_, _-_, _*_, _≤_, _<_, max};
+ghost use lib.ListN.{length};
+ghost use Rattle.plan.specs.Plan.{planOf, planNodes, planChannels, channelAt};
+ghost use Rattle.rules.specs.Lists.{greatestOf};
+ghost use Rattle.rules.specs.Line.{nodeAt, laneAt};
+ghost use Rattle.rules.specs.Step.{nodeDown, replaying, endDown};
+ghost use Rattle.rules.specs.Damaged.{marksJoined, channelHolds};
+ghost use Rattle.state.specs.Sizes.{blockAt, heardAt, parentLimit, queueAt, countSize, messageSize, laneRestAt, laneRest};
+ghost use Rattle.state.specs.Right.{wordAt};
+ghost use Rattle.state.specs.Lane.{heardCount};
+ghost use Rattle.state.specs.State.{lineOf};
+ghost use Rattle.state.specs.Pieces.{originFrom};
+ghost use Rattle.items.specs.Items.{namedRight, queueRight, channelRight};
+ghost use Rattle.buffer.specs.Exact.{zeroAt, messageExact, slotsExact, blockExact};
+ghost use Rattle.buffer.specs.Ready.{Ready};
+ghost use Rattle.channel_check.specs.Channel.{Stepped, OnChannel, QueueFits, messageOk};
+use buffer::Line;
+use buffer::bytes;
+use buffer::look;
+use buffer::origin;
+
+fn wide(n: u32) -> usize
+    ensures { λ r. ⌜ r ≡ n ⌝ }
+{
+    n as usize
+}
+
+// Whether a node is down.
+fn is_down(s: &[u8], n: usize) -> bool
+    requires { ⌜ Ready (now s) × (n < planNodes (now s)) ⌝ }
+    ensures { λ r. ⌜ r ≡ nodeDown (lineOf (now (s .entry))) n ⌝ }
+{
+    bytes::get8(s, 4096 * (1 + n)) == 1
+}
+
+// Whether a node replays.
+pub fn is_replaying(s: &[u8], n: usize) -> bool
+    requires { ⌜ Ready (now s) × (n < planNodes (now s)) ⌝ }
+    ensures { λ r. ⌜ r ≡ replaying (lineOf (now (s .entry))) n ⌝ }
+{
+    1 < bytes::get8(s, 4096 * (1 + n))
+}
+
+// Whether a node bears a crash mark.
+fn has_crashed(s: &[u8], n: usize) -> bool
+    requires { ⌜ Ready (now s) × (n < planNodes (now s)) ⌝ }
+    ensures { λ r. ⌜ r ≡ nodeAt (lineOf (now (s .entry))) n .crashed ⌝ }
+{
+    0 < bytes::get8(s, 4096 * (1 + n) + 1)
+}
+
+// A channel's sender and its receiver.
+fn sender_of(s: &[u8], b: usize) -> usize
+    requires { ⌜ OnChannel (now s) b ⌝ }
+    ensures { λ r. ⌜ (r ≡ channelAt (planOf (now (s .entry))) b .sender) × (r < planNodes (now (s .entry))) ⌝ }
+{
+    look::index(plan::channel_at(s, b).sender)
+}
+
+fn receiver_of(s: &[u8], b: usize) -> usize
+    requires { ⌜ OnChannel (now s) b ⌝ }
+    ensures { λ r. ⌜ (r ≡ channelAt (planOf (now (s .entry))) b .receiver) × (r < planNodes (now (s .entry))) ⌝ }
+{
+    look::index(plan::channel_at(s, b).receiver)
+}
+
+// Whether an end of a channel is down.
+fn end_down(s: &[u8], b: usize) -> bool
+    requires { ⌜ OnChannel (now s) b ⌝ }
+    ensures { λ r. ⌜ r ≡ endDown (lineOf (now (s .entry))) b ⌝ }
+{
+    is_down(s, sender_of(s, b)) | is_down(s, receiver_of(s, b))
+}
+
+// Whether both ends of a channel bear a crash mark.
+fn marks_joined(s: &[u8], b: usize) -> bool
+    requires { ⌜ OnChannel (now s) b ⌝ }
+    ensures { λ r. ⌜ r ≡ marksJoined (lineOf (now (s .entry))) b ⌝ }
+{
+    has_crashed(s, sender_of(s, b)) & has_crashed(s, receiver_of(s, b))
+}
+
+// How many are heard on a channel: the sender's parents.
+fn heard_count(s: &[u8], b: usize) -> usize
+    requires { ⌜ OnChannel (now s) b ⌝ }
+    ensures { λ r. ⌜ (r ≡ heardCount (planOf (now (s .entry))) (channelAt (planOf (now (s .entry))) b)) × (r ≤ 4) ⌝ }
+{
+    wide(plan::mask_count(plan::entering_mask(s, sender_of(s, b))))
+}
+
+fn larger(a: u32, b: u32) -> u32
+    ensures { λ r. ⌜ r ≡ max a b ⌝ }
+{
+    if a < b { b } else { a }
+}
+
+// The greatest of the receiver's clock entries that stand on a channel.
+fn most_heard(s: &[u8], b: usize, heard: usize) -> u32
+    requires { ⌜ OnChannel (now s) b × (heard ≡ heardCount (planOf (now s)) (channelAt (planOf (now s)) b)) ⌝ }
+    ensures { λ r. ⌜ r ≡ greatestOf (laneAt (lineOf (now (s .entry))) b .taken ∷ laneAt (lineOf (now (s .entry))) b .heard) ⌝ }
+{
+    let at = 53_248 + 320 * b;
+    let mut most = bytes::get32(s, at + 4);
+    let mut i: usize = 0;
+    while i < heard {
+        most = larger(most, bytes::get32(s, at + (8 + 4 * i)));
+        i += 1;
+    }
+    most
+}
+
+// The bytes that a channel's block leaves unused are 0: those of further parents, and all behind the queue.
+fn zeros_ok(s: &[u8], b: usize, heard: usize) -> bool
+    requires { ⌜ QueueFits (now s) b × (heard ≤ 4) ⌝ }
+    ensures { λ r. ⌜ r ≡ (zeroAt (blockAt b + heardAt + 4 * heard) (4 * (parentLimit - heard)) (now (s .entry))
+        && (zeroAt (blockAt b + queueAt + countSize + messageSize * wordAt (blockAt b + queueAt) (now (s .entry))) (messageSize * (8 - wordAt (blockAt b + queueAt) (now (s .entry)))) (now (s .entry))
+        && zeroAt (blockAt b + laneRestAt) laneRest (now (s .entry)))) ⌝ }
+{
+    let at = 53_248 + 320 * b;
+    let count = wide(bytes::get32(s, at + 24));
+    let heards = bytes::all_zero(s, at + 8 + 4 * heard, at + 24);
+    let rest = bytes::all_zero(s, at + 24 + 4 + 20 * count, at + 320);
+    heards & rest
+}
+
+// Whether anything stands on a channel that its ends' status forbids.
+fn holds(s: &[u8], b: usize, stopped: bool, most: u32) -> bool
+    requires { ⌜ OnChannel (now s) b × (stopped ≡ endDown (lineOf (now s)) b)
+        × (most ≡ greatestOf (laneAt (lineOf (now s)) b .taken ∷ laneAt (lineOf (now s)) b .heard)) ⌝ }
+    ensures { λ r. ⌜ r ≡ channelHolds (lineOf (now (s .entry))) b ⌝ }
+{
+    let at = 53_248 + 320 * b;
+    let unmarked = bytes::get32(s, at) == 0;
+    let empty = bytes::get32(s, at + 24) == 0;
+    let down = is_down(s, receiver_of(s, b));
+    let replays = is_replaying(s, sender_of(s, b));
+    (stopped & !(unmarked & empty)) | (down & (0 < most)) | (replays & !empty)
+}
+
+// What node n made something from: nothing, or a parent's message.
+fn named_ok(s: &[u8], steps: u32, n: usize, from: usize, time: u32) -> bool
+    requires { ⌜ Stepped (now s) steps ⌝ }
+    ensures { λ r. ⌜ r ≡ namedRight (lineOf (now (s .entry))) n (originFrom from time) ⌝ }
+{
+    if from == 0 {
+        return look::is_source(s, n);
+    }
+    let b = look::channel_between(s, from - 1, n);
+    let m = look::channel_count(s);
+    ((0 < time) & (time <= steps)) & (b < m)
+}
+
+// A message that node n sent.
+fn message_ok(s: &[u8], steps: u32, n: usize, at: usize) -> bool
+    requires { ⌜ Stepped (now s) steps × (at + 20 ≤ length (now s)) ⌝ }
+    ensures { λ r. ⌜ r ≡ messageOk (now (s .entry)) n at ⌝ }
+{
+    let from = look::index(bytes::get8(s, at + 12));
+    let time = bytes::get32(s, at + 13);
+    let what = origin::record_ok(s, at);
+    let named = named_ok(s, steps, n, from, time);
+    let zeros = bytes::all_zero(s, at + 17, at + 20);
+    what & named & ((from != 0) | (time == 0)) & zeros
+}
+
+// A channel's messages. Where no end is down, their times rise strictly from above what was taken to the mark.
+fn queue_ok(s: &[u8], steps: u32, b: usize, stopped: bool) -> bool
+    requires { ⌜ Stepped (now s) steps × QueueFits (now s) b × (stopped ≡ endDown (lineOf (now s)) b) ⌝ }
+    ensures { λ r. ⌜ r ≡ (slotsExact messageExact messageSize (blockAt b + queueAt + countSize) (wordAt (blockAt b + queueAt) (now (s .entry))) (now (s .entry))
+        && queueRight (lineOf (now (s .entry))) b (laneAt (lineOf (now (s .entry))) b .queue)) ⌝ }
+{
+    let sender = sender_of(s, b);
+    let mut at = 53_248 + 320 * b;
+    let mark = bytes::get32(s, at);
+    let mut last = bytes::get32(s, at + 4);
+    let mut left = bytes::get32(s, at + 24);
+    let mut ok = stopped | (last <= mark);
+    at += 28;
+    while 0 < left {
+        let time = bytes::get32(s, at + 8);
+        let here = message_ok(s, steps, sender, at);
+        ok = ok & here & (stopped | ((last < time) & (time <= mark)));
+        last = time;
+        at += 20;
+        left -= 1;
+    }
+    ok
+}
+
+// A channel's block.
+pub fn channel_ok(s: &[u8], b: usize, steps: u32) -> bool
+    requires { ⌜ Stepped (now s) steps × (b < planChannels (now s)) ⌝ }
+    ensures { λ r. ⌜ r ≡ (blockExact (heardCount (planOf (now (s .entry))) (channelAt (planOf (now (s .entry))) b)) (blockAt b) (now (s .entry))
+        && channelRight (lineOf (now (s .entry))) b) ⌝ }
+{
+    let at = 53_248 + 320 * b;
+    if Line::QUEUE_LIMIT < bytes::get32(s, at + 24) {
+        return false;
+    }
+    let mark = bytes::get32(s, at);
+    let heard = heard_count(s, b);
+    let most = most_heard(s, b, heard);
+    let zeros = zeros_ok(s, b, heard);
+    let stopped = end_down(s, b);
+    let queue = queue_ok(s, steps, b, stopped);
+    let joined = marks_joined(s, b);
+    let held = holds(s, b, stopped, most);
+    zeros & ((mark <= steps) & (most <= steps)) & queue & !joined & !held
+}

@@ -1,0 +1,4 @@
+-- What the check of a node's page rests on.
+pub mod SlotLaws
+pub mod PieceBytes
+pub mod NodeLaws

@@ -1,0 +1,316 @@
+-- The lists of a node's page, as the check goes over them.
+use Prim.Native.Nat.{ℕ, zero, suc, _+_, _*_, _-_, min, _≤_, _<_}
+use mathlib.Core.Path.{_≡_, refl, sym, ap, _∙_}
+use mathlib.Core.Bool.{Bool, true, false, not, _&&_, _||_, and-assoc, and-true, and-false, Bool·not-not}
+use mathlib.Core.List.{List, [], _∷_}
+use native.Mathlib.Nat.{add-zero}
+use native.Mathlib.Omega.{arith}
+use borrow.Author.Tests.{le-leb, lt-leb, eq-eqb, ne-eqb}
+use lib.Dec.{leb, ltb, eqb, eqb·suc-zero}
+use lib.ListN.{length, getD, set}
+use lib.Seq.{ext-getD}
+use Rattle.plan.specs.Plan.{planOf, planNodes, isSource, isSink}
+use Rattle.rules.specs.Lists.{allOf, isEmpty}
+use Rattle.rules.specs.Line.{logLimit, heldLimit, targetLimit, Entry, Held, Target, Node, Line, nodeAt, fed, isUp}
+use Rattle.rules.specs.Damaged.{markMissing, markOnEnd, nodeHolds, holdsByStatus}
+use Rattle.rules.specs.Step.{replaying}
+use Rattle.state.specs.Sizes.{stepsAt, pageAt, countSize, timeAt, logAt, entrySize, heldAt, heldSize, targetsAt, targetSize, nodeRestAt, nodeRest}
+use Rattle.state.specs.Node.{statusOf, crashOf}
+use Rattle.state.specs.State.{lineOf}
+use Rattle.state.specs.Right.{wordAt}
+use Rattle.state.proofs.InPlace.{Counted as Few, line-plan, line-steps}
+use Rattle.state.proofs.OffsetLaws.{line-status, line-crashed, line-time, line-log-count, line-log-at, line-held-count, line-held-at, line-targets-count, line-target-at}
+use Rattle.items.specs.Items.{timesRise, entryRight, logRight, heldRise, noneHeld, heldRight, heldAllRight, targetRight, countsRight, statusRight, replayRight, nodeRight}
+use Rattle.buffer.specs.Exact.{zeroAt, entryExact, heldExact, targetExact, slotsExact, listExact, pageExact}
+use Rattle.node_check.specs.NodeCheck.{headExact, holdsNothing, nodePlain}
+use Rattle.buffer.specs.Ready.{Ready}
+use Rattle.buffer.specs.Table.{Table}
+use Rattle.buffer.specs.Check.{Counted, PageOf, entryIn, heldIn, targetIn}
+use Rattle.node_check.proofs.SlotLaws.{swap-middle, slotsIn, passes, length-slots, slots-at, slotsPass, slots-pass, pass-more}
+use Rattle.node_check.proofs.PieceBytes.{entry-in, held-in, two-zero}
+
+pub few-of : {s table : List ℕ} {steps : ℕ} → Counted s table steps → Few s
+few-of h = record { nodes = h .ready .nodes; channels = h .ready .channels }
+
+pub page-room : {s table : List ℕ} {steps n at : ℕ} → PageOf s table steps n at → at + 4096 ≤ length s
+page-room page = omega (arith, page .counted .ready .long, page .counted .ready .nodes, page .within, page .start)
+
+-- A pass over the slots of a list: those left, and that what is asked of all is what was found so far and what is left.
+pub record Going (room size start slot count left : ℕ) (whole now : Bool) : Type 0 where
+  pub within : left ≤ count
+  pub there : slot + size * left ≡ start + size * count
+  pub fits : start + size * count ≤ room
+  pub same : whole ≡ now
+
+-- A list in a page is what its slots hold.
+module _ {A : Type 0} (item : ℕ → List ℕ → A) (d : A) (size a count : ℕ) (s : List ℕ) (xs : List A) where
+  list-slots : length xs ≡ count → ((i : ℕ) → i < count → getD xs i d ≡ item (a + size * i) s) → xs ≡ slotsIn item size a count s
+  list-slots long each =
+      ext-getD d xs (slotsIn item size a count s) (long ∙ sym (length-slots item size s a count))
+      (λ i h. let below : i < count = omega (arith, long) in each i below ∙ sym (slots-at item size s d a count i below))
+
+-- ---- the log
+
+abbrev noEntry : Entry
+noEntry = record { what = record { piece = 0; material = 0; mass = 0 }; time = 0; origin = fed; before = fed }
+
+module _ (l : Line) (n top : ℕ) where
+  abbrev pub entryPasses : ℕ → Entry → Bool
+  entryPasses last e = entryRight l n e && (ltb last (e .time) && leb (e .time) top)
+
+  abbrev pub entryNext : ℕ → Entry → ℕ
+  entryNext last e = e .time
+
+  log-passes : (last : ℕ) (es : List Entry) → passes entryPasses entryNext last es ≡ (allOf (entryRight l n) es && timesRise (λ (e : Entry). e .time) last top es)
+  log-passes last [] = refl
+  log-passes last (e ∷ es) =
+      ap (λ (t : Bool). entryPasses last e && t) (log-passes (e .time) es)
+      ∙ swap-middle (entryRight l n e) (ltb last (e .time) && leb (e .time) top) (allOf (entryRight l n) es) (timesRise (λ (e : Entry). e .time) (e .time) top es)
+
+-- The entries from an offset on.
+abbrev pub logPass : List ℕ → ℕ → ℕ → ℕ → ℕ → Bool
+logPass s n last a k = slotsPass entryIn entrySize s entryExact (entryPasses (lineOf s) n (nodeAt (lineOf s) n .time)) (entryNext (lineOf s) n (nodeAt (lineOf s) n .time)) last a k
+
+module _ (s table : List ℕ) (steps n at : ℕ) (page : PageOf s table steps n at) where
+  abbrev pub lineIn : Line
+  lineIn = lineOf s
+
+  abbrev pub nodeIn : Node
+  nodeIn = nodeAt (lineOf s) n
+
+  pub time-in : (t : ℕ) → t ≡ wordAt (at + timeAt) s → t ≡ nodeIn .time
+  time-in t e = e ∙ rw (page .start) (sym (line-time s (few-of (page .counted)) n (page .within)))
+
+  -- One entry more.
+  pub entries-more : (ok entry : Bool) (last a k time top : ℕ) → time ≡ wordAt (a + 8) s → top ≡ nodeIn .time → entry ≡ (entryExact a s && entryRight lineIn n (entryIn a s))
+      → (ok && logPass s n last a (suc k)) ≡ ((ok && (entry && (ltb last time && leb time top))) && logPass s n time (a + entrySize) k)
+  entries-more ok entry last a k time top e f g =
+      let same : entryIn a s .time ≡ time = ap (λ (x : Entry). x .time) (entry-in a s) ∙ sym e in
+      pass-more entryIn entrySize s entryExact (entryPasses lineIn n (nodeIn .time)) (entryNext lineIn n (nodeIn .time)) ok last a k
+      ∙ rw (same, f, g) (ap (λ (t : Bool). (ok && t) && logPass s n time (a + entrySize) k) (sym (and-assoc (entryExact a s) (entryRight lineIn n (entryIn a s)) (ltb last time && leb time (nodeIn .time)))))
+
+  module _ (count : ℕ) (is : count ≡ wordAt (pageAt n + logAt) s) (small : count ≤ logLimit) where
+    log-slots : nodeIn .log ≡ slotsIn entryIn entrySize (pageAt n + logAt + countSize) count s
+    log-slots =
+        list-slots entryIn noEntry entrySize (pageAt n + logAt + countSize) count s (nodeIn .log)
+        (line-log-count s (few-of (page .counted)) n (page .within) ∙ rw (← is) (omega arith))
+        (λ i h.
+        (let there : pageAt n + (logAt + countSize + entrySize * i) ≡ pageAt n + logAt + countSize + entrySize * i = omega arith in
+        line-log-at s (few-of (page .counted)) n (page .within) i noEntry (omega arith) (omega arith) ∙ ap (λ (a : ℕ). entryIn a s) there))
+
+    pub log-whole : logPass s n 0 (pageAt n + logAt + countSize) count ≡ (slotsExact entryExact entrySize (pageAt n + logAt + countSize) count s && logRight lineIn n (nodeIn .log))
+    unfolding logRight
+    log-whole =
+        slots-pass entryIn entrySize s entryExact (entryPasses lineIn n (nodeIn .time)) (entryNext lineIn n (nodeIn .time)) 0 (pageAt n + logAt + countSize) count
+        ∙ ap (λ (t : Bool). slotsExact entryExact entrySize (pageAt n + logAt + countSize) count s && t) (ap (passes (entryPasses lineIn n (nodeIn .time)) (entryNext lineIn n (nodeIn .time)) 0) (sym log-slots) ∙ log-passes lineIn n (nodeIn .time) 0 (nodeIn .log))
+
+-- ---- held records
+
+abbrev noHeld : Held
+noHeld = record { what = record { piece = 0; material = 0; mass = 0 }; sender = 0; time = 0; before = fed }
+
+module _ (l : Line) (n : ℕ) where
+  abbrev pub heldPasses : List ℕ → Held → Bool
+  heldPasses last h = heldRight l n h && ltb (getD last (h .sender) 0) (h .time)
+
+  abbrev pub heldNext : List ℕ → Held → List ℕ
+  heldNext last h = set last (h .sender) (h .time)
+
+  held-passes : (last : List ℕ) (hs : List Held) → passes heldPasses heldNext last hs ≡ (allOf (heldRight l n) hs && heldRise last hs)
+  held-passes last [] = refl
+  held-passes last (h ∷ hs) =
+      ap (λ (t : Bool). heldPasses last h && t) (held-passes (heldNext last h) hs)
+      ∙ swap-middle (heldRight l n h) (ltb (getD last (h .sender) 0) (h .time)) (allOf (heldRight l n) hs) (heldRise (heldNext last h) hs)
+
+-- The held records from an offset on.
+abbrev pub heldPass : List ℕ → ℕ → List ℕ → ℕ → ℕ → Bool
+heldPass s n last a k = slotsPass heldIn heldSize s heldExact (heldPasses (lineOf s) n) (heldNext (lineOf s) n) last a k
+
+module _ (s table : List ℕ) (steps n at : ℕ) (page : PageOf s table steps n at) where
+  -- One held record more.
+  pub held-more : (ok one : Bool) (last after : List ℕ) (a k sender time row : ℕ) → sender ≡ getD s (a + 8) 0 → time ≡ wordAt (a + 9) s → row ≡ getD last sender 0 → after ≡ set last sender time
+      → one ≡ (heldExact a s && heldRight (lineOf s) n (heldIn a s)) → (ok && heldPass s n last a (suc k)) ≡ ((ok && (one && ltb row time)) && heldPass s n after (a + heldSize) k)
+  held-more ok one last after a k sender time row d e f h g =
+      let from : heldIn a s .sender ≡ sender = ap (λ (x : Held). x .sender) (held-in a s) ∙ sym d in
+      let same : heldIn a s .time ≡ time = ap (λ (x : Held). x .time) (held-in a s) ∙ sym e in
+      pass-more heldIn heldSize s heldExact (heldPasses (lineOf s) n) (heldNext (lineOf s) n) ok last a k
+      ∙ rw (from, same, f, g, h) (ap (λ (t : Bool). (ok && t) && heldPass s n (set last sender time) (a + heldSize) k) (sym (and-assoc (heldExact a s) (heldRight (lineOf s) n (heldIn a s)) (ltb (getD last sender 0) time))))
+
+  module _ (count : ℕ) (is : count ≡ wordAt (pageAt n + heldAt) s) (small : count ≤ heldLimit) where
+    held-slots : nodeAt (lineOf s) n .held ≡ slotsIn heldIn heldSize (pageAt n + heldAt + countSize) count s
+    held-slots =
+        list-slots heldIn noHeld heldSize (pageAt n + heldAt + countSize) count s (nodeAt (lineOf s) n .held)
+        (line-held-count s (few-of (page .counted)) n (page .within) ∙ rw (← is) (omega arith))
+        (λ i h.
+        (let there : pageAt n + (heldAt + countSize + heldSize * i) ≡ pageAt n + heldAt + countSize + heldSize * i = omega arith in
+        line-held-at s (few-of (page .counted)) n (page .within) i noHeld (omega arith) (omega arith) ∙ ap (λ (a : ℕ). heldIn a s) there))
+
+    pub held-whole : heldPass s n noneHeld (pageAt n + heldAt + countSize) count ≡ (slotsExact heldExact heldSize (pageAt n + heldAt + countSize) count s && heldAllRight (lineOf s) n (nodeAt (lineOf s) n .held))
+    unfolding heldAllRight
+    held-whole =
+        slots-pass heldIn heldSize s heldExact (heldPasses (lineOf s) n) (heldNext (lineOf s) n) noneHeld (pageAt n + heldAt + countSize) count
+        ∙ ap (λ (t : Bool). slotsExact heldExact heldSize (pageAt n + heldAt + countSize) count s && t) (ap (passes (heldPasses (lineOf s) n) (heldNext (lineOf s) n) noneHeld) (sym held-slots) ∙ held-passes (lineOf s) n noneHeld (nodeAt (lineOf s) n .held))
+
+-- ---- targets
+
+abbrev noTarget : Target
+noTarget = record { time = 0; parent = 0; parentTime = 0 }
+
+module _ (l : Line) (n : ℕ) where
+  abbrev pub targetPasses : ℕ → Target → Bool
+  targetPasses u t = targetRight l n t
+
+  abbrev pub targetNext : ℕ → Target → ℕ
+  targetNext u t = u
+
+  target-passes : (u : ℕ) (ts : List Target) → passes targetPasses targetNext u ts ≡ allOf (targetRight l n) ts
+  target-passes u [] = refl
+  target-passes u (t ∷ ts) = ap (λ (b : Bool). targetRight l n t && b) (target-passes u ts)
+
+-- The targets from an offset on.
+abbrev pub targetPass : List ℕ → ℕ → ℕ → ℕ → Bool
+targetPass s n a k = slotsPass targetIn targetSize s targetExact (targetPasses (lineOf s) n) (targetNext (lineOf s) n) 0 a k
+
+module _ (s table : List ℕ) (steps n at : ℕ) (page : PageOf s table steps n at) where
+  -- One target more.
+  pub target-more : (ok one : Bool) (a k : ℕ) → one ≡ (targetExact a s && targetRight (lineOf s) n (targetIn a s)) → (ok && targetPass s n a (suc k)) ≡ ((ok && one) && targetPass s n (a + targetSize) k)
+  target-more ok one a k g = pass-more targetIn targetSize s targetExact (targetPasses (lineOf s) n) (targetNext (lineOf s) n) ok 0 a k ∙ rw g refl
+
+  module _ (count : ℕ) (is : count ≡ wordAt (pageAt n + targetsAt) s) (small : count ≤ targetLimit) where
+    target-slots : nodeAt (lineOf s) n .targets ≡ slotsIn targetIn targetSize (pageAt n + targetsAt + countSize) count s
+    target-slots =
+        list-slots targetIn noTarget targetSize (pageAt n + targetsAt + countSize) count s (nodeAt (lineOf s) n .targets)
+        (line-targets-count s (few-of (page .counted)) n (page .within) ∙ rw (← is) (omega arith))
+        (λ i h.
+        (let there : pageAt n + (targetsAt + countSize + targetSize * i) ≡ pageAt n + targetsAt + countSize + targetSize * i = omega arith in
+        line-target-at s (few-of (page .counted)) n (page .within) i noTarget (omega arith) (omega arith) ∙ ap (λ (a : ℕ). targetIn a s) there))
+
+    pub target-whole : targetPass s n (pageAt n + targetsAt + countSize) count ≡ (slotsExact targetExact targetSize (pageAt n + targetsAt + countSize) count s && allOf (targetRight (lineOf s) n) (nodeAt (lineOf s) n .targets))
+    target-whole =
+        slots-pass targetIn targetSize s targetExact (targetPasses (lineOf s) n) (targetNext (lineOf s) n) 0 (pageAt n + targetsAt + countSize) count
+        ∙ ap (λ (t : Bool). slotsExact targetExact targetSize (pageAt n + targetsAt + countSize) count s && t) (ap (passes (targetPasses (lineOf s) n) (targetNext (lineOf s) n) 0) (sym target-slots) ∙ target-passes (lineOf s) n 0 (nodeAt (lineOf s) n .targets))
+
+-- ---- a list, its count and what stands behind it
+
+module _ (slot : ℕ → List ℕ → Bool) (limit size a : ℕ) (s : List ℕ) (right : Bool) where
+  pub list-many : limit < wordAt a s → (listExact slot limit size a s && right) ≡ false
+  unfolding listExact
+  list-many h = rw (lt-leb (wordAt a s) limit h)
+
+  list-parts : (u z r : Bool) → ((u && r) && z) ≡ ((u && z) && r)
+  list-parts true z true = sym (and-true z)
+  list-parts true z false = sym (and-false z)
+  list-parts false z r = refl
+
+  pub list-few : (used unused : Bool) → wordAt a s ≤ limit → used ≡ (slotsExact slot size (a + countSize) (wordAt a s) s && right) → unused ≡ zeroAt (a + countSize + size * wordAt a s) (size * (limit - wordAt a s)) s
+      → (used && unused) ≡ (listExact slot limit size a s && right)
+  unfolding listExact
+  list-few used unused h e f = rw (e, f, le-leb (wordAt a s) limit h) (list-parts (slotsExact slot size (a + countSize) (wordAt a s) s) (zeroAt (a + countSize + size * wordAt a s) (size * (limit - wordAt a s)) s) right)
+
+-- ---- the head, the status
+
+empty-count : {A : Type 0} (xs : List A) (c : ℕ) → length xs ≡ min c 64 → isEmpty xs ≡ eqb c 0
+empty-count [] c e = sym (eq-eqb c 0 (omega arith))
+empty-count (x ∷ xs) c e = sym (ne-eqb c 0 (λ z. omega arith))
+
+crash-mark : (c : ℕ) → not (eqb c 0) ≡ crashOf c
+crash-mark zero = refl
+crash-mark (suc c) = ap not (eqb·suc-zero c)
+
+not-missing : (status : ℕ) (mark : Bool) → (eqb status 0 || mark) ≡ not (not (isUp (statusOf status)) && not mark)
+not-missing zero mark = refl
+not-missing (suc zero) mark = sym (Bool·not-not mark)
+not-missing (suc (suc n)) mark = rw (eqb·suc-zero (suc n)) (sym (Bool·not-not mark))
+
+holds-not : (x : Node) (status time log held targets : ℕ) → time ≡ x .time → isEmpty (x .log) ≡ eqb log 0 → isEmpty (x .held) ≡ eqb held 0 → isEmpty (x .targets) ≡ eqb targets 0
+    → holdsNothing status time log held targets ≡ not (holdsByStatus (statusOf status) x)
+holds-not x zero time log held targets t l h g = rw (← h, ← g) (sym (Bool·not-not (isEmpty (x .held) && isEmpty (x .targets))))
+holds-not x (suc zero) time log held targets t l h g = rw (t, ← l, ← h, ← g) (sym (Bool·not-not (eqb (x .time) 0 && isEmpty (x .log) && isEmpty (x .held) && isEmpty (x .targets))))
+holds-not x (suc (suc n)) time log held targets t l h g = rw (← l) (sym (Bool·not-not (isEmpty (x .log))))
+
+-- What a node of a status may not hold, by the status as it is tested.
+pub nothing-up : (status time log held targets : ℕ) → status ≡ 0 → (eqb held 0 && eqb targets 0) ≡ holdsNothing status time log held targets
+nothing-up status time log held targets e = rw e refl
+
+pub nothing-down : (status time log held targets : ℕ) → status ≡ 1 → (eqb time 0 && eqb log 0 && eqb held 0 && eqb targets 0) ≡ holdsNothing status time log held targets
+nothing-down status time log held targets e = rw e refl
+
+pub nothing-replay : (status time log held targets : ℕ) → (status ≡ 0 → ⊥) → (status ≡ 1 → ⊥) → eqb log 0 ≡ holdsNothing status time log held targets
+nothing-replay zero time log held targets a b = absurd (a refl)
+nothing-replay (suc zero) time log held targets a b = absurd (b refl)
+nothing-replay (suc (suc n)) time log held targets a b = refl
+
+module _ (s table : List ℕ) (steps n at : ℕ) (page : PageOf s table steps n at) where
+  abbrev x : Node
+  x = nodeAt (lineOf s) n
+
+  few : Few s
+  few = few-of (page .counted)
+
+  at-page : (k v : ℕ) → v ≡ wordAt (at + k) s → v ≡ wordAt (pageAt n + k) s
+  at-page k v e = rw (page .start) at e
+
+  pub head-tested : (time : ℕ) → time ≡ wordAt (at + timeAt) s → (leb (getD s at 0) 2 && leb (getD s (at + 1) 0) 1 && (eqb (getD s (at + 2) 0) 0 && eqb (getD s (at + 3) 0) 0) && leb time steps) ≡ (headExact (pageAt n) s && leb (x .time) (lineOf s .steps))
+  head-tested time e =
+      let same : time ≡ x .time = time-in s table steps n at page time e in
+      let next : at + 3 ≡ at + 2 + 1 = omega arith in
+      rw (next, ← two-zero (at + 2) s (omega (arith, page-room page)), ← same, ← page .counted .same, ← page .start, add-zero) refl
+
+  pub status-tested : (status mark time log held targets : ℕ) (source sink nothing : Bool)
+      → status ≡ getD s at 0 → mark ≡ getD s (at + 1) 0 → time ≡ wordAt (at + timeAt) s → log ≡ wordAt (at + logAt) s → held ≡ wordAt (at + heldAt) s → targets ≡ wordAt (at + targetsAt) s
+      → source ≡ isSource (planOf s) n → sink ≡ isSink (planOf s) n → nothing ≡ holdsNothing status time log held targets
+      → ((eqb status 0 || not (eqb mark 0)) && not (not (eqb mark 0) && (source || sink)) && nothing) ≡ statusRight (lineOf s .plan) n x
+  unfolding statusRight markMissing markOnEnd nodeHolds
+  status-tested status mark time log held targets source sink nothing a b c d e f g h i =
+      let is : x .status ≡ statusOf status = line-status s few n (page .within) ∙ ap statusOf (rw (page .start, ← add-zero (pageAt n)) at (sym a)) in
+      let marked : x .crashed ≡ not (eqb mark 0) = line-crashed s few n (page .within) ∙ ap crashOf (rw (page .start) at (sym b)) ∙ sym (crash-mark mark) in
+      let empty = holds-not x status time log held targets (time-in s table steps n at page time c) (empty-count (x .log) log (line-log-count s few n (page .within) ∙ rw (at-page logAt log d) refl)) (empty-count (x .held) held (line-held-count s few n (page .within) ∙ rw (at-page heldAt held e) refl)) (empty-count (x .targets) targets (line-targets-count s few n (page .within) ∙ rw (at-page targetsAt targets f) refl)) in
+      rw (is, marked, line-plan s, i, empty, g, h, not-missing status (not (eqb mark 0))) refl
+
+  counts-right : countsRight x ≡ true
+  unfolding countsRight
+  counts-right =
+      rw (
+        line-log-count s few n (page .within),
+        line-held-count s few n (page .within),
+        line-targets-count s few n (page .within),
+        le-leb (min (wordAt (pageAt n + logAt) s) 64) 64 (omega arith),
+        le-leb (min (wordAt (pageAt n + heldAt) s) 64) 64 (omega arith),
+        le-leb (min (wordAt (pageAt n + targetsAt) s) 64) 64 (omega arith),
+      ) refl
+
+  pub node-tested : (head log held targets rest status : Bool)
+      → head ≡ (headExact (pageAt n) s && leb (x .time) (lineOf s .steps))
+      → log ≡ (listExact entryExact logLimit entrySize (pageAt n + logAt) s && logRight (lineOf s) n (x .log))
+      → held ≡ (listExact heldExact heldLimit heldSize (pageAt n + heldAt) s && heldAllRight (lineOf s) n (x .held))
+      → targets ≡ (listExact targetExact targetLimit targetSize (pageAt n + targetsAt) s && allOf (targetRight (lineOf s) n) (x .targets))
+      → rest ≡ zeroAt (pageAt n + nodeRestAt) nodeRest s
+      → status ≡ statusRight (lineOf s .plan) n x
+      → (head && log && held && targets && (rest && status)) ≡ (pageExact (pageAt n) s && nodePlain (lineOf s) n)
+  unfolding pageExact nodePlain
+  node-tested head log held targets rest status a b c d e f =
+      let L = listExact entryExact logLimit entrySize (pageAt n + logAt) s in
+      let H = listExact heldExact heldLimit heldSize (pageAt n + heldAt) s in
+      let T = listExact targetExact targetLimit targetSize (pageAt n + targetsAt) s in
+      let R = zeroAt (pageAt n + nodeRestAt) nodeRest s in
+      let E = headExact (pageAt n) s in
+      let time = leb (x .time) (lineOf s .steps) in
+      let lr = logRight (lineOf s) n (x .log) in
+      let hr = heldAllRight (lineOf s) n (x .held) in
+      let tr = allOf (targetRight (lineOf s) n) (x .targets) in
+      let sr = statusRight (lineOf s .plan) n x in
+      rw (a, b, c, d, e, f, counts-right)
+      (ap (λ (t : Bool). t && (H && hr) && (T && tr) && (R && sr)) (swap-middle E time L lr)
+      ∙ ap (λ (t : Bool). t && (T && tr) && (R && sr)) (swap-middle (E && L) (time && lr) H hr)
+      ∙ ap (λ (t : Bool). t && (R && sr)) (swap-middle (E && L && H) (time && lr && hr) T tr)
+      ∙ swap-middle (E && L && H && T) (time && lr && hr && tr) R sr)
+
+-- What the check of a node is asked with.
+pub page-of : (s table : List ℕ) (steps n at : ℕ) → Ready s → Table s table → n < planNodes s → steps ≡ wordAt stepsAt s → at ≡ pageAt n → PageOf s table steps n at
+page-of s table steps n at ready tabled within e start =
+    record { counted = record { ready = ready; tabled = tabled; same = e ∙ sym (line-steps s (record { nodes = ready .nodes; channels = ready .channels })) }; within = within; start = start }
+
+-- A right node is one that is right but for what a replay asks, and what a replay asks.
+pub node-plain : (l : Line) (n : ℕ) → nodeRight l n ≡ (nodePlain l n && (not (replaying l n) || replayRight l n))
+unfolding nodeRight nodePlain
+node-plain l n = refl

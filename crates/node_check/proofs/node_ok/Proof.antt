@@ -1,0 +1,63 @@
+use Prim.Native.Nat.{ℕ, _+_, _*_, _-_}
+use mathlib.Core.Path.{_≡_, _∙_}
+use native.Mathlib.Omega.{arith}
+use borrow.Author.Needs.{needs}
+use Rattle.state.specs.Sizes.{pageAt, nodeRestAt, nodeRest}
+use Rattle.node_check.proofs.PieceBytes.{zero-part}
+use Rattle.node_check.proofs.NodeLaws.{page-of, page-room, node-tested}
+use Rattle.node_check.proofs.node_ok.Statement.{statement}
+use Rattle.node_check.proofs.node_ok.Tie as tie
+
+head-ok-requires : tie.Need-head-ok-requires
+head-ok-requires c κs = let start = c .before in page-of (start .args .s .now) (start .args .t .now) (start .args .steps) (start .args .n) (4096 + 4096 * start .args .n) (start .pre .0) (start .pre .1) (start .pre .2) (start .pre .3) (omega arith)
+
+log-ok-requires : tie.Need-log-ok-requires
+log-ok-requires c κs = let start = c .before .before in page-of (start .args .s .now) (start .args .t .now) (start .args .steps) (start .args .n) (4096 + 4096 * start .args .n) (start .pre .0) (start .pre .1) (start .pre .2) (start .pre .3) (omega arith)
+
+held-ok-requires : tie.Need-held-ok-requires
+held-ok-requires c κs = let start = c .before .before .before in page-of (start .args .s .now) (start .args .t .now) (start .args .steps) (start .args .n) (4096 + 4096 * start .args .n) (start .pre .0) (start .pre .1) (start .pre .2) (start .pre .3) (omega arith)
+
+targets-ok-requires : tie.Need-targets-ok-requires
+targets-ok-requires c κs = let start = c .before .before .before .before in page-of (start .args .s .now) (start .args .t .now) (start .args .steps) (start .args .n) (4096 + 4096 * start .args .n) (start .pre .0) (start .pre .1) (start .pre .2) (start .pre .3) (omega arith)
+
+all-zero-requires : tie.Need-all-zero-requires
+all-zero-requires c κs =
+    let start = c .before .before .before .before .before in
+    (omega arith, omega (arith, page-room (page-of (start .args .s .now) (start .args .t .now) (start .args .steps) (start .args .n) (4096 + 4096 * start .args .n) (start .pre .0) (start .pre .1) (start .pre .2) (start .pre .3) (omega arith))))
+
+status-ok-requires : tie.Need-status-ok-requires
+status-ok-requires c κs = let start = c .before .before .before .before .before .before in page-of (start .args .s .now) (start .args .t .now) (start .args .steps) (start .args .n) (4096 + 4096 * start .args .n) (start .pre .0) (start .pre .1) (start .pre .2) (start .pre .3) (omega arith)
+
+returns : tie.Need-returns
+returns c =
+    let rest = c .before in
+    let targets = rest .before in
+    let held = targets .before in
+    let log = held .before in
+    let head = log .before in
+    let start = head .before .before in
+    let a = start .args in
+    let s = a .s .now in
+    let at : ℕ = 4096 + 4096 * a .n in
+    let same : at ≡ pageAt (a .n) = omega arith in
+    let from : at + 3604 ≡ pageAt (a .n) + nodeRestAt = omega arith in
+    let wide : at + 4096 - (at + 3604) ≡ nodeRest = omega arith in
+    node-tested s (a .t .now) (a .steps) (a .n) at (page-of s (a .t .now) (a .steps) (a .n) at (start .pre .0) (start .pre .1) (start .pre .2) (start .pre .3) same) (head .head-ok .result) (log .log-ok .result) (held .held-ok .result) (targets .targets-ok .result) (rest .all-zero .result) (c .status-ok .result) (head .head-ok .ensures) (log .log-ok .ensures) (held .held-ok .ensures) (targets .targets-ok .ensures)
+    (rest .all-zero .ensures ∙ zero-part (at + 3604) (at + 4096) (pageAt (a .n) + nodeRestAt) nodeRest s from wide)
+    (c .status-ok .ensures)
+
+pub node-ok-spec : {M : Type 1} → statement M
+node-ok-spec =
+    tie.close
+    (tie.spec
+    (λ c. search needs)
+    (λ c. search needs)
+    head-ok-requires
+    log-ok-requires
+    held-ok-requires
+    targets-ok-requires
+    (λ c. search needs)
+    (λ c. search needs)
+    all-zero-requires
+    status-ok-requires
+    returns)

@@ -1,0 +1,71 @@
+use Prim.Native.Nat.{ℕ, suc, _+_, _-_}
+use mathlib.Core.Path.{_≡_, refl, sym, ap, _∙_}
+use mathlib.Core.Bool.{_&&_, and-true}
+use native.Mathlib.Omega.{arith}
+use lib.ListN.{length}
+use Rattle.state.specs.Sizes.{pageAt, targetsAt, countSize, targetSize}
+use Rattle.node_check.proofs.NodeLaws.{Going, page-room, targetPass, target-more, target-whole}
+use Rattle.node_check.proofs.target_each_ok.Statement.{statement}
+use Rattle.node_check.proofs.target_each_ok.Tie as tie
+
+abbrev Inv-loop : tie.InvT-loop
+Inv-loop s t steps n at count ok₀ slot₀ left₀ ok slot left =
+    Going (length s) targetSize (pageAt n + targetsAt + countSize) slot count left (targetPass s n (pageAt n + targetsAt + countSize) count) (ok && targetPass s n slot left)
+
+abbrev μ-loop : tie.MeasureT-loop
+μ-loop s t steps n at count ok₀ slot₀ left₀ ok slot left = left
+
+add-slot : tie.Need-add-slot Inv-loop μ-loop
+add-slot c = omega (arith, page-room (c .before .pre .0))
+
+loop-holds : tie.Need-loop-holds Inv-loop μ-loop
+loop-holds c =
+    let a = c .before .args in
+    let k = c .before .pre in
+    let start : a .at + 2836 ≡ pageAt (a .n) + targetsAt + countSize = omega (arith, k .0 .start) in
+    record { within = omega arith; there = omega (arith, start); fits = omega (arith, page-room (k .0), start, k .2); same = rw start refl }
+
+target-ok-requires : tie.Need-target-ok-requires Inv-loop μ-loop
+target-ok-requires c κs = let v = c .before .loop .inv in (c .before .before .before .pre .0 .counted, omega (arith, v .there, v .fits, v .within))
+
+loop-again : tie.Need-loop-again Inv-loop μ-loop
+loop-again c =
+    let t = c .before .before .loop in
+    let start = c .before .before .before .before in
+    let a = start .args in
+    let more : suc (t .left - 1) ≡ t .left = omega arith in
+    record {
+      within = omega (arith, t .inv .within);
+      there = omega (arith, t .inv .there);
+      fits = t .inv .fits;
+      same =
+          t .inv .same
+          ∙ ap (λ (k : ℕ). t .ok && targetPass (a .s .now) (a .n) (t .slot) k) (sym more)
+          ∙ target-more (a .s .now) (a .t .now) (a .steps) (a .n) (a .at) (start .pre .0) (t .ok) (c .target-ok .result) (t .slot) (t .left - 1) (c .target-ok .ensures);
+    }
+
+returns : tie.Need-returns Inv-loop μ-loop
+returns c =
+    let start = c .before .before .before in
+    let a = start .args in
+    let t = c .before .loop in
+    let none : t .left ≡ 0 = omega arith in
+    sym (and-true (t .ok))
+    ∙ ap (λ (k : ℕ). t .ok && targetPass (a .s .now) (a .n) (t .slot) k) (sym none)
+    ∙ sym (t .inv .same)
+    ∙ target-whole (a .s .now) (a .t .now) (a .steps) (a .n) (a .at) (start .pre .0) (a .count) (start .pre .1) (start .pre .2)
+
+pub target-each-ok-spec : {M : Type 1} → statement M
+target-each-ok-spec =
+    tie.close
+    (tie.spec
+    Inv-loop
+    μ-loop
+    add-slot
+    loop-holds
+    target-ok-requires
+    (λ c. omega arith)
+    (λ c. omega arith)
+    (λ c. omega arith)
+    loop-again
+    returns)

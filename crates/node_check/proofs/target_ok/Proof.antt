@@ -1,0 +1,40 @@
+use borrow.Author.Needs.{needs}
+use lib.Dec.{ltb}
+use Rattle.rules.specs.Line.{fed}
+use Rattle.state.specs.State.{lineOf}
+use Rattle.buffer.proofs.OriginLaws.{parent-found}
+use Rattle.node_check.proofs.PieceBytes.{target-tested}
+use Rattle.node_check.proofs.target_ok.Statement.{statement}
+use Rattle.node_check.proofs.target_ok.Tie as tie
+
+returns : tie.Need-returns
+returns c =
+    let found = c .before .before .before in
+    let parent = found .before in
+    let other = parent .before .before in
+    let time = other .before in
+    let start = time .before .before in
+    let a = start .args in
+    let s = a .s .now in
+    rw (start .pre .0 .same)
+    (target-tested (lineOf s) (a .n) (a .at) s (start .pre .1) (time .get32 .result) (other .get322 .result) (parent .index .result) (time .get32 .ensures) (other .get322 .ensures) (parent .index .ensures .0) (ltb (found .channel-in .result) 24)
+    (parent-found s (a .t .now) (a .steps) (start .pre .0) (a .n) (parent .index .result) 0 fed (found .channel-in .result) (found .channel-in .ensures)))
+
+pub target-ok-spec : {M : Type 1} → statement M
+target-ok-spec =
+    tie.close
+    (tie.spec
+    (λ c κs. search needs)
+    (λ c. search needs)
+    (λ c κs. search needs)
+    (λ c. search needs)
+    (λ c. search needs)
+    (λ c κs. search needs)
+    (λ c κs. search needs)
+    (λ c. search needs)
+    (λ c. search needs)
+    (λ c. search needs)
+    (λ c. search needs)
+    (λ c. search needs)
+    (λ c. search needs)
+    returns)

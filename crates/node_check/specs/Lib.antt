@@ -1,0 +1,2 @@
+-- What the check of a node's page finds.
+pub mod NodeCheck

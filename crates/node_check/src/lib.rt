@@ -1,0 +1,276 @@
+// The check of a node's page.
+ghost use mathlib.Core.Path.{_≡_};
+ghost use mathlib.Core.Bool.{_&&_};
+ghost use Prim.Native.Nat.{_+_, _≤_, _<_};
+ghost use lib.ListN.{length, getD, set};
+ghost use lib.Dec.{leb};
+ghost use Rattle.plan.specs.Plan.{planOf, planNodes};
+ghost use Rattle.rules.specs.Lists.{allOf};
+ghost use Rattle.rules.specs.Line.{nodeAt, logLimit, heldLimit, targetLimit};
+ghost use Rattle.rules.specs.Replay.{passedOn};
+ghost use Rattle.state.specs.Sizes.{pageAt, countSize, logAt, entrySize, heldAt, heldSize, targetsAt, targetSize, stepsAt};
+ghost use Rattle.state.specs.State.{lineOf};
+ghost use Rattle.state.specs.Right.{wordAt};
+ghost use Rattle.items.specs.Items.{entryRight, logRight, heldRight, heldAllRight, targetRight, statusRight};
+ghost use Rattle.buffer.specs.Exact.{entryExact, heldExact, targetExact, slotsExact, listExact, pageExact};
+ghost use Rattle.node_check.specs.NodeCheck.{headExact, holdsNothing, nodePlain};
+ghost use Rattle.buffer.specs.Check.{Counted, PageOf, recordIn, entryIn, heldIn, targetIn};
+ghost use Rattle.buffer.specs.Ready.{Ready};
+ghost use Rattle.buffer.specs.Table.{Table};
+use buffer::Line;
+use buffer::bytes;
+use buffer::look;
+use buffer::origin;
+use buffer::table;
+
+// A log entry: record, time, what it was made from and what that was made from, two bytes unused.
+fn entry_ok(s: &[u8], t: &[u8; 156], steps: u32, n: usize, at: usize) -> bool
+    requires { ⌜ Counted (now s) (now t) steps × (at + 24 ≤ length (now s)) ⌝ }
+    ensures { λ r. ⌜ r ≡ (entryExact at (now (s .entry)) && entryRight (lineOf (now (s .entry))) n (entryIn at (now (s .entry)))) ⌝ }
+{
+    let from = look::index(s[at + 12]);
+    let time = bytes::get32(s, at + 13);
+    let earlier = look::index(s[at + 17]);
+    let since = bytes::get32(s, at + 18);
+    let made = origin::origin_ok(s, t, steps, n, from, time, earlier, since);
+    let named = ((from != 0) | (time == 0)) & ((earlier != 0) | (since == 0));
+    let unused = (s[at + 22] == 0) & (s[at + 23] == 0);
+    let what = origin::record_ok(s, at);
+    what & named & unused & made
+}
+
+// The log's entries, so many: their times rise to the node's.
+fn entries_ok(s: &[u8], t: &[u8; 156], steps: u32, n: usize, at: usize, count: u32) -> bool
+    requires { ⌜ PageOf (now s) (now t) steps n at × (count ≡ wordAt (pageAt n + logAt) (now s)) × (count ≤ logLimit) ⌝ }
+    ensures { λ r. ⌜ r ≡ (slotsExact entryExact entrySize (pageAt n + logAt + countSize) count (now (s .entry)) && logRight (lineOf (now (s .entry))) n (nodeAt (lineOf (now (s .entry))) n .log)) ⌝ }
+{
+    let top = bytes::get32(s, at + 4);
+    let mut ok = true;
+    let mut last: u32 = 0;
+    let mut slot = at + 12;
+    let mut left = count;
+    while 0 < left {
+        let time = bytes::get32(s, slot + 8);
+        let entry = entry_ok(s, t, steps, n, slot);
+        ok = ok & (entry & ((last < time) & (time <= top)));
+        last = time;
+        slot += 24;
+        left -= 1;
+    }
+    ok
+}
+
+// The log: its count, its entries, and zero bytes behind them.
+fn log_ok(s: &[u8], t: &[u8; 156], steps: u32, n: usize, at: usize) -> bool
+    requires { ⌜ PageOf (now s) (now t) steps n at ⌝ }
+    ensures { λ r. ⌜ r ≡ (listExact entryExact logLimit entrySize (pageAt n + logAt) (now (s .entry)) && logRight (lineOf (now (s .entry))) n (nodeAt (lineOf (now (s .entry))) n .log)) ⌝ }
+{
+    let count = bytes::get32(s, at + 8);
+    if Line::LOG_LIMIT < count {
+        return false;
+    }
+    let used = entries_ok(s, t, steps, n, at, count);
+    let unused = bytes::all_zero(s, at + 12 + 24 * (count as usize), at + 1548);
+    used & unused
+}
+
+// A record, read.
+fn record_at(s: &[u8], at: usize) -> plan::Record
+    requires { ⌜ at + 8 ≤ length (now s) ⌝ }
+    ensures { λ r. ⌜ r ≡ recordIn at (now (s .entry)) ⌝ }
+{
+    plan::Record {
+        piece: bytes::get32(s, at),
+        material: s[at + 4],
+        mass: bytes::get16(s, at + 6),
+    }
+}
+
+// Whether a channel that leaves a node takes the record.
+fn passed_on(s: &[u8], n: usize, at: usize) -> bool
+    requires { ⌜ Ready (now s) × (at + 8 ≤ length (now s)) ⌝ }
+    ensures { λ r. ⌜ r ≡ passedOn (planOf (now (s .entry))) n (recordIn at (now (s .entry))) ⌝ }
+{
+    let what = record_at(s, at);
+    let m = look::channel_count(s);
+    let mut from = look::channels_at(s);
+    let mut found = false;
+    let mut b: usize = 0;
+    while b < m {
+        let sender = look::index(s[from]);
+        if sender == n {
+            found = found | plan::channel_takes(plan::channel_at(s, b), what);
+        }
+        from += 6;
+        b += 1;
+    }
+    found
+}
+
+// A held record: record, sender and its time, what that was made from, two bytes unused.
+fn held_one_ok(s: &[u8], t: &[u8; 156], steps: u32, n: usize, at: usize) -> bool
+    requires { ⌜ Counted (now s) (now t) steps × (at + 20 ≤ length (now s)) ⌝ }
+    ensures { λ r. ⌜ r ≡ (heldExact at (now (s .entry)) && heldRight (lineOf (now (s .entry))) n (heldIn at (now (s .entry)))) ⌝ }
+{
+    let sender = look::index(s[at + 8]);
+    let time = bytes::get32(s, at + 9);
+    let earlier = look::index(s[at + 13]);
+    let since = bytes::get32(s, at + 14);
+    let made = origin::made_ok(s, t, steps, n, sender, time, earlier, since);
+    let named = (earlier != 0) | (since == 0);
+    let unused = (s[at + 18] == 0) & (s[at + 19] == 0);
+    let what = origin::record_ok(s, at);
+    let passed = passed_on(s, n, at);
+    what & named & unused & made & passed
+}
+
+// The last time of each row, by sender: a plan has at most 12 nodes.
+fn row_last(last: &[u32; 12], sender: usize) -> u32
+    requires { ⌜ length (now last) ≡ 12 ⌝ }
+    ensures { λ r. ⌜ r ≡ getD (now (last .entry)) sender 0 ⌝ }
+{
+    if sender < 12 { last[sender] } else { 0 }
+}
+
+fn row_set(last: &mut [u32; 12], sender: usize, time: u32)
+    requires { ⌜ length (now last) ≡ 12 ⌝ }
+    ensures { λ _. ⌜ now (last .exit) ≡ set (now (last .entry)) sender time ⌝ }
+{
+    if sender < 12 {
+        last[sender] = time;
+    }
+}
+
+// The held records, so many: the times of a row rise.
+fn held_each_ok(s: &[u8], t: &[u8; 156], steps: u32, n: usize, at: usize, count: u32) -> bool
+    requires { ⌜ PageOf (now s) (now t) steps n at × (count ≡ wordAt (pageAt n + heldAt) (now s)) × (count ≤ heldLimit) ⌝ }
+    ensures { λ r. ⌜ r ≡ (slotsExact heldExact heldSize (pageAt n + heldAt + countSize) count (now (s .entry)) && heldAllRight (lineOf (now (s .entry))) n (nodeAt (lineOf (now (s .entry))) n .held)) ⌝ }
+{
+    let mut ok = true;
+    let mut last: [u32; 12] = [0; 12];
+    let mut slot = at + 1552;
+    let mut left = count;
+    while 0 < left {
+        let sender = look::index(s[slot + 8]);
+        let time = bytes::get32(s, slot + 9);
+        let one = held_one_ok(s, t, steps, n, slot);
+        let row = row_last(&last, sender);
+        ok = ok & (one & (row < time));
+        row_set(&mut last, sender, time);
+        slot += 20;
+        left -= 1;
+    }
+    ok
+}
+
+// The list of held records: its count, the records, and zero bytes behind them.
+fn held_ok(s: &[u8], t: &[u8; 156], steps: u32, n: usize, at: usize) -> bool
+    requires { ⌜ PageOf (now s) (now t) steps n at ⌝ }
+    ensures { λ r. ⌜ r ≡ (listExact heldExact heldLimit heldSize (pageAt n + heldAt) (now (s .entry)) && heldAllRight (lineOf (now (s .entry))) n (nodeAt (lineOf (now (s .entry))) n .held)) ⌝ }
+{
+    let count = bytes::get32(s, at + 1548);
+    if Line::HELD_LIMIT < count {
+        return false;
+    }
+    let used = held_each_ok(s, t, steps, n, at, count);
+    let unused = bytes::all_zero(s, at + 1552 + 20 * (count as usize), at + 2832);
+    used & unused
+}
+
+// A target: the node's time, the parent's time, the parent, three bytes unused.
+fn target_ok(s: &[u8], t: &[u8; 156], steps: u32, n: usize, at: usize) -> bool
+    requires { ⌜ Counted (now s) (now t) steps × (at + 12 ≤ length (now s)) ⌝ }
+    ensures { λ r. ⌜ r ≡ (targetExact at (now (s .entry)) && targetRight (lineOf (now (s .entry))) n (targetIn at (now (s .entry)))) ⌝ }
+{
+    let time = bytes::get32(s, at);
+    let other = bytes::get32(s, at + 4);
+    let parent = look::index(s[at + 8]);
+    let b = table::channel_in(s, t, parent, n);
+    let unused = (s[at + 9] == 0) & (s[at + 10] == 0) & (s[at + 11] == 0);
+    unused & ((time <= steps) & (other <= steps) & (b < 24))
+}
+
+// The targets, so many.
+fn target_each_ok(s: &[u8], t: &[u8; 156], steps: u32, n: usize, at: usize, count: u32) -> bool
+    requires { ⌜ PageOf (now s) (now t) steps n at × (count ≡ wordAt (pageAt n + targetsAt) (now s)) × (count ≤ targetLimit) ⌝ }
+    ensures { λ r. ⌜ r ≡ (slotsExact targetExact targetSize (pageAt n + targetsAt + countSize) count (now (s .entry)) && allOf (targetRight (lineOf (now (s .entry))) n) (nodeAt (lineOf (now (s .entry))) n .targets)) ⌝ }
+{
+    let mut ok = true;
+    let mut slot = at + 2836;
+    let mut left = count;
+    while 0 < left {
+        ok = ok & target_ok(s, t, steps, n, slot);
+        slot += 12;
+        left -= 1;
+    }
+    ok
+}
+
+// The list of targets: its count, the targets, and zero bytes behind them.
+fn targets_ok(s: &[u8], t: &[u8; 156], steps: u32, n: usize, at: usize) -> bool
+    requires { ⌜ PageOf (now s) (now t) steps n at ⌝ }
+    ensures { λ r. ⌜ r ≡ (listExact targetExact targetLimit targetSize (pageAt n + targetsAt) (now (s .entry)) && allOf (targetRight (lineOf (now (s .entry))) n) (nodeAt (lineOf (now (s .entry))) n .targets)) ⌝ }
+{
+    let count = bytes::get32(s, at + 2832);
+    if Line::TARGET_LIMIT < count {
+        return false;
+    }
+    let used = target_each_ok(s, t, steps, n, at, count);
+    let unused = bytes::all_zero(s, at + 2836 + 12 * (count as usize), at + 3604);
+    used & unused
+}
+
+// Status, crash mark, two bytes unused, time.
+fn head_ok(s: &[u8], t: &[u8; 156], steps: u32, n: usize, at: usize) -> bool
+    requires { ⌜ PageOf (now s) (now t) steps n at ⌝ }
+    ensures { λ r. ⌜ r ≡ (headExact (pageAt n) (now (s .entry)) && leb (nodeAt (lineOf (now (s .entry))) n .time) (lineOf (now (s .entry)) .steps)) ⌝ }
+{
+    let time = bytes::get32(s, at + 4);
+    let unused = (s[at + 2] == 0) & (s[at + 3] == 0);
+    (s[at] <= 2) & (s[at + 1] <= 1) & unused & (time <= steps)
+}
+
+// What a node of a status may not hold: held records and targets where it is up, anything where it is down, a log where it replays.
+fn holds_nothing(status: u8, time: u32, log: u32, held: u32, targets: u32) -> bool
+    ensures { λ r. ⌜ r ≡ holdsNothing status time log held targets ⌝ }
+{
+    if status == 0 {
+        return (held == 0) & (targets == 0);
+    }
+    if status == 1 {
+        return (time == 0) & (log == 0) & (held == 0) & (targets == 0);
+    }
+    log == 0
+}
+
+// Status and crash mark, by what the node holds and where it stands in the plan.
+fn status_ok(s: &[u8], t: &[u8; 156], steps: u32, n: usize, at: usize) -> bool
+    requires { ⌜ PageOf (now s) (now t) steps n at ⌝ }
+    ensures { λ r. ⌜ r ≡ statusRight (lineOf (now (s .entry)) .plan) n (nodeAt (lineOf (now (s .entry))) n) ⌝ }
+{
+    let status = s[at];
+    let crashed = s[at + 1] != 0;
+    let time = bytes::get32(s, at + 4);
+    let log = bytes::get32(s, at + 8);
+    let held = bytes::get32(s, at + 1548);
+    let targets = bytes::get32(s, at + 2832);
+    let source = table::source_in(s, t, n);
+    let sink = look::is_sink(s, n);
+    let nothing = holds_nothing(status, time, log, held, targets);
+    ((status == 0) | crashed) & !(crashed & (source | sink)) & nothing
+}
+
+// A node's page: right bytes, and a right node but for what a replay asks.
+pub fn node_ok(s: &[u8], t: &[u8; 156], n: usize, steps: u32) -> bool
+    requires { ⌜ Ready (now s) × Table (now s) (now t) × (n < planNodes (now s)) × (steps ≡ wordAt stepsAt (now s)) ⌝ }
+    ensures { λ r. ⌜ r ≡ (pageExact (pageAt n) (now (s .entry)) && nodePlain (lineOf (now (s .entry))) n) ⌝ }
+{
+    let at = 4096 + 4096 * n;
+    let head = head_ok(s, t, steps, n, at);
+    let log = log_ok(s, t, steps, n, at);
+    let held = held_ok(s, t, steps, n, at);
+    let targets = targets_ok(s, t, steps, n, at);
+    let rest = bytes::all_zero(s, at + 3604, at + 4096);
+    let status = status_ok(s, t, steps, n, at);
+    head & log & held & targets & (rest & status)
+}

@@ -1,0 +1,7 @@
+-- What Recover's findings rest on.
+pub mod ChildLaws
+pub mod TripleLaws
+pub mod TargetLaws
+pub mod FoundLaws
+pub mod RowLaws
+pub mod ReplayLaws

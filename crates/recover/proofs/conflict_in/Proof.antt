@@ -1,0 +1,43 @@
+use Prim.Native.Nat.{_-_}
+use mathlib.Core.Path.{refl}
+use native.Mathlib.Omega.{arith}
+use Rattle.recover.proofs.RowLaws.{Conflicting, conflicting-turn, conflicting-end}
+use Rattle.recover.proofs.conflict_in.Statement.{statement}
+use Rattle.recover.proofs.conflict_in.Tie as tie
+
+abbrev Inv-loop : tie.InvT-loop
+Inv-loop xs count found₀ i₀ found i = Conflicting xs count found i
+
+abbrev μ-loop : tie.MeasureT-loop
+μ-loop xs count found₀ i₀ found i = count - i
+
+loop-holds : tie.Need-loop-holds Inv-loop μ-loop
+loop-holds c = record { within = omega arith; now = refl }
+
+clashes-requires : tie.Need-clashes-requires Inv-loop μ-loop
+clashes-requires c κs = let p = c .before .before .before .pre in (p .0, p .1, omega arith)
+
+loop-again : tie.Need-loop-again Inv-loop μ-loop
+loop-again c =
+    let t = c .before .before .loop in
+    let a = c .before .before .before .before .args in
+    conflicting-turn (a .xs .now) (a .count) (t .found) (t .i) (c .clashes .result) (omega arith) (c .clashes .ensures) (t .inv)
+
+returns : tie.Need-returns Inv-loop μ-loop
+returns c =
+    let t = c .before .loop in
+    let a = c .before .before .before .args in
+    conflicting-end (a .xs .now) (a .count) (t .found) (t .i) (omega arith) (t .inv)
+
+pub conflict-in-spec : {M : Type 1} → statement M
+conflict-in-spec =
+    tie.close
+    (tie.spec
+    Inv-loop
+    μ-loop
+    loop-holds
+    clashes-requires
+    (λ c. omega arith)
+    (λ c. omega arith)
+    loop-again
+    returns)

@@ -1,0 +1,41 @@
+use Prim.Native.Nat.{ℕ, _+_, _*_}
+use mathlib.Core.Path.{_≡_, sym, ap, _∙_}
+use mathlib.Core.Bool.{not, _&&_}
+use native.Mathlib.Omega.{arith}
+use borrow.Author.Needs.{needs}
+use lib.Dec.{eqb}
+use Rattle.rules.specs.Line.{nodeAt}
+use Rattle.state.specs.Sizes.{pageAt, timeAt}
+use Rattle.state.specs.Right.{wordAt}
+use Rattle.state.specs.State.{lineOf}
+use Rattle.state.proofs.OffsetLaws.{line-time}
+use Rattle.recover.proofs.ChildLaws.{ready-counted}
+use Rattle.recover.proofs.replay_found.Statement.{statement}
+use Rattle.recover.proofs.replay_found.Tie as tie
+
+rows-restored-requires : tie.Need-rows-restored-requires
+rows-restored-requires c κs = let p = c .before .before .before .pre in (p .0, p .1, p .2, p .4, p .5)
+
+same-targets-requires : tie.Need-same-targets-requires
+same-targets-requires c κs = let p = c .before .before .before .before .pre in (p .0, p .2, p .3, p .4, p .5)
+
+returns : tie.Need-returns
+returns c =
+    let first = c .before .before .before .before .before .before in
+    let a = first .args in
+    let s = a .s .now in
+    let place : 4100 + 4096 * a .n ≡ pageAt (a .n) + timeAt = omega arith in
+    let time : c .get32 .result ≡ nodeAt (lineOf s) (a .n) .time = c .get32 .ensures ∙ ap (λ (x : ℕ). wordAt x s) place ∙ sym (line-time s (ready-counted (first .pre .0)) (a .n) (first .pre .2)) in
+    λ j. not (c .before .before .before .conflict-in .ensures j) && not (c .before .before .rows-restored .ensures j) && eqb (time j) (a .low) && c .before .same-targets .ensures j
+
+pub replay-found-spec : {M : Type 1} → statement M
+replay-found-spec =
+    tie.close
+    (tie.spec
+    (λ c κs. let p = c .before .before .pre in (p .4, p .5))
+    rows-restored-requires
+    same-targets-requires
+    (λ c. search needs)
+    (λ c. search needs)
+    (λ c κs. search needs)
+    returns)

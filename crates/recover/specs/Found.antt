@@ -1,0 +1,128 @@
+-- What Recover finds, as the code goes over the state's bytes.
+use Prim.Native.Nat.{ℕ, zero, suc, _+_, _*_, _≤_, _<_, min}
+use mathlib.Core.Path.{_≡_}
+use mathlib.Core.Bool.{Bool, true, not, cond, _&&_, _||_}
+use mathlib.Core.List.{List, [], _∷_, _++_, map}
+use lib.Dec.{leb, ltb, eqb}
+use lib.ListN.{length, getD, set, take, drop}
+use Rattle.plan.specs.Plan.{planOf, planNodes, channelAt, entering}
+use Rattle.rules.specs.Lists.{keep, allOf, greatestOf}
+use Rattle.rules.specs.Line.{logLimit, fed, Entry, Target, Line, nodeAt, senderOf}
+use Rattle.rules.specs.Recover.{triple, triples, sameTarget, targetBefore, addTarget, sortTargets, restored, conflict, rowGoal}
+use Rattle.rules.specs.Damaged.{sameTargets}
+use Rattle.state.specs.Sizes.{pageAt, logAt}
+use Rattle.state.specs.Right.{wordAt}
+use Rattle.state.specs.State.{lineOf}
+use Rattle.recover.specs.declared.Triple.{Triple}
+use Rattle.recover.specs.declared.Goal.{Goal}
+
+-- Every node's log is within its limit.
+abbrev pub LogsCounted : List ℕ → Type 0
+LogsCounted s = (k : ℕ) → k < planNodes s → wordAt (pageAt k + logAt) s ≤ logLimit
+
+-- The least of some numbers and one more: the first counts alone.
+abbrev pub lowWith : Bool → Bool → ℕ → ℕ → ℕ
+lowWith counts seen low t = cond counts (cond seen (min low t) t) low
+
+-- ---- triples
+
+-- What an entry of a node's log says of node n: a triple or nothing.
+abbrev pub noEntry : Entry
+noEntry = record { what = record { piece = 0; material = 0; mass = 0 }; time = 0; origin = fed; before = fed }
+
+abbrev pub entryAt : Line → ℕ → ℕ → Entry
+entryAt l k i = getD (nodeAt l k .log) i noEntry
+
+abbrev pub tripleOf : ℕ → Entry → List Target
+tripleOf n e = triple n (e .origin) (e .before)
+
+-- The code's triple, as a list.
+abbrev pub tripleList : Triple → List Target
+tripleList f = cond (f .is) (record { time = f .time; parent = f .parent; parentTime = f .sent } ∷ []) []
+
+-- The log at channel b's end, and what the channel adds to node n's triples.
+abbrev pub childLog : List ℕ → ℕ → List Entry
+childLog s b = nodeAt (lineOf s) (channelAt (planOf s) b .receiver) .log
+
+abbrev pub triplesOn : List ℕ → ℕ → ℕ → List Target
+triplesOn s n b = cond (eqb (channelAt (planOf s) b .sender) n) (triples n (childLog s b)) []
+
+-- The restored entry for a parent, by some triples.
+abbrev pub restoredOver : ℕ → ℕ → List Target → ℕ
+restoredOver low parent ts = greatestOf (map (λ (t : Target). t .parentTime) (keep (λ (t : Target). eqb (t .parent) parent && leb (t .time) low) ts))
+
+-- ---- targets in a lent slice, three numbers each
+
+abbrev pub target : ℕ → ℕ → ℕ → Target
+target t p u = record { time = t; parent = p; parentTime = u }
+
+abbrev pub goalTarget : Goal → Target
+goalTarget g = target (g .time) (g .parent) (g .sent)
+
+-- The slice's length, and the count that says that there are more targets than a node may have.
+abbrev pub slotsLong : ℕ
+slotsLong = 192
+
+abbrev pub tooMany : ℕ
+tooMany = 65
+
+abbrev pub targetAt : List ℕ → ℕ → Target
+targetAt xs i = target (getD xs (3 * i) 0) (getD xs (3 * i + 1) 0) (getD xs (3 * i + 2) 0)
+
+abbrev pub putTarget : List ℕ → ℕ → Target → List ℕ
+putTarget xs i t = set (set (set xs (3 * i) (t .time)) (3 * i + 1) (t .parent)) (3 * i + 2) (t .parentTime)
+
+-- So many of them.
+abbrev pub targetsIn : List ℕ → ℕ → List Target
+targetsIn xs zero = []
+targetsIn xs (suc k) = target (getD xs 0 0) (getD xs 1 0) (getD xs 2 0) ∷ targetsIn (drop 3 xs) k
+
+-- A target's place among some: it goes behind all before it, and there it is before the next or the same.
+pub record PlaceOf (t : Target) (ts : List Target) (r : ℕ) : Type 0 where
+  pub within : r ≤ length ts
+  pub behind : addTarget t ts ≡ take r ts ++ addTarget t (drop r ts)
+  pub stops : r < length ts → (targetBefore t (getD ts r t) || sameTarget t (getD ts r t)) ≡ true
+
+-- A target put in at a place.
+pub record Inserted (xs : List ℕ) (count place : ℕ) (t : Target) (ys : List ℕ) : Type 0 where
+  pub long : length ys ≡ slotsLong
+  pub now : targetsIn ys (suc count) ≡ take place (targetsIn xs count) ++ t ∷ drop place (targetsIn xs count)
+
+-- The slice holds these targets, or the count says that they are too many.
+pub record Holds (xs : List ℕ) (count : ℕ) (ts : List Target) : Type 0 where
+  pub counted : count ≡ min (length ts) tooMany
+  pub held : count < tooMany → targetsIn xs count ≡ ts
+
+-- What is left of a slice when a change of the targets is made: of any targets that it held, it holds the changed ones.
+pub record Changed (f : List Target → List Target) (xs : List ℕ) (count : ℕ) (ys : List ℕ) (r : ℕ) : Type 0 where
+  pub long : length ys ≡ slotsLong
+  pub few : r ≤ tooMany
+  pub holds : (ts : List Target) → Holds xs count ts → Holds ys r (f ts)
+
+-- Some triples above low, added to those there are.
+abbrev pub addAbove : ℕ → List Target → List Target → List Target
+addAbove low ts sorted = sortTargets sorted (keep (λ (t : Target). ltb low (t .time)) ts)
+
+-- Targets found: the slice holds them, or there are too many.
+pub record Found (xs : List ℕ) (r : ℕ) (ts : List Target) : Type 0 where
+  pub long : length xs ≡ slotsLong
+  pub few : r ≤ tooMany
+  pub holds : Holds xs r ts
+
+-- ---- rows
+
+-- Whether a parent's row is complete in the restored node, by some targets; and whether all rows are.
+abbrev pub rowIn : Line → ℕ → List Target → ℕ → Bool
+rowIn l n ts parent = leb (rowGoal ts parent) (restored l n parent)
+
+abbrev pub rowsIn : Line → ℕ → List Target → Bool
+rowsIn l n ts = allOf (λ (c : ℕ). rowIn l n ts (senderOf l c)) (entering (l .plan) n)
+
+-- ---- a replaying node
+
+abbrev pub noTarget : Target
+noTarget = target 0 0 0
+
+-- What is left of the test when targets are found, neither none nor too many.
+abbrev pub replayFound : Line → ℕ → ℕ → List Target → Bool
+replayFound l n low ts = not (conflict ts) && not (rowsIn l n ts) && eqb (nodeAt l n .time) low && sameTargets (nodeAt l n .targets) ts

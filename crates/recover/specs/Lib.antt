@@ -1,0 +1,2 @@
+-- What Recover finds.
+pub mod Found
