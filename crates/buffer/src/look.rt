@@ -2,9 +2,9 @@
 ghost use mathlib.Core.Path.{_≡_};
 ghost use mathlib.Core.Bool.{cond};
 ghost use Prim.Native.Nat.{_+_, _≤_, _<_};
-ghost use Rattle.plan.specs.Plan.{planOf, planChannels, entering, isSource, isSink};
+ghost use Rattle.plan.specs.Plan.{planOf, planNodes, planChannels, channelAt, entering, isSource, isSink};
 ghost use Rattle.items.specs.Items.{fromSender, placeFrom};
-ghost use Rattle.buffer.specs.Ready.{Ready};
+ghost use Rattle.buffer.specs.Ready.{Ready, OnChannel};
 ghost use Rattle.buffer.specs.Look.{numberOr, unnamed, channelFrom};
 
 pub fn index(b: u8) -> usize
@@ -32,6 +32,23 @@ pub fn channels_at(s: &[u8]) -> usize
     ensures { λ r. ⌜ (r ≡ channelFrom (now (s .entry)) 0) × (r ≤ 53) ⌝ }
 {
     5 + 4 * index(s[3])
+}
+
+// A channel's sender and its receiver.
+pub fn sender_of(s: &[u8], b: usize) -> usize
+    requires { ⌜ OnChannel (now s) b ⌝ }
+    ensures { λ r. ⌜ (r ≡ channelAt (planOf (now (s .entry))) b .sender) × (r < planNodes (now (s .entry))) ⌝ }
+{
+    let at = channels_at(s) + 6 * b;
+    index(s[at])
+}
+
+pub fn receiver_of(s: &[u8], b: usize) -> usize
+    requires { ⌜ OnChannel (now s) b ⌝ }
+    ensures { λ r. ⌜ (r ≡ channelAt (planOf (now (s .entry))) b .receiver) × (r < planNodes (now (s .entry))) ⌝ }
+{
+    let at = channels_at(s) + 6 * b;
+    index(s[at + 1])
 }
 
 // The channel from a sender to a receiver; the plan's count of channels if there is none.

@@ -20,8 +20,8 @@ use Rattle.state.specs.Right.{wordAt}
 use Rattle.state.specs.State.{lineOf}
 use Rattle.state.proofs.InPlace.{line-plan}
 use Rattle.state.proofs.OffsetLaws.{line-mark, line-queue-count}
-use Rattle.channel_check.specs.Channel.{OnChannel}
-use Rattle.channel_check.proofs.ReadyLaws.{counted}
+use Rattle.buffer.specs.Ready.{OnChannel}
+use Rattle.buffer.proofs.ReadyLaws.{counted}
 use Rattle.buffer.specs.Zero.{zeroBytes}
 use Rattle.buffer.specs.Exact.{zeroAt}
 use Rattle.basics.specs.Bools.{below-or-not}

@@ -1,5 +1,4 @@
 -- What the check of a channel's block rests on.
-pub mod ReadyLaws
 pub mod ChannelLaws
 pub mod MessageLaws
 pub mod QueueLaws

@@ -20,7 +20,7 @@ use Rattle.state.proofs.OffsetLaws.{line-taken, line-queue-count, line-queue-at
 use Rattle.items.specs.Items.{timesRise, messageRight, queueRight}
 use Rattle.buffer.specs.Exact.{messageExact, slotsExact}
 use Rattle.channel_check.specs.Channel.{QueueFits, messageAt, messageOk, messagesOk}
-use Rattle.channel_check.proofs.ReadyLaws.{counted}
+use Rattle.buffer.proofs.ReadyLaws.{counted}
 use Rattle.channel_check.proofs.ChannelLaws.{mark-word}
 
 -- ---- the messages as a list

@@ -5,7 +5,6 @@ use mathlib.Core.Bool.{Bool, true, _&&_, _||_}
 use mathlib.Core.List.{List}
 use lib.ListN.{take, drop}
 use lib.Dec.{leb, ltb}
-use Rattle.plan.specs.Plan.{planChannels}
 use Rattle.rules.specs.Line.{queueLimit, Message}
 use Rattle.state.specs.Sizes.{blockAt, queueAt, messageSize}
 use Rattle.state.specs.Right.{wordAt}
@@ -13,18 +12,14 @@ use Rattle.state.specs.Pieces.{messageLayout}
 use Rattle.state.specs.State.{lineOf}
 use Rattle.items.specs.Items.{recordRight, namedRight}
 use Rattle.buffer.specs.Exact.{messageExact}
-use Rattle.buffer.specs.Ready.{Ready}
+use Rattle.buffer.specs.Ready.{Ready, OnChannel}
 
 -- A state that can be read, and its accepted steps.
 pub record Stepped (s : List ℕ) (steps : ℕ) : Type 0 where
   pub ready : Ready s
   pub same : steps ≡ lineOf s .steps
 
--- A channel of a state that can be read, and one whose queue is not too long.
-pub record OnChannel (s : List ℕ) (b : ℕ) : Type 0 where
-  pub ready : Ready s
-  pub below : b < planChannels s
-
+-- A channel whose queue is not too long.
 pub record QueueFits (s : List ℕ) (b : ℕ) : Type 0 where
   pub on : OnChannel s b
   pub few : wordAt (blockAt b + queueAt) s ≤ queueLimit

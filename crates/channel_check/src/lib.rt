@@ -16,8 +16,8 @@ ghost use Rattle.state.specs.State.{lineOf};
 ghost use Rattle.state.specs.Pieces.{originFrom};
 ghost use Rattle.items.specs.Items.{namedRight, queueRight, channelRight};
 ghost use Rattle.buffer.specs.Exact.{zeroAt, messageExact, slotsExact, blockExact};
-ghost use Rattle.buffer.specs.Ready.{Ready};
-ghost use Rattle.channel_check.specs.Channel.{Stepped, OnChannel, QueueFits, messageOk};
+ghost use Rattle.buffer.specs.Ready.{Ready, OnChannel};
+ghost use Rattle.channel_check.specs.Channel.{Stepped, QueueFits, messageOk};
 use buffer::Line;
 use buffer::bytes;
 use buffer::look;
@@ -53,27 +53,12 @@ fn has_crashed(s: &[u8], n: usize) -> bool
     0 < bytes::get8(s, 4096 * (1 + n) + 1)
 }
 
-// A channel's sender and its receiver.
-fn sender_of(s: &[u8], b: usize) -> usize
-    requires { ⌜ OnChannel (now s) b ⌝ }
-    ensures { λ r. ⌜ (r ≡ channelAt (planOf (now (s .entry))) b .sender) × (r < planNodes (now (s .entry))) ⌝ }
-{
-    look::index(plan::channel_at(s, b).sender)
-}
-
-fn receiver_of(s: &[u8], b: usize) -> usize
-    requires { ⌜ OnChannel (now s) b ⌝ }
-    ensures { λ r. ⌜ (r ≡ channelAt (planOf (now (s .entry))) b .receiver) × (r < planNodes (now (s .entry))) ⌝ }
-{
-    look::index(plan::channel_at(s, b).receiver)
-}
-
 // Whether an end of a channel is down.
 fn end_down(s: &[u8], b: usize) -> bool
     requires { ⌜ OnChannel (now s) b ⌝ }
     ensures { λ r. ⌜ r ≡ endDown (lineOf (now (s .entry))) b ⌝ }
 {
-    is_down(s, sender_of(s, b)) | is_down(s, receiver_of(s, b))
+    is_down(s, look::sender_of(s, b)) | is_down(s, look::receiver_of(s, b))
 }
 
 // Whether both ends of a channel bear a crash mark.
@@ -81,7 +66,7 @@ fn marks_joined(s: &[u8], b: usize) -> bool
     requires { ⌜ OnChannel (now s) b ⌝ }
     ensures { λ r. ⌜ r ≡ marksJoined (lineOf (now (s .entry))) b ⌝ }
 {
-    has_crashed(s, sender_of(s, b)) & has_crashed(s, receiver_of(s, b))
+    has_crashed(s, look::sender_of(s, b)) & has_crashed(s, look::receiver_of(s, b))
 }
 
 // How many are heard on a channel: the sender's parents.
@@ -89,7 +74,7 @@ fn heard_count(s: &[u8], b: usize) -> usize
     requires { ⌜ OnChannel (now s) b ⌝ }
     ensures { λ r. ⌜ (r ≡ heardCount (planOf (now (s .entry))) (channelAt (planOf (now (s .entry))) b)) × (r ≤ 4) ⌝ }
 {
-    wide(plan::mask_count(plan::entering_mask(s, sender_of(s, b))))
+    wide(plan::mask_count(plan::entering_mask(s, look::sender_of(s, b))))
 }
 
 fn larger(a: u32, b: u32) -> u32
@@ -136,8 +121,8 @@ fn holds(s: &[u8], b: usize, stopped: bool, most: u32) -> bool
     let at = 53_248 + 320 * b;
     let unmarked = bytes::get32(s, at) == 0;
     let empty = bytes::get32(s, at + 24) == 0;
-    let down = is_down(s, receiver_of(s, b));
-    let replays = is_replaying(s, sender_of(s, b));
+    let down = is_down(s, look::receiver_of(s, b));
+    let replays = is_replaying(s, look::sender_of(s, b));
     (stopped & !(unmarked & empty)) | (down & (0 < most)) | (replays & !empty)
 }
 
@@ -173,7 +158,7 @@ fn queue_ok(s: &[u8], steps: u32, b: usize, stopped: bool) -> bool
     ensures { λ r. ⌜ r ≡ (slotsExact messageExact messageSize (blockAt b + queueAt + countSize) (wordAt (blockAt b + queueAt) (now (s .entry))) (now (s .entry))
         && queueRight (lineOf (now (s .entry))) b (laneAt (lineOf (now (s .entry))) b .queue)) ⌝ }
 {
-    let sender = sender_of(s, b);
+    let sender = look::sender_of(s, b);
     let mut at = 53_248 + 320 * b;
     let mark = bytes::get32(s, at);
     let mut last = bytes::get32(s, at + 4);

@@ -3,7 +3,6 @@ ghost use mathlib.Core.Path.{_≡_};
 ghost use Rattle.state.specs.State.{stateAnswer};
 ghost use Rattle.line.specs.Load.{loadAnswer, loadLeft};
 ghost use Rattle.line.specs.Write.{writeAnswer, writeLeft};
-
 use buffer::Line;
 use buffer::bytes;
 

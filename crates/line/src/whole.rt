@@ -11,9 +11,9 @@ ghost use Rattle.state.specs.State.{lineOf};
 ghost use Rattle.buffer.specs.Ready.{Ready};
 ghost use Rattle.buffer.specs.Table.{Table};
 ghost use Rattle.line.specs.Whole.{PagesRight, planExact, nodeChecked, channelChecked, replayPlain, stateChecked};
+use crate::check;
 use buffer::Line;
 use buffer::bytes;
-use crate::check;
 use buffer::look;
 use buffer::table;
 

@@ -1,5 +1,5 @@
 use borrow.Author.Needs.{needs}
-use Rattle.channel_check.proofs.ReadyLaws.{crashed-at}
+use Rattle.buffer.proofs.ReadyLaws.{crashed-at}
 use Rattle.channel_check.proofs.has_crashed.Statement.{statement}
 use Rattle.channel_check.proofs.has_crashed.Tie as tie
 

@@ -3,7 +3,7 @@ use Prim.Native.Nat.{ℕ}
 use mathlib.Core.Path.{ap, _∙_}
 use Rattle.plan.specs.Plan.{planOf, entering}
 use Rattle.plan.specs.Mask.{planMask}
-use Rattle.channel_check.proofs.ReadyLaws.{heard-ones, few-heard}
+use Rattle.buffer.proofs.ReadyLaws.{heard-ones, few-heard}
 use Rattle.channel_check.proofs.heard_count.Statement.{statement}
 use Rattle.channel_check.proofs.heard_count.Tie as tie
 

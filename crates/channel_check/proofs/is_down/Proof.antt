@@ -1,5 +1,5 @@
 use borrow.Author.Needs.{needs}
-use Rattle.channel_check.proofs.ReadyLaws.{down-at}
+use Rattle.buffer.proofs.ReadyLaws.{down-at}
 use Rattle.channel_check.proofs.is_down.Statement.{statement}
 use Rattle.channel_check.proofs.is_down.Tie as tie
 

@@ -1,5 +1,5 @@
 use borrow.Author.Needs.{needs}
-use Rattle.channel_check.proofs.ReadyLaws.{replaying-at}
+use Rattle.buffer.proofs.ReadyLaws.{replaying-at}
 use Rattle.channel_check.proofs.is_replaying.Statement.{statement}
 use Rattle.channel_check.proofs.is_replaying.Tie as tie
 

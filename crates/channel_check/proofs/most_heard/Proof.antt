@@ -7,7 +7,7 @@ use Rattle.rules.specs.Lists.{greatestOf}
 use Rattle.rules.specs.Line.{laneAt}
 use Rattle.state.specs.State.{lineOf}
 use Rattle.state.proofs.OffsetLaws.{line-taken, line-heard-at}
-use Rattle.channel_check.proofs.ReadyLaws.{counted, few-heard, heard-long}
+use Rattle.buffer.proofs.ReadyLaws.{counted, few-heard, heard-long}
 use Rattle.channel_check.proofs.ChannelLaws.{greatest-more, greatest-end}
 use Rattle.channel_check.proofs.most_heard.Statement.{statement}
 use Rattle.channel_check.proofs.most_heard.Tie as tie

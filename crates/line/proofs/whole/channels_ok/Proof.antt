@@ -2,7 +2,7 @@ use Prim.Native.Nat.{_-_}
 use native.Mathlib.Omega.{arith}
 use mathlib.Core.Path.{sym, _∙_}
 use Rattle.state.proofs.InPlace.{line-steps}
-use Rattle.channel_check.proofs.ReadyLaws.{counted}
+use Rattle.buffer.proofs.ReadyLaws.{counted}
 use Rattle.line.specs.Whole.{channelChecked}
 use Rattle.line.proofs.CheckLaws.{Tested, tested-start, tested-turn, tested-end}
 use Rattle.line.proofs.whole.channels_ok.Statement.{statement}

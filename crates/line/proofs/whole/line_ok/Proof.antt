@@ -3,7 +3,7 @@ use borrow.Author.Tests.{not-true, not-false}
 use borrow.Author.Needs.{needs}
 use Rattle.state.proofs.InPlace.{line-steps}
 use Rattle.line.proofs.CheckLaws.{found-wrong, found-replays, found-pages}
-use Rattle.channel_check.proofs.ReadyLaws.{counted}
+use Rattle.buffer.proofs.ReadyLaws.{counted}
 use Rattle.line.proofs.whole.line_ok.Statement.{statement}
 use Rattle.line.proofs.whole.line_ok.Tie as tie
 

@@ -25,8 +25,7 @@ use Rattle.state.proofs.HeardLaws.{heard-few}
 use Rattle.state.proofs.FieldLaws.{heard-four}
 use Rattle.state.proofs.InPlace.{Counted, blockOf, lane-in}
 use Rattle.state.proofs.OffsetLaws.{line-status, line-crashed}
-use Rattle.buffer.specs.Ready.{Ready}
-use Rattle.channel_check.specs.Channel.{OnChannel}
+use Rattle.buffer.specs.Ready.{Ready, OnChannel}
 
 pub counted : {s : List ℕ} → Ready s → Counted s
 counted r = record { nodes = r .nodes; channels = r .channels }
