@@ -8,7 +8,6 @@ use lib.ListN.{length}
 use Rattle.plan.specs.Lawful.{Bytes}
 use Rattle.plan.specs.Plan.{planOf}
 use Rattle.plan.specs.Check.{planFits, planRefusal}
-use Rattle.plan.proofs.PlanLaws.{node-count, channel-count}
 use Rattle.plan.proofs.FitsLaws.{fitting}
 use Rattle.rules.specs.Line.{Line}
 use Rattle.rules.specs.Damaged.{damaged}
@@ -19,6 +18,7 @@ use Rattle.state.specs.Fits.{LineFits}
 use Rattle.state.proofs.LineLaws.{line-read, line-long}
 use Rattle.state.proofs.SpelledLaws.{Sane, state-sane}
 use Rattle.state.proofs.InPlace.{Counted, line-plan}
+use Rattle.state.proofs.PlanFitting.{fits-counted}
 use Rattle.state.proofs.WholeRight.{state-right}
 use Rattle.state.proofs.StoredPlan.{storedPlan, stored-accepted}
 use Rattle.state.proofs.Undamaged.{undamaged-fits}
@@ -35,12 +35,20 @@ undamaged-sane l q =
 pub undamaged-accepted : (l : Line) → damaged l ≡ false → stateAnswer (lineBytes l) ≡ 0
 undamaged-accepted l q = state-sane (lineBytes l) .1 (undamaged-sane l q)
 
--- ---- what is read
+-- The bytes of a line that is not damaged.
+pub record Holding (s : List ℕ) : Type 0 where
+  pub line : Line
+  pub undamaged : damaged line ≡ false
+  pub written : lineBytes line ≡ s
 
-fits-counted : (s : List ℕ) → planFits (planOf s) ≡ true → Counted s
-fits-counted s e =
-    let p = fitting (planOf s) e in
-    record { nodes = rw node-count at (p .nodesMost); channels = rw channel-count at (p .channelsMost) }
+-- A state is accepted exactly where its bytes are what the layout writes for an undamaged line.
+pub accepted-holding : (s : List ℕ) → (stateAnswer s ≡ 0) ↔ Holding s
+accepted-holding s = (
+  λ z. let a = state-sane s .0 z in record { line = lineOf s; undamaged = a .undamaged; written = a .written },
+  λ h. ap stateAnswer (sym (h .written)) ∙ undamaged-accepted (h .line) (h .undamaged),
+)
+
+-- ---- what is read
 
 module _ (s : List ℕ) (a : Sane s) where
   pub sane-fits : LineFits (lineOf s)

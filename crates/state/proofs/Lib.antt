@@ -10,6 +10,7 @@ pub mod ReadLaws
 pub mod FieldLaws
 pub mod InPlace
 pub mod OffsetLaws
+pub mod PlanFitting
 pub mod RightLaws
 pub mod RightAt
 pub mod PieceRight

@@ -3,10 +3,11 @@ use Prim.Native.Nat.{ℕ}
 use mathlib.Core.Bool.{true, false}
 use mathlib.Core.Path.{_≡_, refl}
 use mathlib.Core.List.{List, [], _∷_, _++_}
-use lib.ListN.{take, set, replicate}
+use lib.ListN.{take, drop, set, replicate}
 use Rattle.plan.specs.declared.Rule.the-variants.{Keep}
 use Rattle.plan.specs.declared.Record.{Record}
-use Rattle.rules.specs.Line.{fed, made, up, replay, Line, freshNode, initialLine}
+use Rattle.rules.specs.Line.{fed, made, up, down, replay, Line, freshNode, initialLine}
+use Rattle.state.specs.Node.{nodeLayout}
 use Rattle.state.specs.State.{lineBytes, lineOf, stateAnswer}
 
 unfoldable pub twoNodes : Line
@@ -81,3 +82,25 @@ sent-accepted = refl
 pub replaying-read : lineOf (lineBytes replaying) ≡ replaying
 unfolding lineBytes lineOf replaying
 replaying-read = refl
+
+-- The bytes of the last one where docs/LAYOUT.md has them: its second node's page with one log entry, one held record and one target, and the channel's block with one message.
+pub replaying-page : take 36 (drop 8_192 (lineBytes replaying)) ≡ 2 ∷ 1 ∷ 0 ∷ 0 ∷ 0 ∷ 0 ∷ 0 ∷ 3 ∷ 0 ∷ 0 ∷ 0 ∷ 1 ∷ 0 ∷ 0 ∷ 0 ∷ 7 ∷ 1 ∷ 0 ∷ 0 ∷ 250 ∷ 0 ∷ 0 ∷ 0 ∷ 1 ∷ 1 ∷ 0 ∷ 0 ∷ 0 ∷ 5 ∷ 2 ∷ 0 ∷ 0 ∷ 0 ∷ 6 ∷ 0 ∷ 0 ∷ []
+unfolding lineBytes replaying
+replaying-page = refl
+
+pub replaying-held : take 24 (drop 9_740 (lineBytes replaying)) ≡ 0 ∷ 0 ∷ 0 ∷ 1 ∷ 0 ∷ 0 ∷ 0 ∷ 7 ∷ 1 ∷ 0 ∷ 0 ∷ 250 ∷ 0 ∷ 0 ∷ 0 ∷ 0 ∷ 4 ∷ 1 ∷ 0 ∷ 0 ∷ 0 ∷ 8 ∷ 0 ∷ 0 ∷ []
+unfolding lineBytes replaying
+replaying-held = refl
+
+pub replaying-targets : take 16 (drop 11_024 (lineBytes replaying)) ≡ 0 ∷ 0 ∷ 0 ∷ 1 ∷ 0 ∷ 0 ∷ 0 ∷ 5 ∷ 0 ∷ 0 ∷ 0 ∷ 6 ∷ 0 ∷ 0 ∷ 0 ∷ 0 ∷ []
+unfolding lineBytes replaying
+replaying-targets = refl
+
+pub replaying-block : take 48 (drop 53_248 (lineBytes replaying)) ≡ 0 ∷ 0 ∷ 0 ∷ 1 ∷ 0 ∷ 0 ∷ 0 ∷ 2 ∷ 0 ∷ 0 ∷ 0 ∷ 0 ∷ 0 ∷ 0 ∷ 0 ∷ 0 ∷ 0 ∷ 0 ∷ 0 ∷ 0 ∷ 0 ∷ 0 ∷ 0 ∷ 0 ∷ 0 ∷ 0 ∷ 0 ∷ 1 ∷ 0 ∷ 0 ∷ 0 ∷ 7 ∷ 1 ∷ 0 ∷ 0 ∷ 250 ∷ 0 ∷ 0 ∷ 0 ∷ 7 ∷ 3 ∷ 0 ∷ 0 ∷ 0 ∷ 9 ∷ 0 ∷ 0 ∷ 0 ∷ []
+unfolding lineBytes replaying
+replaying-block = refl
+
+-- A node that is down: its status and its crash mark.
+pub down-page : nodeLayout .write (record { status = down; crashed = true; time = 0; log = []; held = []; targets = [] }) ≡ 1 ∷ 1 ∷ replicate 4_094 0
+unfolding nodeLayout
+down-page = refl

@@ -9,10 +9,6 @@ use Rattle.plan.specs.Record.{recordLayout}
 use Rattle.rules.specs.Line.{Origin, fed, made, Message, Entry, Held, Target}
 use Rattle.state.specs.Sizes.{entrySize, heldSize, targetSize, messageSize}
 
--- A time, in four bytes.
-abbrev pub timeLayout : Layout ℕ
-timeLayout = number 4
-
 -- An origin, in five bytes: 0 for none, else the sender and 1; then the time, 0 for none.
 abbrev pub originNumbers : Origin → List ℕ
 originNumbers fed = 0 ∷ 0 ∷ []
