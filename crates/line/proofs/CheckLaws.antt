@@ -28,7 +28,8 @@ use Rattle.node_check.specs.NodeCheck.{nodePlain}
 use Rattle.line.specs.Whole.{PagesRight, planExact, restExact, replayPlain, nodeChecked, channelChecked, stateChecked}
 use Rattle.line.proofs.LoadLaws.{plan-short}
 use Rattle.line.proofs.ExactLaws.{page-stands}
-use Rattle.line.proofs.WholeLaws.{all-stands, fits-counted, plan-stands}
+use Rattle.state.proofs.PlanFitting.{fits-counted}
+use Rattle.line.proofs.WholeLaws.{all-stands, plan-stands}
 
 -- The stored plan: the part of the state from 0 up to its size.
 pub plan-sized : (s : List ℕ) (n m : ℕ) → n ≡ getD s 3 0 → m ≡ getD s 4 0 → 5 + 4 * n + 6 * m ≡ planSize (planNodes s) (planChannels s)

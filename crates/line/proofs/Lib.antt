@@ -1,6 +1,5 @@
 -- What the line's code rests on.
 pub mod ExactLaws
-pub mod StartBytes
 pub mod LoadLaws
 pub mod WholeLaws
 pub mod CheckLaws

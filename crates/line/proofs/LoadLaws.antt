@@ -1,6 +1,6 @@
 -- Load by cases: the plan is refused, the state has another size, or the line is loaded.
 use Prim.Native.Nat.{ℕ, _-_, _≤_}
-use mathlib.Core.Path.{_≡_, refl, sym, _∙_}
+use mathlib.Core.Path.{_≡_, refl, sym, ap, _∙_}
 use mathlib.Core.Bool.{Bool, true, false}
 use mathlib.Core.List.{List, _++_, append-nil}
 use native.Mathlib.Omega.{arith}
@@ -13,11 +13,15 @@ use Rattle.plan.specs.Plan.{planOf, planNodes, planChannels}
 use Rattle.plan.specs.Check.{planRefusal}
 use Rattle.plan.proofs.CheckLaws.{accepted}
 use Rattle.plan.proofs.PlanLaws.{plan-size}
-use Rattle.rules.specs.Line.{initialLine}
+use Rattle.rules.specs.Line.{Line, initialLine}
+use Rattle.rules.proofs.StartSound.{start-undamaged}
 use Rattle.state.specs.Sizes.{stateSize, planArea}
-use Rattle.state.specs.State.{lineBytes}
+use Rattle.state.specs.State.{lineBytes, lineOf, stateAnswer}
+use Rattle.state.proofs.StartLaws.{start-bytes}
+use Rattle.state.proofs.LineLaws.{line-read}
+use Rattle.state.proofs.AcceptedState.{undamaged-accepted}
+use Rattle.state.proofs.Undamaged.{undamaged-fits}
 use Rattle.line.specs.Load.{loadAnswer, loadLeft}
-use Rattle.line.proofs.StartBytes.{start-bytes}
 
 abbrev answerBy : Bool → Bool → ℕ → ℕ
 answerBy whole sized refusal = elim whole [ true ↦ elim sized [ true ↦ 0 | false ↦ 8 ] | false ↦ refusal ]
@@ -51,7 +55,7 @@ module _ (plan state : List ℕ) where
   pub loaded : Bytes plan → planRefusal plan ≡ 0 → length state ≡ stateSize → (0 ≡ loadAnswer plan state) × (plan ++ replicate (stateSize - length plan) 0 ≡ loadLeft plan state)
   loaded h z e =
       let a : loadAnswer plan state ≡ 0 = answer-is ∙ rw (eq-eqb (planRefusal plan) 0 z, eq-eqb (length state) stateSize e) in
-      (sym a, sym (left-is ∙ rw a (start-bytes plan h z)))
+      (sym a, sym (left-is ∙ rw a (start-bytes plan z h)))
 
   -- An accepted Load: the plan is not refused, and the state becomes its line.
   pub load-accepted : loadAnswer plan state ≡ 0 → (planRefusal plan ≡ 0) × (loadLeft plan state ≡ lineBytes (initialLine (planOf plan)))
@@ -65,3 +69,18 @@ module _ (plan state : List ℕ) where
   pub load-written : (copied : List ℕ) → copied ≡ plan ++ drop (length plan) state → length copied ≡ stateSize
       → take (length plan) copied ++ replicate (stateSize - length plan) 0 ++ drop stateSize copied ≡ plan ++ replicate (stateSize - length plan) 0
   load-written copied e size = rw (drop-of-length-le copied {i = stateSize} (omega arith), append-nil, e, take-append-seam)
+
+-- A loaded state is undamaged, and its line is the plan's first.
+pub record Loaded (plan state : List ℕ) : Type 0 where
+  pub accepted : stateAnswer state ≡ 0
+  pub line : lineOf state ≡ initialLine (planOf plan)
+
+pub load-right : (plan state : List ℕ) → Bytes plan → loadAnswer plan state ≡ 0 → Loaded plan (loadLeft plan state)
+load-right plan state bytes z =
+    let (not-refused, left) = load-accepted plan state z in
+    let undamaged = start-undamaged plan bytes not-refused in
+    let first : Line = initialLine (planOf plan) in
+    record {
+      accepted = ap stateAnswer left ∙ undamaged-accepted first undamaged;
+      line = ap lineOf left ∙ line-read first (undamaged-fits first undamaged);
+    }

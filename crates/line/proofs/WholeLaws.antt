@@ -22,8 +22,7 @@ use Rattle.state.specs.Lane.{laneLayout, cutHeard, heardCount}
 use Rattle.state.specs.State.{lineOf, stateAnswer}
 use Rattle.state.specs.Right.{ZerosAt, StateRight}
 use Rattle.state.proofs.InPlace.{Counted, line-plan, nodes-counted, lanes-counted, lane-in, blockOf}
-use Rattle.state.proofs.FieldLaws.{heard-four}
-use Rattle.state.proofs.HeardLaws.{heard-few}
+use Rattle.state.proofs.PlanFitting.{fits-counted, few-heard, heard-long}
 use Rattle.state.proofs.StoredPlan.{storedPlan, stored-accepted}
 use Rattle.state.proofs.AcceptedState.{state-checked}
 use Rattle.items.specs.Items.{nodeRight, channelRight, shapeRight, lineRight}
@@ -46,28 +45,12 @@ pub node-parts : (l : Line) (n : ℕ) → Stands (nodeRight l n) ((nodePlain l n
 unfolding nodeRight nodePlain replayPlain
 node-parts l n = and-stands (λ e. e, λ e. e) (λ e. e, λ e. e)
 
--- A plan that fits: so many nodes and channels, and on a channel so many heard.
-pub fits-counted : (s : List ℕ) → planFits (planOf s) ≡ true → Counted s
-fits-counted s e =
-    let p = fitting (planOf s) e in
-    record { nodes = rw node-count at (p .nodesMost); channels = rw channel-count at (p .channelsMost) }
-
 module _ (s : List ℕ) (fits : planFits (planOf s) ≡ true) where
   abbrev l : Line
   l = lineOf s
 
   counted : Counted s
   counted = fits-counted s fits
-
-  few-heard : (b : ℕ) → b < planChannels s → heardCount (planOf s) (channelAt (planOf s) b) ≤ parentLimit
-  few-heard b h = heard-few (planOf s) fits b (omega (arith, h, channel-count s))
-
-  heard-long : (b : ℕ) → b < planChannels s → length (laneAt l b .heard) ≡ heardCount (planOf s) (channelAt (planOf s) b)
-  unfolding cutHeard
-  heard-long b h =
-      let c = heardCount (planOf s) (channelAt (planOf s) b) in
-      let x = laneLayout .read (blockOf b s) in
-      ap (λ (y : Lane). length (y .heard)) (lane-in s counted b h) ∙ length-take c (x .heard) ∙ ap (min c) (heard-four (blockOf b s)) ∙ (let e : min c parentLimit ≡ c = omega (arith, few-heard b h) in e)
 
   -- The line has the plan's shape.
   shaped : shapeRight l ≡ true
@@ -78,7 +61,7 @@ module _ (s : List ℕ) (fits : planFits (planOf s) ≡ true) where
       rw (nodes, lanes)
       (all-stands (λ (b : ℕ). eqb (length (laneAt l b .heard)) (length (parents (l .plan) (senderOf l b)))) (channelCount (l .plan)) .1
       (λ b h. eq-eqb (length (laneAt l b .heard)) (length (parents (l .plan) (senderOf l b)))
-      (heard-long b (omega (arith, h, channel-count s, ap channelCount (line-plan s))) ∙ ap (λ (p : Plan). length (parents p (channelAt p b .sender))) (sym (line-plan s)))))
+      (heard-long s fits b (omega (arith, h, channel-count s, ap channelCount (line-plan s))) ∙ ap (λ (p : Plan). length (parents p (channelAt p b .sender))) (sym (line-plan s)))))
 
   -- The line is right exactly where its nodes and channels are.
   line-stands : Stands (lineRight l) ((leb (l .steps) stepLimit ≡ true) × (((n : ℕ) → n < planNodes s → nodeRight l n ≡ true) × ((b : ℕ) → b < planChannels s → channelRight l b ≡ true)))
@@ -131,7 +114,7 @@ module _ (s : List ℕ) (fits : planFits (planOf s) ≡ true) where
           stepsRest = a;
           node = λ n h. page-stands s (pageAt n) .0 (node n h .0);
           nodesRest = b;
-          lane = λ k h. block-stands s (heardCount (planOf s) (channelAt (planOf s) k)) (blockAt k) (few-heard k h) .0 (channel k h .0);
+          lane = λ k h. block-stands s (heardCount (planOf s) (channelAt (planOf s) k)) (blockAt k) (few-heard s fits k h) .0 (channel k h .0);
           lanesRest = c;
           tail = d;
         },
@@ -147,7 +130,7 @@ module _ (s : List ℕ) (fits : planFits (planOf s) ≡ true) where
           steps,
           (
             λ n h. and-true (page-stands s (pageAt n) .1 (r .node n h)) (node-parts l n .0 (nodes n h) .0),
-            (λ k h. and-true (block-stands s (heardCount (planOf s) (channelAt (planOf s) k)) (blockAt k) (few-heard k h) .1 (r .lane k h)) (channels k h), λ n h. node-parts l n .0 (nodes n h) .1),
+            (λ k h. and-true (block-stands s (heardCount (planOf s) (channelAt (planOf s) k)) (blockAt k) (few-heard s fits k h) .1 (r .lane k h)) (channels k h), λ n h. node-parts l n .0 (nodes n h) .1),
           ),
         ),
       )

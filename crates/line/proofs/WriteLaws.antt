@@ -11,19 +11,16 @@ use Rattle.plan.specs.Lawful.{Bytes}
 use Rattle.plan.specs.Plan.{Plan, planOf, planBytes, planSize, planNodes, planChannels}
 use Rattle.plan.proofs.PlanLaws.{plan-length, plan-written, node-count, channel-count}
 use Rattle.rules.specs.Line.{Line, initialLine}
-use Rattle.rules.proofs.StartSound.{start-undamaged}
 use Rattle.state.specs.Sizes.{stateSize}
 use Rattle.state.specs.State.{stateAnswer}
 use Rattle.state.proofs.InPlace.{line-plan}
-use Rattle.state.proofs.LineLaws.{line-read}
 use Rattle.state.proofs.SpelledLaws.{state-sane, answer-eight}
 use Rattle.state.proofs.StoredPlan.{storedPlan, stored-accepted}
-use Rattle.state.proofs.AcceptedState.{state-checked, undamaged-accepted}
-use Rattle.state.proofs.Undamaged.{undamaged-fits}
+use Rattle.state.proofs.AcceptedState.{state-checked}
 use Rattle.line.specs.Load.{loadAnswer, loadLeft}
 use Rattle.line.specs.Whole.{stateChecked}
-use Rattle.line.specs.Write.{heldPlan, writeAnswer, writeLeft}
-use Rattle.line.proofs.LoadLaws.{load-accepted}
+use Rattle.line.specs.Write.{loadedPlan, writeAnswer, writeLeft}
+use Rattle.line.proofs.LoadLaws.{load-accepted, load-right}
 use Rattle.line.proofs.WholeLaws.{check-answer}
 use Rattle.line.proofs.CheckLaws.{front-stored}
 
@@ -38,11 +35,11 @@ state-wrong s long bytes e = sym (answer-eight s (λ a. absurd (true≢false (sy
 -- ---- Write
 
 -- The plan that an accepted state holds stands in front.
-held-stored : (s : List ℕ) → Bytes s → stateAnswer s ≡ 0 → heldPlan s ≡ storedPlan s
-held-stored s bytes z = ap planBytes (line-plan s) ∙ stored-accepted s bytes .0 (state-checked s (state-sane s .0 z .long) bytes .0 z .0) .1
+loaded-stored : (s : List ℕ) → Bytes s → stateAnswer s ≡ 0 → loadedPlan s ≡ storedPlan s
+loaded-stored s bytes z = ap planBytes (line-plan s) ∙ stored-accepted s bytes .0 (state-checked s (state-sane s .0 z .long) bytes .0 z .0) .1
 
-pub held-long : (s : List ℕ) → length (heldPlan s) ≡ planSize (planNodes s) (planChannels s)
-held-long s = ap (λ (p : Plan). length (planBytes p)) (line-plan s) ∙ plan-length (planOf s) ∙ ap₂ planSize (node-count s) (channel-count s)
+pub loaded-long : (s : List ℕ) → length (loadedPlan s) ≡ planSize (planNodes s) (planChannels s)
+loaded-long s = ap (λ (p : Plan). length (planBytes p)) (line-plan s) ∙ plan-length (planOf s) ∙ ap₂ planSize (node-count s) (channel-count s)
 
 abbrev answerBy : Bool → Bool → ℕ → ℕ
 answerBy whole long refusal = elim whole [ true ↦ elim long [ true ↦ 0 | false ↦ 23 ] | false ↦ refusal ]
@@ -51,11 +48,11 @@ abbrev leftBy : Bool → List ℕ → List ℕ → List ℕ
 leftBy done written plan = elim done [ true ↦ written | false ↦ plan ]
 
 module _ (state plan : List ℕ) where
-  answer-is : writeAnswer state plan ≡ answerBy (eqb (stateAnswer state) 0) (leb (length (heldPlan state)) (length plan)) (stateAnswer state)
+  answer-is : writeAnswer state plan ≡ answerBy (eqb (stateAnswer state) 0) (leb (length (loadedPlan state)) (length plan)) (stateAnswer state)
   unfolding writeAnswer
   answer-is = refl
 
-  left-is : writeLeft state plan ≡ leftBy (eqb (writeAnswer state plan) 0) (heldPlan state ++ drop (length (heldPlan state)) plan) plan
+  left-is : writeLeft state plan ≡ leftBy (eqb (writeAnswer state plan) 0) (loadedPlan state ++ drop (length (loadedPlan state)) plan) plan
   unfolding writeLeft
   left-is = refl
 
@@ -65,27 +62,25 @@ module _ (state plan : List ℕ) where
   pub write-refused : (stateAnswer state ≡ 0 → ⊥) → (stateAnswer state ≡ writeAnswer state plan) × (plan ≡ writeLeft state plan)
   write-refused h = let a : stateAnswer state ≡ writeAnswer state plan = sym (answer-is ∙ rw (ne-eqb (stateAnswer state) 0 h)) in (a, left-as-it-was (stateAnswer state) h a)
 
-  pub write-short : stateAnswer state ≡ 0 → length plan < length (heldPlan state) → (23 ≡ writeAnswer state plan) × (plan ≡ writeLeft state plan)
+  pub write-short : stateAnswer state ≡ 0 → length plan < length (loadedPlan state) → (23 ≡ writeAnswer state plan) × (plan ≡ writeLeft state plan)
   write-short z h =
-      let a : 23 ≡ writeAnswer state plan = sym (answer-is ∙ rw (eq-eqb (stateAnswer state) 0 z, lt-leb (length (heldPlan state)) (length plan) h)) in
+      let a : 23 ≡ writeAnswer state plan = sym (answer-is ∙ rw (eq-eqb (stateAnswer state) 0 z, lt-leb (length (loadedPlan state)) (length plan) h)) in
       (a, left-as-it-was 23 (λ e. omega arith) a)
 
-  pub write-done : stateAnswer state ≡ 0 → length (heldPlan state) ≤ length plan → (0 ≡ writeAnswer state plan) × (heldPlan state ++ drop (length (heldPlan state)) plan ≡ writeLeft state plan)
+  pub write-done : stateAnswer state ≡ 0 → length (loadedPlan state) ≤ length plan → (0 ≡ writeAnswer state plan) × (loadedPlan state ++ drop (length (loadedPlan state)) plan ≡ writeLeft state plan)
   write-done z h =
-      let a : writeAnswer state plan ≡ 0 = answer-is ∙ rw (eq-eqb (stateAnswer state) 0 z, le-leb (length (heldPlan state)) (length plan) h) in
+      let a : writeAnswer state plan ≡ 0 = answer-is ∙ rw (eq-eqb (stateAnswer state) 0 z, le-leb (length (loadedPlan state)) (length plan) h) in
       (sym a, sym (left-is ∙ rw a refl))
 
   -- What the code writes: so many of the state's first bytes.
-  pub write-front : (size : ℕ) → size ≡ planSize (planNodes state) (planChannels state) → Bytes state → stateAnswer state ≡ 0 → take (size - 0) state ≡ heldPlan state
-  write-front size is bytes z = front-stored state size is ∙ sym (held-stored state bytes z)
+  pub write-front : (size : ℕ) → size ≡ planSize (planNodes state) (planChannels state) → Bytes state → stateAnswer state ≡ 0 → take (size - 0) state ≡ loadedPlan state
+  write-front size is bytes z = front-stored state size is ∙ sym (loaded-stored state bytes z)
 
 -- What was loaded is written again: the same bytes, and past them what was there.
 pub written-again : (p state plan : List ℕ) → Bytes p → loadAnswer p state ≡ 0 → length p ≤ length plan → (writeAnswer (loadLeft p state) plan ≡ 0) × (writeLeft (loadLeft p state) plan ≡ p ++ drop (length p) plan)
 unfolding initialLine
 written-again p state plan bytes z long =
-    let (accepted, left) = load-accepted p state z in
-    let l : Line = initialLine (planOf p) in
-    let undamaged = start-undamaged p bytes accepted in
-    let held : heldPlan (loadLeft p state) ≡ p = ap heldPlan left ∙ ap (λ (x : Line). planBytes (x .plan)) (line-read l (undamaged-fits l undamaged)) ∙ plan-written p bytes accepted in
-    let done = write-done (loadLeft p state) plan (ap stateAnswer left ∙ undamaged-accepted l undamaged) (rw held long) in
-    (sym (done .0), sym (done .1) ∙ rw held refl)
+    let right = load-right p state bytes z in
+    let same : loadedPlan (loadLeft p state) ≡ p = ap (λ (l : Line). planBytes (l .plan)) (right .line) ∙ plan-written p bytes (load-accepted p state z .0) in
+    let done = write-done (loadLeft p state) plan (right .accepted) (rw same long) in
+    (sym (done .0), sym (done .1) ∙ rw same refl)

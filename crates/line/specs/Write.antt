@@ -8,15 +8,15 @@ use Rattle.plan.specs.Plan.{planBytes}
 use Rattle.state.specs.State.{lineOf, stateAnswer}
 
 -- The bytes of the plan that a state holds.
-abbrev pub heldPlan : List ℕ → List ℕ
-heldPlan state = planBytes (lineOf state .plan)
+abbrev pub loadedPlan : List ℕ → List ℕ
+loadedPlan state = planBytes (lineOf state .plan)
 
 -- 8: "state not 61,440 bytes, or (not for Load) damaged"; then 23: "output shorter than needed".
 unfoldable pub writeAnswer : List ℕ → List ℕ → ℕ
 unfolding stateAnswer planBytes lineOf
 writeAnswer state plan =
     elim (eqb (stateAnswer state) 0) [
-      | true ↦ elim (leb (length (heldPlan state)) (length plan)) [ true ↦ 0 | false ↦ 23 ]
+      | true ↦ elim (leb (length (loadedPlan state)) (length plan)) [ true ↦ 0 | false ↦ 23 ]
       | false ↦ stateAnswer state
     ]
 
@@ -25,6 +25,6 @@ unfoldable pub writeLeft : List ℕ → List ℕ → List ℕ
 unfolding writeAnswer planBytes lineOf
 writeLeft state plan =
     elim (eqb (writeAnswer state plan) 0) [
-      | true ↦ heldPlan state ++ drop (length (heldPlan state)) plan
+      | true ↦ loadedPlan state ++ drop (length (loadedPlan state)) plan
       | false ↦ plan
     ]

@@ -7,7 +7,7 @@ use lib.ListN.{length, drop, length-take}
 use Rattle.plan.proofs.BytesLaws.{bytes-known}
 use Rattle.state.specs.State.{stateAnswer}
 use Rattle.state.proofs.SpelledLaws.{state-sane}
-use Rattle.line.proofs.WriteLaws.{held-long, write-refused, write-short, write-done, write-front}
+use Rattle.line.proofs.WriteLaws.{loaded-long, write-refused, write-short, write-done, write-front}
 use Rattle.line.proofs.line_write.Statement.{statement}
 use Rattle.line.proofs.line_write.Tie as tie
 
@@ -26,7 +26,7 @@ returns-2 c =
     let sized = c .before in
     let checked = sized .before .before in
     let a = checked .before .before .before .args in
-    write-short (a .state .now) (a .plan .now) (sym (checked .line-check .ensures) ∙ sized .before .if1 .left) (omega (arith, c .if2 .taken, held-long (a .state .now), sized .plan-size .ensures .0))
+    write-short (a .state .now) (a .plan .now) (sym (checked .line-check .ensures) ∙ sized .before .if1 .left) (omega (arith, c .if2 .taken, loaded-long (a .state .now), sized .plan-size .ensures .0))
 
 part-copy-to-end : tie.Need-part-copy-to-end
 part-copy-to-end c =
@@ -52,7 +52,7 @@ returns-3 c =
     let plan : List ℕ = known .before .args .plan .now in
     let z : stateAnswer state ≡ 0 = sym (checked .line-check .ensures) ∙ sized .before .if1 .left in
     let front = write-front state plan (sized .plan-size .result) (sized .plan-size .ensures .0) (bytes-known state (λ i. known .shared-slice-known .given i .fits)) z in
-    let done = write-done state plan z (omega (arith, test .if2 .left, held-long state, sized .plan-size .ensures .0)) in
+    let done = write-done state plan z (omega (arith, test .if2 .left, loaded-long state, sized .plan-size .ensures .0)) in
     (done .0, copied .copy-to .ensures ∙ ap (λ (x : List ℕ). x ++ drop (length x) plan) front ∙ done .1)
 
 pub line-write-spec : {M : Type 1} → statement M
