@@ -11,10 +11,7 @@ use lib.ListN.{length-set}
 use lib.Dec.{eqb, leb, ltb}
 use borrow.Author.Tests.{eq-eqb, eqb-true, leb-true}
 use Rattle.placing.specs.Item.{Item}
-use Rattle.placing.specs.Table.{tableFits}
-use Rattle.placing.specs.Answer.{unplaceable, chosenColumns}
 use Rattle.placing.specs.Rules.{KeepsRules}
-use Rattle.placing.proofs.Promise.{accepted}
 use Rattle.plan.specs.Rule.{applied}
 use Rattle.plan.specs.Channel.{takes}
 use Rattle.plan.specs.Plan.{ruleAt, channelAt, nodeCount, entering}
@@ -34,6 +31,7 @@ use Rattle.rules.proofs.Passing.{goesOn, heldOf}
 use Rattle.rules.proofs.Kept.{taken-each, order-kept}
 use Rattle.rules.proofs.Joins.{in-entering, entering-in, in-taking, some-leaves}
 use Rattle.rules.proofs.Targets.{high-above}
+use Rattle.rules.proofs.PlacedLog.{placing-keeps}
 use Rattle.rules.proofs.PlacedEvents.{PlacedEvents, placed-events}
 use Rattle.rules.proofs.Inv.{timeOf, Enters, Leaves, Reached, Replays, Inv}
 use Rattle.rules.proofs.InvLaws.{took-enters, reached-goes, replay-marked}
@@ -163,16 +161,6 @@ module _ (l : Line) (g : Ghost) (cut base : ℕ → ℕ) (fed : List Act) (recei
   unfolding withNode
   end-inv inside = (_, _, rebuild-inv l g cut base fed receipts crashes inv n inside replaying (highOf l n) fs rebuilding (l .steps) (withNode n placed l .nodes) (length-set (l .nodes) n placed) (node-now inside) (node-else n placed l))
 
--- The placing's promise: columns that it gives keep the rules.
-placing-keeps : (low high : ℕ) (table : List Item) (columns : List ℕ) → placing low high table ≡ some columns → KeepsRules low high table columns
-unfolding placing
-placing-keeps low high table columns = go (tableFits low high table) (unplaceable low high table) refl refl
-  where
-    go : (fits lacks : Bool) → tableFits low high table ≡ fits → unplaceable low high table ≡ lacks → (elim (fits && not lacks) [ true ↦ some (chosenColumns low high table) | false ↦ none ]) ≡ some columns → KeepsRules low high table columns
-    go true false f u e = subst (KeepsRules low high table) (some-same e) (accepted low high table f u)
-    go true true f u e = none-some e
-    go false lacks f u e = none-some e
-
 -- What a replay's end leads to, as far as this proof goes.
 abbrev pub Goes : Line → (ℕ → ℕ) → List Act → List Receipt → List ℕ → Type 0
 Goes k base fed receipts crashes = (g : Ghost) × (cut : ℕ → ℕ) × Inv k g cut base fed receipts crashes
@@ -191,7 +179,7 @@ module _ (l : Line) (g : Ghost) (cut base : ℕ → ℕ) (fed : List Act) (recei
       go true none h p e = none-some e
       go true (some columns) h p e =
           subst (λ (x : Line). Goes x base fed receipts crashes) (some-same e)
-          (end-inv l g cut base fed receipts crashes inv n replaying columns (placing-keeps (nodeAt l n .time) (highOf l n) (itemsByRow l n 0 rows) columns p) complete h inside)
+          (end-inv l g cut base fed receipts crashes inv n replaying columns (placing-keeps (nodeAt l n .time) (highOf l n) (itemsByRow l n 0 rows) columns p .0) complete h inside)
 
   -- "When all rows are complete, in that same step": ended, or as it was.
   pub ended-inv : (k : Line) → endedIfComplete n l ≡ some k → Goes k base fed receipts crashes

@@ -102,8 +102,8 @@ few-items low high table e =
     let few = leb (length table) mostItems in
     leb-true (length table) mostItems (both-true few (boundsFit low high) (both-true (few && boundsFit low high) (itemsFit low high 0 0 table) e .0) .0)
 
--- Columns that the placing gives keep its rules, and there are few.
-placing-keeps : (low high : ℕ) (table : List Item) (columns : List ℕ) → placing low high table ≡ some columns → KeepsRules low high table columns × (length table ≤ mostItems)
+-- The placing's promise: columns that it gives keep the rules, and there are few.
+pub placing-keeps : (low high : ℕ) (table : List Item) (columns : List ℕ) → placing low high table ≡ some columns → KeepsRules low high table columns × (length table ≤ mostItems)
 unfolding placing
 placing-keeps low high table columns = go (tableFits low high table) (unplaceable low high table) refl refl
   where

@@ -33,7 +33,7 @@ use Rattle.rules.proofs.Inv.{timeOf, Enters, Leaves, targetFrom, Nodes,
 use Rattle.rules.proofs.InvLaws.{took-enters, up-not-replay, up-not-down, marked-unless-up, replay-marked, marked-took, ends-up}
 use Rattle.rules.proofs.MarkedLaws.{sender-other, receiver-other, parent-unmarked, child-unmarked, parent-up, child-up, own, got-rises, taken-cut}
 use Rattle.rules.proofs.Stays.{moved, unmarked-other, marks-beside, nodes-stay, reached-back, reached-on, channels-beside, ends-beside, events-stay, replays-stay}
-use Rattle.rules.proofs.Swept.{swept-line, swept-long, swept-enters, swept-leaves, swept-else}
+use Rattle.rules.proofs.Restored.{recovered-is, restored-shape, restored-enters, restored-leaves, restored-beside}
 use Rattle.rules.proofs.RebuildEvents.{Rebuilding}
 use Rattle.rules.proofs.RebuildInv.{rebuild-inv}
 use Rattle.rules.proofs.EndInv.{ended-inv}
@@ -78,19 +78,12 @@ module _ (l : Line) (g : Ghost) (cut base : ℕ → ℕ) (fed : List Act) (recei
   abbrev restoredNode : Status → Node
   restoredNode s = record { status = s; crashed = true; time = lowOf l n; log = []; held = []; targets = targetsOf l n }
 
-  abbrev left : ℕ → Lane → Lane
-  left c s = record { mark = s .taken; taken = s .taken; heard = s .heard; queue = s .queue }
-
-  abbrev entered : ℕ → Lane → Lane
-  entered c s = freshLane (l .plan) (channelAt (l .plan) c) (restored l n (channelAt (l .plan) c .sender))
-
   -- The line with the node restored, in a given status.
   abbrev restoredAs : Status → Line
   restoredAs s = moved l (l .steps) (withNode n (restoredNode s) l .nodes) (recovered n l .lanes)
 
-  recovered-is : recovered n l ≡ restoredAs (statusOf (targetsOf l n))
-  unfolding withNode recovered
-  recovered-is = swept-line entered left (withNode n (restoredNode (statusOf (targetsOf l n))) l) n (inv .ordered) (inv .shape .lanes-long)
+  whole-is : recovered n l ≡ restoredAs (statusOf (targetsOf l n))
+  whole-is = recovered-is l n (inv .ordered) (inv .shape)
 
   module _ (s : Status) where
     abbrev k : Line
@@ -109,16 +102,13 @@ module _ (l : Line) (g : Ghost) (cut base : ℕ → ℕ) (fed : List Act) (recei
     nodes-count = length-set (l .nodes) n (restoredNode s)
 
   lane-enters : (c : ℕ) → Enters (l .plan) n c → laneAt (restoredAs replay) c ≡ freshLane (l .plan) (channelAt (l .plan) c) (restored l n (channelAt (l .plan) c .sender))
-  unfolding withNode recovered
-  lane-enters = swept-enters entered left (withNode n (restoredNode (statusOf (targetsOf l n))) l) n (inv .ordered) (inv .shape .lanes-long)
+  lane-enters = restored-enters l n (inv .ordered) (inv .shape)
 
-  lane-leaves : (c : ℕ) → Leaves (l .plan) n c → laneAt (restoredAs replay) c ≡ left c (laneAt l c)
-  unfolding withNode recovered
-  lane-leaves = swept-leaves entered left (withNode n (restoredNode (statusOf (targetsOf l n))) l) n (inv .ordered) (inv .shape .lanes-long)
+  lane-leaves : (c : ℕ) → Leaves (l .plan) n c → laneAt (restoredAs replay) c ≡ record { mark = laneAt l c .taken; taken = laneAt l c .taken; heard = laneAt l c .heard; queue = laneAt l c .queue }
+  lane-leaves = restored-leaves l n (inv .ordered) (inv .shape)
 
   lane-other : (c : ℕ) → channelAt (l .plan) c .receiver ≢ n → channelAt (l .plan) c .sender ≢ n → laneAt (restoredAs replay) c ≡ laneAt l c
-  unfolding withNode recovered
-  lane-other = swept-else entered left (withNode n (restoredNode (statusOf (targetsOf l n))) l) n (inv .ordered) (inv .shape .lanes-long)
+  lane-other = restored-beside l n (inv .ordered) (inv .shape)
 
   -- The node shown as replaying.
   abbrev r : Line
@@ -249,17 +239,10 @@ module _ (l : Line) (g : Ghost) (cut base : ℕ → ℕ) (fed : List Act) (recei
       (λ b y t i. base-other b (λ q. d (sym (took-enters (g m) b y t (marked-took (inv .marks) (inv .nodes) m mark) i .1) ∙ q)))
       (λ b h. (ap (λ (x : Lane). x .taken) (into b h), omega arith, base-other b (λ q. d (sym (h .1) ∙ q)), refl)) (inv .replays m old)
 
-  restored-shape : Shape r
-  unfolding withNode recovered
-  restored-shape = record {
-    nodes-long = nodes-count replay ∙ inv .shape .nodes-long;
-    lanes-long = swept-long entered left (withNode n (restoredNode (statusOf (targetsOf l n))) l) n (inv .ordered) (inv .shape .lanes-long) ∙ inv .shape .lanes-long;
-  }
-
   restored-inv : Inv r g cut baseAfter fed receipts crashes
   restored-inv =
       record {
-        shape = restored-shape;
+        shape = record { nodes-long = nodes-count replay ∙ inv .shape .nodes-long; lanes-long = restored-shape l n (inv .ordered) (inv .shape) .lanes-long };
         ordered = inv .ordered;
         marks = marks-beside l (l .steps) (r .nodes) (r .lanes) n still-marked (node-other replay) crashes marked (inv .marks);
         nodes = nodes-stay l (l .steps) (r .nodes) (r .lanes) (λ m e. node-other replay m (other-unmarked m e)) (λ m e. refl) (inv .nodes);
@@ -311,8 +294,8 @@ module _ (l : Line) (g : Ghost) (cut base : ℕ → ℕ) (fed : List Act) (recei
       go true ts q e = none-some e
       go false [] q e =
           let (g′, cut′, i) = up-inv q in
-          subst Goes-on (sym (recovered-is ∙ ap (λ (x : List Target). restoredAs (statusOf x)) q) ∙ some-same e) (g′, cut′, baseAfter, i)
+          subst Goes-on (sym (whole-is ∙ ap (λ (x : List Target). restoredAs (statusOf x)) q) ∙ some-same e) (g′, cut′, baseAfter, i)
       go false (t ∷ ts) q e =
-          let same : recovered n l ≡ restoredAs replay = recovered-is ∙ ap (λ (x : List Target). restoredAs (statusOf x)) q in
+          let same : recovered n l ≡ restoredAs replay = whole-is ∙ ap (λ (x : List Target). restoredAs (statusOf x)) q in
           let (g′, cut′, i) = ended-inv r g cut baseAfter fed receipts crashes restored-inv n now-replays inside k (ap (endedIfComplete n) (sym same) ∙ e) in
           (g′, cut′, baseAfter, i)

@@ -61,7 +61,7 @@ sameBytes [] (b ∷ bs) = false
 sameBytes (a ∷ s) [] = false
 sameBytes (a ∷ s) (b ∷ t) = eqb a b && sameBytes s t
 
--- "an unused byte is not 0", and in the stored plan its length, its version, and rule bytes that no rule has: the bytes are not those that their line is written as.
+-- "an unused byte is not 0", and what reading cuts: counts past their limits, status and crash mark out of range, and in the stored plan its length, its version, and rule bytes that no rule has. The bytes are not those that their line is written as.
 unfoldable pub unspelled : List ℕ → Bool
 unfolding lineBytes lineOf
 unspelled s = not (sameBytes (lineBytes (lineOf s)) s)
