@@ -13,7 +13,8 @@ use Rattle.state.specs.Right.{wordAt}
 use Rattle.state.specs.State.{lineOf}
 use Rattle.items.specs.Items.{clockRight, queueRight, channelRight}
 use Rattle.buffer.specs.Exact.{zeroAt, slotsExact, listExact, messageExact, blockExact}
-use Rattle.channel_check.specs.Channel.{Stepped, QueueFits}
+use Rattle.buffer.specs.Check.{Counted}
+use Rattle.channel_check.specs.Channel.{QueueFits}
 use Rattle.channel_check.proofs.ChannelLaws.{mark-word, greatest-within}
 
 clock-is : (steps : ℕ) (x : Lane) → (leb (x .mark) steps && leb (greatestOf (x .taken ∷ x .heard)) steps) ≡ clockRight steps x
@@ -49,7 +50,7 @@ none-pass : (h e u r x : Bool) → false ≡ (((h && ((false && e) && u)) && r) 
 none-pass true e u r x = refl
 none-pass false e u r x = refl
 
-module _ (s : List ℕ) (b count : ℕ) where
+module _ (s table : List ℕ) (b count : ℕ) where
   abbrev line : Line
   line = lineOf s
 
@@ -71,7 +72,7 @@ module _ (s : List ℕ) (b count : ℕ) where
   pub too-many : queueLimit < used → false ≡ (blockExact count (blockAt b) s && channelRight line b)
   too-many h = none-pass heardZero slots behind rest (channelRight line b) ∙ sym (ap (λ (t : Bool). t && channelRight line b) (block-is count (blockAt b) s ∙ ap (λ (t : Bool). heardZero && (t && slots && behind) && rest) (lt-leb used queueLimit h)))
 
-  pub block-tested : (steps mark most : ℕ) (zeros queue joined holds : Bool) → Stepped s steps → QueueFits s b → mark ≡ wordAt (blockAt b) s → most ≡ greatestOf (laneAt line b .taken ∷ laneAt line b .heard)
+  pub block-tested : (steps mark most : ℕ) (zeros queue joined holds : Bool) → Counted s table steps → QueueFits s b → mark ≡ wordAt (blockAt b) s → most ≡ greatestOf (laneAt line b .taken ∷ laneAt line b .heard)
       → zeros ≡ (heardZero && (behind && rest)) → queue ≡ (slots && queueRight line b (laneAt line b .queue)) → joined ≡ marksJoined line b → holds ≡ channelHolds line b
       → ((((zeros && (leb mark steps && leb most steps)) && queue) && not joined) && not holds) ≡ (blockExact count (blockAt b) s && channelRight line b)
   block-tested steps mark most zeros queue joined holds counted fits e f g h i j =

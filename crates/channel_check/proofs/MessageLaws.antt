@@ -12,7 +12,7 @@ use lib.ListN.{getD, take, drop}
 use lib.Seq.{take-take}
 use Rattle.plan.specs.Layout.{spelled}
 use Rattle.plan.specs.Record.{recordLayout}
-use Rattle.plan.specs.Plan.{planOf, planChannels, entering, isSource}
+use Rattle.plan.specs.Plan.{planOf, entering, isSource}
 use Rattle.plan.proofs.PlanLaws.{channel-count}
 use Rattle.rules.specs.Line.{fed, made, Message}
 use Rattle.rules.proofs.Joins.{entering-in}
@@ -25,8 +25,8 @@ use Rattle.items.specs.Items.{fromSender, ifFound, timeRight, recordRight, name
 use Rattle.items.proofs.Lookup.{found-in}
 use Rattle.buffer.specs.Exact.{zeroAt, recordExact, messageExact}
 use Rattle.buffer.specs.Look.{numberOr}
-use Rattle.buffer.specs.Check.{recordIn}
-use Rattle.channel_check.specs.Channel.{Stepped, messageAt, messageOk}
+use Rattle.buffer.specs.Check.{Counted, recordIn}
+use Rattle.channel_check.specs.Channel.{messageAt, messageOk}
 
 -- ---- what node n made something from
 
@@ -34,18 +34,18 @@ found-number : (d r : ℕ) (o : Option ℕ) → r ≡ numberOr d o → ((b : ℕ
 found-number d r none e below = le-ltb r d (omega arith)
 found-number d r (some b) e below = lt-ltb r d (omega (arith, below b refl))
 
-module _ (s : List ℕ) (steps : ℕ) (count : Stepped s steps) (n : ℕ) where
+module _ (s table : List ℕ) (steps : ℕ) (counted : Counted s table steps) (n : ℕ) where
   pub named-fed : isSource (planOf s) n ≡ namedRight (lineOf s) n fed
   unfolding namedRight
   named-fed = rw line-plan
 
-  module _ (q t r : ℕ) (e : r ≡ numberOr (planChannels s) (fromSender (planOf s) q (entering (planOf s) n))) where
-    channel-below : (b : ℕ) → fromSender (planOf s) q (entering (planOf s) n) ≡ some b → b < planChannels s
-    channel-below b f = rw channel-count at (entering-in (planOf s) n b (found-in (planOf s) q (entering (planOf s) n) b f .0) .0)
+  module _ (q t r : ℕ) (e : r ≡ numberOr 24 (fromSender (planOf s) q (entering (planOf s) n))) where
+    channel-below : (b : ℕ) → fromSender (planOf s) q (entering (planOf s) n) ≡ some b → b < 24
+    channel-below b f = omega (arith, entering-in (planOf s) n b (found-in (planOf s) q (entering (planOf s) n) b f .0) .0, channel-count s, counted .ready .channels)
 
-    pub named-made : (timeRight steps t && ltb r (planChannels s)) ≡ namedRight (lineOf s) n (made q t)
+    pub named-made : (timeRight steps t && ltb r 24) ≡ namedRight (lineOf s) n (made q t)
     unfolding namedRight
-    named-made = rw (found-number (planChannels s) r (fromSender (planOf s) q (entering (planOf s) n)) e channel-below, line-plan s, ← count .same)
+    named-made = rw (found-number 24 r (fromSender (planOf s) q (entering (planOf s) n)) e channel-below, line-plan s, ← counted .same)
 
 -- ---- a message
 

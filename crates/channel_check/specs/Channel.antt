@@ -1,6 +1,5 @@
 -- What the check of a channel's block goes by: each message where it lies, and the queue message by message.
 use Prim.Native.Nat.{ℕ, zero, suc, _+_, _≤_, _<_}
-use mathlib.Core.Path.{_≡_}
 use mathlib.Core.Bool.{Bool, true, _&&_, _||_}
 use mathlib.Core.List.{List}
 use lib.ListN.{take, drop}
@@ -12,12 +11,7 @@ use Rattle.state.specs.Pieces.{messageLayout}
 use Rattle.state.specs.State.{lineOf}
 use Rattle.items.specs.Items.{recordRight, namedRight}
 use Rattle.buffer.specs.Exact.{messageExact}
-use Rattle.buffer.specs.Ready.{Ready, OnChannel}
-
--- A state that can be read, and its accepted steps.
-pub record Stepped (s : List ℕ) (steps : ℕ) : Type 0 where
-  pub ready : Ready s
-  pub same : steps ≡ lineOf s .steps
+use Rattle.buffer.specs.Ready.{OnChannel}
 
 -- A channel whose queue is not too long.
 pub record QueueFits (s : List ℕ) (b : ℕ) : Type 0 where

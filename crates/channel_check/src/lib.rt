@@ -17,11 +17,13 @@ ghost use Rattle.state.specs.Pieces.{originFrom};
 ghost use Rattle.items.specs.Items.{namedRight, queueRight, channelRight};
 ghost use Rattle.buffer.specs.Exact.{zeroAt, messageExact, slotsExact, blockExact};
 ghost use Rattle.buffer.specs.Ready.{Ready, OnChannel};
-ghost use Rattle.channel_check.specs.Channel.{Stepped, QueueFits, messageOk};
+ghost use Rattle.buffer.specs.Check.{Counted};
+ghost use Rattle.channel_check.specs.Channel.{QueueFits, messageOk};
 use buffer::Line;
 use buffer::bytes;
 use buffer::look;
 use buffer::origin;
+use buffer::table;
 
 fn wide(n: u32) -> usize
     ensures { λ r. ⌜ r ≡ n ⌝ }
@@ -127,34 +129,33 @@ fn holds(s: &[u8], b: usize, stopped: bool, most: u32) -> bool
 }
 
 // What node n made something from: nothing, or a parent's message.
-fn named_ok(s: &[u8], steps: u32, n: usize, from: usize, time: u32) -> bool
-    requires { ⌜ Stepped (now s) steps ⌝ }
+fn named_ok(s: &[u8], t: &[u8; 156], steps: u32, n: usize, from: usize, time: u32) -> bool
+    requires { ⌜ Counted (now s) (now t) steps ⌝ }
     ensures { λ r. ⌜ r ≡ namedRight (lineOf (now (s .entry))) n (originFrom from time) ⌝ }
 {
     if from == 0 {
-        return look::is_source(s, n);
+        return table::source_in(s, t, n);
     }
-    let b = look::channel_between(s, from - 1, n);
-    let m = look::channel_count(s);
-    ((0 < time) & (time <= steps)) & (b < m)
+    let b = table::channel_in(s, t, from - 1, n);
+    ((0 < time) & (time <= steps)) & (b < 24)
 }
 
 // A message that node n sent.
-fn message_ok(s: &[u8], steps: u32, n: usize, at: usize) -> bool
-    requires { ⌜ Stepped (now s) steps × (at + 20 ≤ length (now s)) ⌝ }
+fn message_ok(s: &[u8], t: &[u8; 156], steps: u32, n: usize, at: usize) -> bool
+    requires { ⌜ Counted (now s) (now t) steps × (at + 20 ≤ length (now s)) ⌝ }
     ensures { λ r. ⌜ r ≡ messageOk (now (s .entry)) n at ⌝ }
 {
     let from = look::index(bytes::get8(s, at + 12));
     let time = bytes::get32(s, at + 13);
     let what = origin::record_ok(s, at);
-    let named = named_ok(s, steps, n, from, time);
+    let named = named_ok(s, t, steps, n, from, time);
     let zeros = bytes::all_zero(s, at + 17, at + 20);
     what & named & ((from != 0) | (time == 0)) & zeros
 }
 
 // A channel's messages. Where no end is down, their times rise strictly from above what was taken to the mark.
-fn queue_ok(s: &[u8], steps: u32, b: usize, stopped: bool) -> bool
-    requires { ⌜ Stepped (now s) steps × QueueFits (now s) b × (stopped ≡ endDown (lineOf (now s)) b) ⌝ }
+fn queue_ok(s: &[u8], t: &[u8; 156], steps: u32, b: usize, stopped: bool) -> bool
+    requires { ⌜ Counted (now s) (now t) steps × QueueFits (now s) b × (stopped ≡ endDown (lineOf (now s)) b) ⌝ }
     ensures { λ r. ⌜ r ≡ (slotsExact messageExact messageSize (blockAt b + queueAt + countSize) (wordAt (blockAt b + queueAt) (now (s .entry))) (now (s .entry))
         && queueRight (lineOf (now (s .entry))) b (laneAt (lineOf (now (s .entry))) b .queue)) ⌝ }
 {
@@ -167,7 +168,7 @@ fn queue_ok(s: &[u8], steps: u32, b: usize, stopped: bool) -> bool
     at += 28;
     while 0 < left {
         let time = bytes::get32(s, at + 8);
-        let here = message_ok(s, steps, sender, at);
+        let here = message_ok(s, t, steps, sender, at);
         ok = ok & here & (stopped | ((last < time) & (time <= mark)));
         last = time;
         at += 20;
@@ -177,8 +178,8 @@ fn queue_ok(s: &[u8], steps: u32, b: usize, stopped: bool) -> bool
 }
 
 // A channel's block.
-pub fn channel_ok(s: &[u8], b: usize, steps: u32) -> bool
-    requires { ⌜ Stepped (now s) steps × (b < planChannels (now s)) ⌝ }
+pub fn channel_ok(s: &[u8], t: &[u8; 156], b: usize, steps: u32) -> bool
+    requires { ⌜ Counted (now s) (now t) steps × (b < planChannels (now s)) ⌝ }
     ensures { λ r. ⌜ r ≡ (blockExact (heardCount (planOf (now (s .entry))) (channelAt (planOf (now (s .entry))) b)) (blockAt b) (now (s .entry))
         && channelRight (lineOf (now (s .entry))) b) ⌝ }
 {
@@ -191,7 +192,7 @@ pub fn channel_ok(s: &[u8], b: usize, steps: u32) -> bool
     let most = most_heard(s, b, heard);
     let zeros = zeros_ok(s, b, heard);
     let stopped = end_down(s, b);
-    let queue = queue_ok(s, steps, b, stopped);
+    let queue = queue_ok(s, t, steps, b, stopped);
     let joined = marks_joined(s, b);
     let held = holds(s, b, stopped, most);
     zeros & ((mark <= steps) & (most <= steps)) & queue & !joined & !held

@@ -11,7 +11,7 @@ use Rattle.channel_check.proofs.channel_ok.Tie as tie
 returns : tie.Need-returns
 returns c =
     let a = c .before .before .before .args in
-    too-many (a .s .now) (a .b) (heardCount (planOf (a .s .now)) (channelAt (planOf (a .s .now)) (a .b))) (rw (c .before .get32 .ensures) at (c .if1 .taken))
+    too-many (a .s .now) (a .t .now) (a .b) (heardCount (planOf (a .s .now)) (channelAt (planOf (a .s .now)) (a .b))) (rw (c .before .get32 .ensures) at (c .if1 .taken))
 
 queue-ok-requires : tie.Need-queue-ok-requires
 queue-ok-requires c κs =
@@ -32,7 +32,7 @@ returns-2 c =
     let most-used : checked .before .get32 .result ≤ 8 = omega arith in
     let fits : QueueFits (a .s .now) (a .b) = record { on = record { ready = start .pre .0 .ready; below = start .pre .1 }; few = rw (checked .before .get32 .ensures) at most-used } in
     rw (← heard .ensures .0)
-    (block-tested (a .s .now) (a .b) (heard .result) (a .steps) (mark .result) (most .result) (zeros .result) (queue .result) (joined .result) (c .holds .result) (start .pre .0) fits (mark .ensures) (most .ensures) (zeros .ensures) (queue .ensures) (joined .ensures) (c .holds .ensures))
+    (block-tested (a .s .now) (a .t .now) (a .b) (heard .result) (a .steps) (mark .result) (most .result) (zeros .result) (queue .result) (joined .result) (c .holds .result) (start .pre .0) fits (mark .ensures) (most .ensures) (zeros .ensures) (queue .ensures) (joined .ensures) (c .holds .ensures))
 
 pub channel-ok-spec : {M : Type 1} → statement M
 channel-ok-spec =

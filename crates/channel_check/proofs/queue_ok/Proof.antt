@@ -18,10 +18,10 @@ record Seen (s : List ℕ) (b sender : ℕ) (stopped : Bool) (mark last₀ left�
   now : (ok₀ && messagesOk s sender stopped mark last₀ (blockAt b + 28) left₀) ≡ (ok && messagesOk s sender stopped mark last at left)
 
 abbrev Inv-loop : tie.InvT-loop
-Inv-loop s steps b stopped sender at₀ mark last₀ left₀ ok₀ at last left ok = Seen s b sender stopped mark last₀ left₀ ok₀ at last left ok
+Inv-loop s t steps b stopped sender at₀ mark last₀ left₀ ok₀ at last left ok = Seen s b sender stopped mark last₀ left₀ ok₀ at last left ok
 
 abbrev μ-loop : tie.MeasureT-loop
-μ-loop s steps b stopped sender at₀ mark last₀ left₀ ok₀ at last left ok = left
+μ-loop s t steps b stopped sender at₀ mark last₀ left₀ ok₀ at last left ok = left
 
 sender-of-requires : tie.Need-sender-of-requires Inv-loop μ-loop
 sender-of-requires c κs = c .before .pre .1 .on
