@@ -63,14 +63,6 @@ fn end_down(s: &[u8], sender: usize, receiver: usize) -> bool
     is_down(s, sender) | is_down(s, receiver)
 }
 
-// How many are heard on a channel: the sender's parents.
-fn heard_count(s: &[u8], b: usize) -> usize
-    requires { ⌜ OnChannel (now s) b ⌝ }
-    ensures { λ r. ⌜ (r ≡ heardCount (planOf (now (s .entry))) (channelAt (planOf (now (s .entry))) b)) × (r ≤ 4) ⌝ }
-{
-    wide(plan::mask_count(plan::entering_mask(s, look::sender_of(s, b))))
-}
-
 fn larger(a: u32, b: u32) -> u32
     ensures { λ r. ⌜ r ≡ max a b ⌝ }
 {
@@ -136,8 +128,8 @@ fn named_ok(s: &[u8], t: &[u8; 156], steps: u32, n: usize, from: usize, time: u3
     if from == 0 {
         return table::source_in(s, t, n);
     }
-    let b = table::channel_in(s, t, from - 1, n);
-    ((0 < time) & (time <= steps)) & (b < 24)
+    let code = table::joined(s, t, from - 1, n);
+    ((0 < time) & (time <= steps)) & (code != 255)
 }
 
 // A message that node n sent.
@@ -198,7 +190,7 @@ pub fn channel_ok(s: &[u8], t: &[u8; 156], b: usize, steps: u32) -> bool
     let sender = look::sender_of(s, b);
     let receiver = look::receiver_of(s, b);
     let mark = bytes::get32(s, at);
-    let heard = heard_count(s, b);
+    let heard = table::parents_in(s, t, sender);
     let most = most_heard(s, b, heard);
     let zeros = zeros_ok(s, b, heard, count);
     let stopped = end_down(s, sender, receiver);

@@ -1,8 +1,13 @@
-use mathlib.Core.Path.{_∙_}
+use Prim.Native.Nat.{ℕ}
+use mathlib.Core.Path.{_≡_, _∙_}
+use mathlib.Core.List.{List}
 use native.Mathlib.Omega.{arith}
 use borrow.Author.Needs.{needs}
-use Rattle.plan.specs.Plan.{planOf, channelAt}
+use lib.ListN.{length}
+use Rattle.plan.specs.Plan.{planOf, channelAt, entering}
 use Rattle.state.specs.Lane.{heardCount}
+use Rattle.buffer.specs.Ready.{OnChannel}
+use Rattle.buffer.proofs.ReadyLaws.{few-heard, heard-entering}
 use Rattle.channel_check.specs.Channel.{Ends, QueueFits}
 use Rattle.channel_check.proofs.ChannelLaws.{down-ends}
 use Rattle.channel_check.proofs.BlockCheck.{too-many, block-tested}
@@ -13,6 +18,25 @@ returns : tie.Need-returns
 returns c =
     let a = c .before .before .before .args in
     too-many (a .s .now) (a .t .now) (a .b) (heardCount (planOf (a .s .now)) (channelAt (planOf (a .s .now)) (a .b))) (c .before .get32 .result) (c .before .get32 .ensures) (omega arith)
+
+-- So many are heard as channels enter the sender.
+parents-heard : (s : List ℕ) (b sender heard : ℕ) → OnChannel s b → sender ≡ channelAt (planOf s) b .sender → heard ≡ length (entering (planOf s) sender) → heard ≡ heardCount (planOf s) (channelAt (planOf s) b)
+parents-heard s b sender heard on e f = f ∙ rw e (heard-entering s b on)
+
+most-heard-requires : tie.Need-most-heard-requires
+most-heard-requires c κs =
+    let sender = c .before .before .before in
+    let a = sender .before .before .before .before .args in
+    let on : OnChannel (a .s .now) (a .b) = search needs in
+    (on, parents-heard (a .s .now) (a .b) (sender .sender-of .result) (c .parents-in .result) on (sender .sender-of .ensures .0) (c .parents-in .ensures))
+
+zeros-ok-requires : tie.Need-zeros-ok-requires
+zeros-ok-requires c κs =
+    let heard = c .before in
+    let sender = heard .before .before .before in
+    let a = sender .before .before .before .before .args in
+    let on : OnChannel (a .s .now) (a .b) = search needs in
+    (search needs, rw (parents-heard (a .s .now) (a .b) (sender .sender-of .result) (heard .parents-in .result) on (sender .sender-of .ensures .0) (heard .parents-in .ensures)) (few-heard (a .s .now) (a .b) on))
 
 queue-ok-requires : tie.Need-queue-ok-requires
 queue-ok-requires c κs =
@@ -38,13 +62,15 @@ returns-2 c =
     let most = zeros .before in
     let heard = most .before in
     let mark = heard .before in
-    let test = mark .before .before .before in
+    let sender = mark .before .before in
+    let test = sender .before in
     let count = test .before in
     let start = count .before .before in
     let a = start .args in
-    let fits : QueueFits (a .s .now) (a .b) (count .get32 .result) = record { on = record { ready = start .pre .0 .ready; below = start .pre .1 }; same = count .get32 .ensures; few = omega (arith, test .if1 .left) } in
-    rw (← heard .heard-count .ensures .0)
-    (block-tested (a .s .now) (a .t .now) (a .b) (heard .heard-count .result) (count .get32 .result) (a .steps) (mark .get322 .result) (most .most-heard .result) (zeros .zeros-ok .result) (c .before .queue-ok .result) (c .ends-ok .result)
+    let on : OnChannel (a .s .now) (a .b) = record { ready = start .pre .0 .ready; below = start .pre .1 } in
+    let fits : QueueFits (a .s .now) (a .b) (count .get32 .result) = record { on = on; same = count .get32 .ensures; few = omega (arith, test .if1 .left) } in
+    rw (← parents-heard (a .s .now) (a .b) (sender .sender-of .result) (heard .parents-in .result) on (sender .sender-of .ensures .0) (heard .parents-in .ensures))
+    (block-tested (a .s .now) (a .t .now) (a .b) (heard .parents-in .result) (count .get32 .result) (a .steps) (mark .get322 .result) (most .most-heard .result) (zeros .zeros-ok .result) (c .before .queue-ok .result) (c .ends-ok .result)
     (start .pre .0) fits (mark .get322 .ensures) (most .most-heard .ensures) (zeros .zeros-ok .ensures) (c .before .queue-ok .ensures) (c .ends-ok .ensures))
 
 pub channel-ok-spec : {M : Type 1} → statement M
@@ -60,8 +86,8 @@ channel-ok-spec =
     (λ c κs. search needs)
     (λ c κs. search needs)
     (λ c κs. search needs)
-    (λ c κs. search needs)
-    (λ c κs. search needs)
+    most-heard-requires
+    zeros-ok-requires
     (λ c κs. search needs)
     queue-ok-requires
     ends-ok-requires

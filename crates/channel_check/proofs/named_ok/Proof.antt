@@ -16,7 +16,7 @@ returns-2 c =
     let start = c .before .before .before in
     let a = start .args in
     rw (origin-some (a .time) (a .from) (c .before .if1 .left))
-    (named-made (a .s .now) (a .t .now) (a .steps) (start .pre) (a .n) (a .from - 1) (a .time) (c .channel-in .result) (c .channel-in .ensures))
+    (named-made (a .s .now) (a .t .now) (a .steps) (start .pre) (a .n) (a .from - 1) (a .time) (c .joined .result) (c .joined .ensures))
 
 pub named-ok-spec : {M : Type 1} → statement M
 named-ok-spec =
