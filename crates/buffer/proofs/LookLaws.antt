@@ -8,12 +8,13 @@ use native.Mathlib.Nat.{add-zero}
 use native.Mathlib.Numerals.{add-one}
 use native.Mathlib.Omega.{arith}
 use lib.Dec.{eqb}
-use lib.ListN.{getD, drop, drop-of-length-le}
+use lib.ListN.{length, getD, drop, drop-of-length-le}
 use lib.Seq.{drop-cons}
 use Rattle.plan.specs.declared.Channel.{Channel}
 use Rattle.plan.specs.Plan.{Plan, planOf, planChannels, channelAt, channelCount, noChannel, keepIf, numbersFrom, isNone, entering, isSource, isSink}
 use Rattle.plan.proofs.ReadLaws.{channel-at}
 use Rattle.plan.proofs.PlanLaws.{channel-count}
+use Rattle.rules.proofs.Options.{none-some, some-same}
 use Rattle.items.specs.Items.{fromSender, placeFrom}
 use Rattle.buffer.specs.Look.{numberOr, endAt, unnamed, channelFrom}
 
@@ -91,6 +92,14 @@ module _ (p : Plan) (q n : ℕ) where
 
   pub place-end : (k b : ℕ) → channelCount p ≤ b → placeOn k b ≡ none
   place-end k b h = ap (placeFrom p q k) (numbers-end p enters b h)
+
+pub place-below : (p : Plan) (q k i : ℕ) (bs : List ℕ) → placeFrom p q k bs ≡ some i → i < k + length bs
+place-below p q k i [] e = none-some e
+place-below p q k i (b ∷ bs) e = one (eqb (channelAt p b .sender) q) (λ f. place-below p q (suc k) i bs f) e
+  where
+    one : (t : Bool) → (placeFrom p q (suc k) bs ≡ some i → i < suc k + length bs) → (elim t [ true ↦ some k | false ↦ placeFrom p q (suc k) bs ]) ≡ some i → i < k + suc (length bs)
+    one true later f = let same : k ≡ i = some-same f in omega arith
+    one false later f = let l = later f in omega arith
 
 -- ---- nodes at no end
 

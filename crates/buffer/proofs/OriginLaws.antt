@@ -17,7 +17,6 @@ use Rattle.plan.proofs.PlanLaws.{channel-count}
 use Rattle.rules.specs.Line.{Origin, fed, made, Line, laneAt, parents}
 use Rattle.rules.specs.Damaged.{isFed}
 use Rattle.rules.proofs.Joins.{entering-in}
-use Rattle.rules.proofs.Options.{none-some, some-same}
 use Rattle.state.specs.Sizes.{takenAt, heardAt, parentLimit, blockAt}
 use Rattle.state.specs.Pieces.{originFrom}
 use Rattle.state.specs.Lane.{heardCount}
@@ -33,6 +32,7 @@ use Rattle.items.proofs.Lookup.{found-in}
 use Rattle.buffer.specs.Exact.{recordExact}
 use Rattle.buffer.specs.Look.{numberOr}
 use Rattle.buffer.specs.Check.{Counted, recordIn}
+use Rattle.buffer.proofs.LookLaws.{place-below}
 
 -- ---- records
 
@@ -65,14 +65,6 @@ none-found d r (some b) e below h = let no : ⊥ = omega (arith, below b refl) i
 found-test : (d r : ℕ) (o : Option ℕ) → r ≡ numberOr d o → ((b : ℕ) → o ≡ some b → b < d) → ltb r d ≡ ifFound o (λ (b : ℕ). true)
 found-test d r none e below = le-ltb r d (omega arith)
 found-test d r (some b) e below = lt-ltb r d (omega (arith, below b refl))
-
-pub place-below : (p : Plan) (q k i : ℕ) (bs : List ℕ) → placeFrom p q k bs ≡ some i → i < k + length bs
-place-below p q k i [] e = none-some e
-place-below p q k i (b ∷ bs) e = one (eqb (channelAt p b .sender) q) (λ f. place-below p q (suc k) i bs f) e
-  where
-    one : (t : Bool) → (placeFrom p q (suc k) bs ≡ some i → i < suc k + length bs) → (elim t [ true ↦ some k | false ↦ placeFrom p q (suc k) bs ]) ≡ some i → i < k + suc (length bs)
-    one true later f = let same : k ≡ i = some-same f in omega arith
-    one false later f = let l = later f in omega arith
 
 -- ---- what an input was made from
 

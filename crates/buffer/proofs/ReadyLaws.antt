@@ -9,11 +9,9 @@ use lib.Dec.{ltb, eqb}
 use lib.ListN.{length, getD, take, drop, length-take, length-map}
 use Rattle.plan.specs.Layout.{spelled}
 use Rattle.plan.specs.Plan.{planOf, planNodes, channelCount, channelAt, entering}
-use Rattle.plan.specs.Mask.{planMask, CountOf}
 use Rattle.plan.proofs.FitsLaws.{fitting}
 use Rattle.plan.proofs.PlanLaws.{node-count, channel-count}
 use Rattle.plan.proofs.ReadLaws.{byte-field}
-use Rattle.plan.proofs.MaskLaws.{entering-rise, mask-few}
 use Rattle.rules.specs.Line.{Lane, nodeAt, laneAt, isDown, isReplay, parents}
 use Rattle.rules.specs.Step.{nodeDown, replaying}
 use Rattle.rules.proofs.PlanOrder.{ordered-channels}
@@ -82,10 +80,7 @@ module _ (s : List ℕ) (b : ℕ) (on : OnChannel s b) where
       ∙ length-take count (laneLayout .read (blockOf b s) .heard)
       ∙ omega (arith, heard-four (blockOf b s), few-heard)
 
-  -- The ones of the mask of the channels that enter the sender.
-  pub heard-ones : (r : ℕ) → CountOf (planMask s (entering (planOf s) (channelAt (planOf s) b .sender))) r → r ≡ heardCount (planOf s) (channelAt (planOf s) b)
+  -- The sender's parents: one for each channel that enters it.
+  pub heard-entering : length (entering (planOf s) (channelAt (planOf s) b .sender)) ≡ heardCount (planOf s) (channelAt (planOf s) b)
   unfolding heardCount parents
-  heard-ones r h =
-      let n : ℕ = channelAt (planOf s) b .sender in
-      h .listed (entering (planOf s) n) (entering-rise (planOf s) n) (mask-few s (on .ready .channels) (entering (planOf s) n))
-      ∙ sym (length-map (entering (planOf s) n) (λ (c : ℕ). channelAt (planOf s) c .sender))
+  heard-entering = sym (length-map (entering (planOf s) (channelAt (planOf s) b .sender)) (λ (c : ℕ). channelAt (planOf s) c .sender))

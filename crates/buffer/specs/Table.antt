@@ -1,11 +1,10 @@
--- The plan's channels as a table, made once for a check: for each sender and receiver the channel and its place, and for each node whether a channel enters it.
+-- The plan's channels as a table, made once for a check: for each sender and receiver the channel and its place, and for each node the number of channels that enter it.
 use Prim.Native.Nat.{ℕ, _+_, _*_, _<_}
 use mathlib.Core.Path.{_≡_}
 use mathlib.Core.List.{List}
 use mathlib.Core.Option.{Option, none, some}
-use lib.Dec.{eqb}
 use lib.ListN.{length, getD, replicate}
-use Rattle.plan.specs.Plan.{Plan, planOf, channelAt, entering, isSource}
+use Rattle.plan.specs.Plan.{Plan, planOf, channelAt, entering}
 use Rattle.items.specs.Items.{fromSender, placeFrom}
 use Rattle.buffer.specs.Look.{numberOr}
 
@@ -25,4 +24,4 @@ emptyTable = replicate 156 255
 pub record Table (s t : List ℕ) : Type 0 where
   pub long : length t ≡ 156
   pub joins : (q n : ℕ) → q < 12 → n < 12 → getD t (12 * n + q) 0 ≡ codeOr (planOf s) (fromSender (planOf s) q (entering (planOf s) n))
-  pub sources : (n : ℕ) → n < 12 → eqb (getD t (144 + n) 0) 255 ≡ isSource (planOf s) n
+  pub counts : (n : ℕ) → n < 12 → getD t (144 + n) 0 ≡ length (entering (planOf s) n)

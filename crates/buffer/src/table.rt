@@ -1,21 +1,23 @@
 // The plan's channels as a table, made once for a check: looking a sender up is then one read.
 ghost use mathlib.Core.Path.{_≡_};
 ghost use Prim.Native.Nat.{_+_, _*_, _<_};
-ghost use lib.ListN.{length, set};
+ghost use lib.ListN.{length, getD, set};
 ghost use Rattle.plan.specs.Plan.{planOf, entering, isSource};
 ghost use Rattle.items.specs.Items.{fromSender, placeFrom};
 ghost use Rattle.buffer.specs.Ready.{Ready};
 ghost use Rattle.buffer.specs.Look.{numberOr};
 ghost use Rattle.buffer.specs.Table.{Table, codeOr, emptyTable};
+use crate::bytes;
 use crate::look;
 
-// One channel, by its ends and its place.
-fn enter(t: &mut [u8; 156], from: usize, to: usize, b: usize, place: usize)
-    requires { ⌜ (length (now t) ≡ 156) × (from < 12) × (to < 12) × (b + 32 * place < 255) ⌝ }
-    ensures { λ _. ⌜ now (t .exit) ≡ set (set (now (t .entry)) (12 * to + from) (b + 32 * place)) (144 + to) 0 ⌝ }
+// One channel, by its ends: its place is the number of channels so far that enter its receiver.
+fn enter(t: &mut [u8; 156], from: usize, to: usize, b: usize)
+    requires { ⌜ (length (now t) ≡ 156) × (from < 12) × (to < 12) × (b + 32 * getD (now t) (144 + to) 0 < 255) ⌝ }
+    ensures { λ _. ⌜ now (t .exit) ≡ set (set (now (t .entry)) (12 * to + from) (b + 32 * getD (now (t .entry)) (144 + to) 0)) (144 + to) (getD (now (t .entry)) (144 + to) 0 + 1) ⌝ }
 {
+    let place = look::index(t[144 + to]);
     t[12 * to + from] = (b + 32 * place) as u8;
-    t[144 + to] = 0;
+    t[144 + to] = (place + 1) as u8;
 }
 
 // Fills an empty table from the plan at the state's front.
@@ -23,20 +25,21 @@ pub fn fill(s: &[u8], t: &mut [u8; 156])
     requires { ⌜ Ready (now s) × (now t ≡ emptyTable) ⌝ }
     ensures { λ _. ⌜ Table (now (s .entry)) (now (t .exit)) ⌝ }
 {
-    let mut b = look::channel_count(s);
-    let mut at = look::channels_at(s) + 6 * b;
-    while 0 < b {
-        at -= 6;
-        b -= 1;
+    bytes::fill_zero(t, 144, 156);
+    let m = look::channel_count(s);
+    let mut at = look::channels_at(s);
+    let mut b: usize = 0;
+    while b < m {
         let from = look::index(s[at]);
         let to = look::index(s[at + 1]);
-        let place = look::place_among(s, from, to);
-        enter(t, from, to, b, place);
+        enter(t, from, to, b);
+        at += 6;
+        b += 1;
     }
 }
 
-// What the table of a state's plan has for a sender and a receiver.
-fn joined(s: &[u8], t: &[u8; 156], sender: usize, node: usize) -> usize
+// What the table has for a sender and a receiver: the channel and 32 times its place among those that enter the receiver; 255 for none.
+pub fn joined(s: &[u8], t: &[u8; 156], sender: usize, node: usize) -> usize
     requires { ⌜ Ready (now s) × Table (now s) (now t) ⌝ }
     ensures { λ r. ⌜ r ≡ codeOr (planOf (now (s .entry))) (fromSender (planOf (now (s .entry))) sender (entering (planOf (now (s .entry))) node)) ⌝ }
 {
@@ -73,12 +76,21 @@ pub fn place_in(s: &[u8], t: &[u8; 156], sender: usize, node: usize) -> usize
     code / 32
 }
 
+// How many channels enter a node.
+pub fn parents_in(s: &[u8], t: &[u8; 156], node: usize) -> usize
+    requires { ⌜ Ready (now s) × Table (now s) (now t) ⌝ }
+    ensures { λ r. ⌜ r ≡ length (entering (planOf (now (s .entry))) node) ⌝ }
+{
+    if 12 <= node {
+        return 0;
+    }
+    look::index(t[144 + node])
+}
+
 pub fn source_in(s: &[u8], t: &[u8; 156], node: usize) -> bool
     requires { ⌜ Ready (now s) × Table (now s) (now t) ⌝ }
     ensures { λ r. ⌜ r ≡ isSource (planOf (now (s .entry))) node ⌝ }
 {
-    if 12 <= node {
-        return true;
-    }
-    t[144 + node] == 255
+    let n = parents_in(s, t, node);
+    n == 0
 }

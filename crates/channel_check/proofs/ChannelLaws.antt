@@ -12,9 +12,9 @@ use lib.ListN.{length, getD, take, drop, drop-of-length-le}
 use lib.Seq.{drop-cons, drop-drop, take-add}
 use Rattle.rules.specs.Lists.{isEmpty, allOf, anyOf, greatestOf}
 use Rattle.plan.specs.Plan.{planOf, channelAt}
-use Rattle.rules.specs.Line.{queueLimit, Lane, Line, laneAt}
+use Rattle.rules.specs.Line.{queueLimit, Lane, Line, nodeAt, laneAt}
 use Rattle.rules.specs.Step.{nodeDown, endDown, replaying}
-use Rattle.rules.specs.Damaged.{channelHolds}
+use Rattle.rules.specs.Damaged.{marksJoined, channelHolds}
 use Rattle.state.specs.Sizes.{blockAt, parentLimit, queueAt, laneRestAt, laneRest}
 use Rattle.state.specs.Right.{wordAt}
 use Rattle.state.specs.State.{lineOf}
@@ -25,6 +25,7 @@ use Rattle.buffer.proofs.ReadyLaws.{counted}
 use Rattle.buffer.specs.Zero.{zeroBytes}
 use Rattle.buffer.specs.Exact.{zeroAt}
 use Rattle.basics.specs.Bools.{below-or-not}
+use Rattle.channel_check.specs.Channel.{Ends}
 
 -- ---- the greatest of some numbers
 
@@ -103,10 +104,32 @@ module _ (s : List ℕ) (b : ℕ) (on : OnChannel s b) where
   pub queue-empty : eqb (wordAt (blockAt b + queueAt) s) 0 ≡ isEmpty (lane .queue)
   queue-empty = empty-counted (lane .queue) (wordAt (blockAt b + queueAt) s) 7 (line-queue-count s (counted (on .ready)) b (on .below))
 
-  pub holds-at :
-      ((endDown line b && not (eqb (wordAt (blockAt b) s) 0 && eqb (wordAt (blockAt b + queueAt) s) 0))
-      || (nodeDown line (channelAt (planOf s) b .receiver) && ltb 0 (greatestOf (lane .taken ∷ lane .heard)))
-      || (replaying line (channelAt (planOf s) b .sender) && not (eqb (wordAt (blockAt b + queueAt) s) 0)))
-      ≡ channelHolds line b
+-- ---- a lane by its ends
+
+module _ (s : List ℕ) (b sender receiver : ℕ) (ends : Ends s b sender receiver) where
+  abbrev l : Line
+  l = lineOf s
+
+  abbrev x : Lane
+  x = laneAt l b
+
+  pub down-ends : (nodeDown l sender || nodeDown l receiver) ≡ endDown l b
+  down-ends = rw (ends .from, ends .to, line-plan s)
+
+  joined-at : (nodeAt l sender .crashed && nodeAt l receiver .crashed) ≡ marksJoined l b
+  unfolding marksJoined
+  joined-at = rw (ends .from, ends .to, line-plan s)
+
+  holds-at :
+      ((endDown l b && not (eqb (wordAt (blockAt b) s) 0 && eqb (wordAt (blockAt b + queueAt) s) 0))
+      || (nodeDown l receiver && ltb 0 (greatestOf (x .taken ∷ x .heard)))
+      || (replaying l sender && not (eqb (wordAt (blockAt b + queueAt) s) 0)))
+      ≡ channelHolds l b
   unfolding channelHolds
-  holds-at = rw (greatest-above (lane .taken ∷ lane .heard), ← mark-word, queue-empty, line-plan s)
+  holds-at = rw (greatest-above (x .taken ∷ x .heard), ← mark-word s b (ends .on), queue-empty s b (ends .on), ends .from, ends .to, line-plan s)
+
+  pub ends-at : (stopped : Bool) (mark count most : ℕ) → stopped ≡ endDown l b → mark ≡ wordAt (blockAt b) s → count ≡ wordAt (blockAt b + queueAt) s → most ≡ greatestOf (x .taken ∷ x .heard)
+      → (not (nodeAt l sender .crashed && nodeAt l receiver .crashed)
+      && not ((stopped && not (eqb mark 0 && eqb count 0)) || (nodeDown l receiver && ltb 0 most) || (replaying l sender && not (eqb count 0))))
+      ≡ (not (marksJoined l b) && not (channelHolds l b))
+  ends-at stopped mark count most e f g h = rw (e, f, g, h, joined-at, holds-at)

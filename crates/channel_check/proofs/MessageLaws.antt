@@ -1,51 +1,50 @@
 -- Messages in the state's bytes.
-use Prim.Native.Nat.{ℕ, _+_, _<_}
+use Prim.Native.Nat.{ℕ, _+_}
 use mathlib.Core.Path.{_≡_, refl, sym, ap, _∙_}
 use mathlib.Core.Bool.{Bool, true, false, not, _&&_, _||_}
 use mathlib.Core.List.{List}
-use mathlib.Core.Option.{Option, none, some}
+use mathlib.Core.Option.{Option}
 use native.Mathlib.Nat.{add-zero}
 use native.Mathlib.Omega.{arith}
-use borrow.Author.Tests.{lt-ltb, le-ltb}
-use lib.Dec.{lit≤, lit<, ltb, eqb}
+use borrow.Author.Tests.{eqb-true, eqb-false}
+use lib.Dec.{lit≤, lit<, eqb}
 use lib.ListN.{getD, take, drop}
 use lib.Seq.{take-take}
 use Rattle.plan.specs.Layout.{spelled}
 use Rattle.plan.specs.Record.{recordLayout}
-use Rattle.plan.specs.Plan.{planOf, planChannels, entering, isSource}
-use Rattle.plan.proofs.PlanLaws.{channel-count}
+use Rattle.plan.specs.Plan.{planOf, entering, isSource}
 use Rattle.rules.specs.Line.{fed, made, Message}
-use Rattle.rules.proofs.Joins.{entering-in}
 use Rattle.state.specs.Pieces.{originFrom, originLayout}
 use Rattle.state.specs.Right.{wordAt}
 use Rattle.state.specs.State.{lineOf}
 use Rattle.state.proofs.ReadLaws.{part-part, byte-part, origin-read, message-read}
 use Rattle.state.proofs.InPlace.{line-plan}
 use Rattle.items.specs.Items.{fromSender, ifFound, timeRight, recordRight, namedRight}
-use Rattle.items.proofs.Lookup.{found-in}
 use Rattle.buffer.specs.Exact.{zeroAt, recordExact, messageExact}
-use Rattle.buffer.specs.Look.{numberOr}
-use Rattle.buffer.specs.Check.{recordIn}
-use Rattle.channel_check.specs.Channel.{Stepped, messageAt, messageOk}
+use Rattle.buffer.specs.Table.{codeOr}
+use Rattle.buffer.specs.Check.{Counted, recordIn}
+use Rattle.buffer.proofs.TableLaws.{coded, not-found}
+use Rattle.channel_check.specs.Channel.{messageAt, messageOk}
 
 -- ---- what node n made something from
 
-found-number : (d r : ℕ) (o : Option ℕ) → r ≡ numberOr d o → ((b : ℕ) → o ≡ some b → b < d) → ltb r d ≡ ifFound o (λ (b : ℕ). true)
-found-number d r none e below = le-ltb r d (omega arith)
-found-number d r (some b) e below = lt-ltb r d (omega (arith, below b refl))
-
-module _ (s : List ℕ) (steps : ℕ) (count : Stepped s steps) (n : ℕ) where
+module _ (s table : List ℕ) (steps : ℕ) (counted : Counted s table steps) (n : ℕ) where
   pub named-fed : isSource (planOf s) n ≡ namedRight (lineOf s) n fed
   unfolding namedRight
   named-fed = rw line-plan
 
-  module _ (q t r : ℕ) (e : r ≡ numberOr (planChannels s) (fromSender (planOf s) q (entering (planOf s) n))) where
-    channel-below : (b : ℕ) → fromSender (planOf s) q (entering (planOf s) n) ≡ some b → b < planChannels s
-    channel-below b f = rw channel-count at (entering-in (planOf s) n b (found-in (planOf s) q (entering (planOf s) n) b f .0) .0)
+  module _ (q t code : ℕ) (e : code ≡ codeOr (planOf s) (fromSender (planOf s) q (entering (planOf s) n))) where
+    -- A sender is a parent where the table has a channel.
+    code-found : not (eqb code 255) ≡ ifFound (fromSender (planOf s) q (entering (planOf s) n)) (λ (b : ℕ). true)
+    code-found = one (eqb code 255) refl
+      where
+        one : (t : Bool) → eqb code 255 ≡ t → not t ≡ ifFound (fromSender (planOf s) q (entering (planOf s) n)) (λ (b : ℕ). true)
+        one true h = sym (ap (λ (o : Option ℕ). ifFound o (λ (b : ℕ). true)) (not-found s (counted .ready) q n code e (eqb-true code 255 h)))
+        one false h = sym (ap (λ (o : Option ℕ). ifFound o (λ (b : ℕ). true)) (coded s (counted .ready) q n code e (eqb-false code 255 h) .found))
 
-    pub named-made : (timeRight steps t && ltb r (planChannels s)) ≡ namedRight (lineOf s) n (made q t)
+    pub named-made : (timeRight steps t && not (eqb code 255)) ≡ namedRight (lineOf s) n (made q t)
     unfolding namedRight
-    named-made = rw (found-number (planChannels s) r (fromSender (planOf s) q (entering (planOf s) n)) e channel-below, line-plan s, ← count .same)
+    named-made = rw (code-found, line-plan s, ← counted .same)
 
 -- ---- a message
 

@@ -111,22 +111,19 @@ messages-end s sender stopped mark last a left ok h = let none : left ≡ 0 = om
 
 -- ---- the queue
 
-module _ (s : List ℕ) (b : ℕ) (fits : QueueFits s b) where
-  abbrev count : ℕ
-  count = wordAt (blockAt b + queueAt) s
-
+module _ (s : List ℕ) (b count : ℕ) (fits : QueueFits s b count) where
   abbrev first : ℕ
   first = blockAt b + queueAt + countSize
 
   queue-in : laneAt (lineOf s) b .queue ≡ messagesIn s first count
   queue-in =
       let few = counted (fits .on .ready) in
-      let long : length (laneAt (lineOf s) b .queue) ≡ count = line-queue-count s few b (fits .on .below) ∙ omega (arith, fits .few) in
+      let long : length (laneAt (lineOf s) b .queue) ≡ count = line-queue-count s few b (fits .on .below) ∙ omega (arith, fits .same, fits .few) in
       ext-getD none (laneAt (lineOf s) b .queue) (messagesIn s first count) (long ∙ sym (length-in s first count))
       (λ i h.
       (let low : i < count = rw long at h in
       let place : blockAt b + (queueAt + countSize + messageSize * i) ≡ first + messageSize * i = omega arith in
-      line-queue-at s few b (fits .on .below) i none low (omega (arith, fits .few)) ∙ ap (messageAt s) place ∙ sym (message-place s none first count i low)))
+      line-queue-at s few b (fits .on .below) i none (rw (fits .same) at low) (omega (arith, fits .few)) ∙ ap (messageAt s) place ∙ sym (message-place s none first count i low)))
     where
       none : Message
       none = messageAt [] 0

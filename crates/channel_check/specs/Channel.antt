@@ -5,6 +5,7 @@ use mathlib.Core.Bool.{Bool, true, _&&_, _||_}
 use mathlib.Core.List.{List}
 use lib.ListN.{take, drop}
 use lib.Dec.{leb, ltb}
+use Rattle.plan.specs.Plan.{planOf, planNodes, channelAt}
 use Rattle.rules.specs.Line.{queueLimit, Message}
 use Rattle.state.specs.Sizes.{blockAt, queueAt, messageSize}
 use Rattle.state.specs.Right.{wordAt}
@@ -12,17 +13,21 @@ use Rattle.state.specs.Pieces.{messageLayout}
 use Rattle.state.specs.State.{lineOf}
 use Rattle.items.specs.Items.{recordRight, namedRight}
 use Rattle.buffer.specs.Exact.{messageExact}
-use Rattle.buffer.specs.Ready.{Ready, OnChannel}
+use Rattle.buffer.specs.Ready.{OnChannel}
 
--- A state that can be read, and its accepted steps.
-pub record Stepped (s : List ℕ) (steps : ℕ) : Type 0 where
-  pub ready : Ready s
-  pub same : steps ≡ lineOf s .steps
-
--- A channel whose queue is not too long.
-pub record QueueFits (s : List ℕ) (b : ℕ) : Type 0 where
+-- A channel, and the nodes at its ends.
+pub record Ends (s : List ℕ) (b sender receiver : ℕ) : Type 0 where
   pub on : OnChannel s b
-  pub few : wordAt (blockAt b + queueAt) s ≤ queueLimit
+  pub from : sender ≡ channelAt (planOf s) b .sender
+  pub to : receiver ≡ channelAt (planOf s) b .receiver
+  pub fromInside : sender < planNodes s
+  pub toInside : receiver < planNodes s
+
+-- A channel with so many messages, not too many.
+pub record QueueFits (s : List ℕ) (b count : ℕ) : Type 0 where
+  pub on : OnChannel s b
+  pub same : count ≡ wordAt (blockAt b + queueAt) s
+  pub few : count ≤ queueLimit
 
 -- The message at a place.
 abbrev pub messageAt : List ℕ → ℕ → Message

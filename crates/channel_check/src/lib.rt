@@ -1,6 +1,6 @@
 // The check of a channel's block: its bytes are right, and the channel keeps the rules.
 ghost use mathlib.Core.Path.{_≡_};
-ghost use mathlib.Core.Bool.{_&&_};
+ghost use mathlib.Core.Bool.{not, _&&_, _||_};
 ghost use mathlib.Core.List.{_∷_};
 ghost use Prim.Native.Nat.{_+_, _-_, _*_, _≤_, _<_, max};
 ghost use lib.ListN.{length};
@@ -17,11 +17,13 @@ ghost use Rattle.state.specs.Pieces.{originFrom};
 ghost use Rattle.items.specs.Items.{namedRight, queueRight, channelRight};
 ghost use Rattle.buffer.specs.Exact.{zeroAt, messageExact, slotsExact, blockExact};
 ghost use Rattle.buffer.specs.Ready.{Ready, OnChannel};
-ghost use Rattle.channel_check.specs.Channel.{Stepped, QueueFits, messageOk};
+ghost use Rattle.buffer.specs.Check.{Counted};
+ghost use Rattle.channel_check.specs.Channel.{Ends, QueueFits, messageOk};
 use buffer::Line;
 use buffer::bytes;
 use buffer::look;
 use buffer::origin;
+use buffer::table;
 
 fn wide(n: u32) -> usize
     ensures { λ r. ⌜ r ≡ n ⌝ }
@@ -54,27 +56,11 @@ fn has_crashed(s: &[u8], n: usize) -> bool
 }
 
 // Whether an end of a channel is down.
-fn end_down(s: &[u8], b: usize) -> bool
-    requires { ⌜ OnChannel (now s) b ⌝ }
-    ensures { λ r. ⌜ r ≡ endDown (lineOf (now (s .entry))) b ⌝ }
+fn end_down(s: &[u8], sender: usize, receiver: usize) -> bool
+    requires { ⌜ Ready (now s) × (sender < planNodes (now s)) × (receiver < planNodes (now s)) ⌝ }
+    ensures { λ r. ⌜ r ≡ (nodeDown (lineOf (now (s .entry))) sender || nodeDown (lineOf (now (s .entry))) receiver) ⌝ }
 {
-    is_down(s, look::sender_of(s, b)) | is_down(s, look::receiver_of(s, b))
-}
-
-// Whether both ends of a channel bear a crash mark.
-fn marks_joined(s: &[u8], b: usize) -> bool
-    requires { ⌜ OnChannel (now s) b ⌝ }
-    ensures { λ r. ⌜ r ≡ marksJoined (lineOf (now (s .entry))) b ⌝ }
-{
-    has_crashed(s, look::sender_of(s, b)) & has_crashed(s, look::receiver_of(s, b))
-}
-
-// How many are heard on a channel: the sender's parents.
-fn heard_count(s: &[u8], b: usize) -> usize
-    requires { ⌜ OnChannel (now s) b ⌝ }
-    ensures { λ r. ⌜ (r ≡ heardCount (planOf (now (s .entry))) (channelAt (planOf (now (s .entry))) b)) × (r ≤ 4) ⌝ }
-{
-    wide(plan::mask_count(plan::entering_mask(s, look::sender_of(s, b))))
+    is_down(s, sender) | is_down(s, receiver)
 }
 
 fn larger(a: u32, b: u32) -> u32
@@ -99,75 +85,89 @@ fn most_heard(s: &[u8], b: usize, heard: usize) -> u32
 }
 
 // The bytes that a channel's block leaves unused are 0: those of further parents, and all behind the queue.
-fn zeros_ok(s: &[u8], b: usize, heard: usize) -> bool
-    requires { ⌜ QueueFits (now s) b × (heard ≤ 4) ⌝ }
+fn zeros_ok(s: &[u8], b: usize, heard: usize, count: u32) -> bool
+    requires { ⌜ QueueFits (now s) b count × (heard ≤ 4) ⌝ }
     ensures { λ r. ⌜ r ≡ (zeroAt (blockAt b + heardAt + 4 * heard) (4 * (parentLimit - heard)) (now (s .entry))
-        && (zeroAt (blockAt b + queueAt + countSize + messageSize * wordAt (blockAt b + queueAt) (now (s .entry))) (messageSize * (8 - wordAt (blockAt b + queueAt) (now (s .entry)))) (now (s .entry))
+        && (zeroAt (blockAt b + queueAt + countSize + messageSize * count) (messageSize * (8 - count)) (now (s .entry))
         && zeroAt (blockAt b + laneRestAt) laneRest (now (s .entry)))) ⌝ }
 {
     let at = 53_248 + 320 * b;
-    let count = wide(bytes::get32(s, at + 24));
     let heards = bytes::all_zero(s, at + 8 + 4 * heard, at + 24);
-    let rest = bytes::all_zero(s, at + 24 + 4 + 20 * count, at + 320);
+    let rest = bytes::all_zero(s, at + 24 + 4 + 20 * wide(count), at + 320);
     heards & rest
 }
 
-// Whether anything stands on a channel that its ends' status forbids.
-fn holds(s: &[u8], b: usize, stopped: bool, most: u32) -> bool
-    requires { ⌜ OnChannel (now s) b × (stopped ≡ endDown (lineOf (now s)) b)
+// No two crash marks are joined, and nothing stands on a channel that its ends' status forbids.
+fn ends_ok(
+    s: &[u8],
+    b: usize,
+    sender: usize,
+    receiver: usize,
+    stopped: bool,
+    count: u32,
+    most: u32,
+) -> bool
+    requires { ⌜ Ends (now s) b sender receiver × (stopped ≡ endDown (lineOf (now s)) b) × (count ≡ wordAt (blockAt b + queueAt) (now s))
         × (most ≡ greatestOf (laneAt (lineOf (now s)) b .taken ∷ laneAt (lineOf (now s)) b .heard)) ⌝ }
-    ensures { λ r. ⌜ r ≡ channelHolds (lineOf (now (s .entry))) b ⌝ }
+    ensures { λ r. ⌜ r ≡ (not (marksJoined (lineOf (now (s .entry))) b) && not (channelHolds (lineOf (now (s .entry))) b)) ⌝ }
 {
-    let at = 53_248 + 320 * b;
-    let unmarked = bytes::get32(s, at) == 0;
-    let empty = bytes::get32(s, at + 24) == 0;
-    let down = is_down(s, look::receiver_of(s, b));
-    let replays = is_replaying(s, look::sender_of(s, b));
-    (stopped & !(unmarked & empty)) | (down & (0 < most)) | (replays & !empty)
+    let unmarked = bytes::get32(s, 53_248 + 320 * b) == 0;
+    let empty = count == 0;
+    let down = is_down(s, receiver);
+    let replays = is_replaying(s, sender);
+    let joined = has_crashed(s, sender) & has_crashed(s, receiver);
+    let held = (stopped & !(unmarked & empty)) | (down & (0 < most)) | (replays & !empty);
+    !joined & !held
 }
 
 // What node n made something from: nothing, or a parent's message.
-fn named_ok(s: &[u8], steps: u32, n: usize, from: usize, time: u32) -> bool
-    requires { ⌜ Stepped (now s) steps ⌝ }
+fn named_ok(s: &[u8], t: &[u8; 156], steps: u32, n: usize, from: usize, time: u32) -> bool
+    requires { ⌜ Counted (now s) (now t) steps ⌝ }
     ensures { λ r. ⌜ r ≡ namedRight (lineOf (now (s .entry))) n (originFrom from time) ⌝ }
 {
     if from == 0 {
-        return look::is_source(s, n);
+        return table::source_in(s, t, n);
     }
-    let b = look::channel_between(s, from - 1, n);
-    let m = look::channel_count(s);
-    ((0 < time) & (time <= steps)) & (b < m)
+    let code = table::joined(s, t, from - 1, n);
+    ((0 < time) & (time <= steps)) & (code != 255)
 }
 
 // A message that node n sent.
-fn message_ok(s: &[u8], steps: u32, n: usize, at: usize) -> bool
-    requires { ⌜ Stepped (now s) steps × (at + 20 ≤ length (now s)) ⌝ }
+fn message_ok(s: &[u8], t: &[u8; 156], steps: u32, n: usize, at: usize) -> bool
+    requires { ⌜ Counted (now s) (now t) steps × (at + 20 ≤ length (now s)) ⌝ }
     ensures { λ r. ⌜ r ≡ messageOk (now (s .entry)) n at ⌝ }
 {
     let from = look::index(bytes::get8(s, at + 12));
     let time = bytes::get32(s, at + 13);
     let what = origin::record_ok(s, at);
-    let named = named_ok(s, steps, n, from, time);
+    let named = named_ok(s, t, steps, n, from, time);
     let zeros = bytes::all_zero(s, at + 17, at + 20);
     what & named & ((from != 0) | (time == 0)) & zeros
 }
 
-// A channel's messages. Where no end is down, their times rise strictly from above what was taken to the mark.
-fn queue_ok(s: &[u8], steps: u32, b: usize, stopped: bool) -> bool
-    requires { ⌜ Stepped (now s) steps × QueueFits (now s) b × (stopped ≡ endDown (lineOf (now s)) b) ⌝ }
-    ensures { λ r. ⌜ r ≡ (slotsExact messageExact messageSize (blockAt b + queueAt + countSize) (wordAt (blockAt b + queueAt) (now (s .entry))) (now (s .entry))
+// A channel's messages, so many. Where no end is down, their times rise strictly from above what was taken to the mark.
+fn queue_ok(
+    s: &[u8],
+    t: &[u8; 156],
+    steps: u32,
+    b: usize,
+    sender: usize,
+    stopped: bool,
+    count: u32,
+) -> bool
+    requires { ⌜ Counted (now s) (now t) steps × QueueFits (now s) b count × (sender ≡ channelAt (planOf (now s)) b .sender) × (stopped ≡ endDown (lineOf (now s)) b) ⌝ }
+    ensures { λ r. ⌜ r ≡ (slotsExact messageExact messageSize (blockAt b + queueAt + countSize) count (now (s .entry))
         && queueRight (lineOf (now (s .entry))) b (laneAt (lineOf (now (s .entry))) b .queue)) ⌝ }
 {
-    let sender = look::sender_of(s, b);
     let mut at = 53_248 + 320 * b;
     let mark = bytes::get32(s, at);
     let mut last = bytes::get32(s, at + 4);
-    let mut left = bytes::get32(s, at + 24);
     let mut ok = stopped | (last <= mark);
+    let mut left = count;
     at += 28;
     while 0 < left {
         let time = bytes::get32(s, at + 8);
-        let here = message_ok(s, steps, sender, at);
+        let here = message_ok(s, t, steps, sender, at);
         ok = ok & here & (stopped | ((last < time) & (time <= mark)));
         last = time;
         at += 20;
@@ -177,22 +177,24 @@ fn queue_ok(s: &[u8], steps: u32, b: usize, stopped: bool) -> bool
 }
 
 // A channel's block.
-pub fn channel_ok(s: &[u8], b: usize, steps: u32) -> bool
-    requires { ⌜ Stepped (now s) steps × (b < planChannels (now s)) ⌝ }
+pub fn channel_ok(s: &[u8], t: &[u8; 156], b: usize, steps: u32) -> bool
+    requires { ⌜ Counted (now s) (now t) steps × (b < planChannels (now s)) ⌝ }
     ensures { λ r. ⌜ r ≡ (blockExact (heardCount (planOf (now (s .entry))) (channelAt (planOf (now (s .entry))) b)) (blockAt b) (now (s .entry))
         && channelRight (lineOf (now (s .entry))) b) ⌝ }
 {
     let at = 53_248 + 320 * b;
-    if Line::QUEUE_LIMIT < bytes::get32(s, at + 24) {
+    let count = bytes::get32(s, at + 24);
+    if Line::QUEUE_LIMIT < count {
         return false;
     }
+    let sender = look::sender_of(s, b);
+    let receiver = look::receiver_of(s, b);
     let mark = bytes::get32(s, at);
-    let heard = heard_count(s, b);
+    let heard = table::parents_in(s, t, sender);
     let most = most_heard(s, b, heard);
-    let zeros = zeros_ok(s, b, heard);
-    let stopped = end_down(s, b);
-    let queue = queue_ok(s, steps, b, stopped);
-    let joined = marks_joined(s, b);
-    let held = holds(s, b, stopped, most);
-    zeros & ((mark <= steps) & (most <= steps)) & queue & !joined & !held
+    let zeros = zeros_ok(s, b, heard, count);
+    let stopped = end_down(s, sender, receiver);
+    let queue = queue_ok(s, t, steps, b, sender, stopped, count);
+    let ends = ends_ok(s, b, sender, receiver, stopped, count, most);
+    zeros & ((mark <= steps) & (most <= steps)) & queue & ends
 }

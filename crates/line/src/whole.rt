@@ -31,25 +31,15 @@ fn pages_ok(s: &[u8], t: &[u8; 156], n: usize, steps: u32) -> bool
     ok
 }
 
-// The same, with the plan's channels in a table.
-fn nodes_ok(s: &[u8], n: usize, steps: u32) -> bool
-    requires { ⌜ Ready (now s) × (n ≡ planNodes (now s)) × (steps ≡ wordAt stepsAt (now s)) ⌝ }
-    ensures { λ r. ⌜ r ≡ allOf (nodeChecked (now (s .entry))) (upTo 0 n) ⌝ }
-{
-    let mut t: [u8; 156] = [255; 156];
-    table::fill(s, &mut t);
-    pages_ok(s, &t, n, steps)
-}
-
 // Every channel's block.
-fn channels_ok(s: &[u8], m: usize, steps: u32) -> bool
-    requires { ⌜ Ready (now s) × (m ≡ planChannels (now s)) × (steps ≡ wordAt stepsAt (now s)) ⌝ }
+fn channels_ok(s: &[u8], t: &[u8; 156], m: usize, steps: u32) -> bool
+    requires { ⌜ Ready (now s) × Table (now s) (now t) × (m ≡ planChannels (now s)) × (steps ≡ wordAt stepsAt (now s)) ⌝ }
     ensures { λ r. ⌜ r ≡ allOf (channelChecked (now (s .entry))) (upTo 0 m) ⌝ }
 {
     let mut ok = true;
     let mut b: usize = 0;
     while b < m {
-        ok = ok & channel_check::channel_ok(s, b, steps);
+        ok = ok & channel_check::channel_ok(s, t, b, steps);
         b += 1;
     }
     ok
@@ -80,15 +70,17 @@ fn replays_ok(s: &[u8], n: usize) -> bool
     ok
 }
 
-// All that stands behind a plan that would not be refused.
+// All that stands behind a plan that would not be refused. The plan's channels are put in a table once.
 fn line_ok(s: &[u8], n: usize, m: usize) -> bool
     requires { ⌜ Ready (now s) × (planExact (now s) ≡ true) × (n ≡ planNodes (now s)) × (m ≡ planChannels (now s)) ⌝ }
     ensures { λ r. ⌜ r ≡ stateChecked (now (s .entry)) ⌝ }
 {
     let steps = bytes::get32(s, 512);
     let rest = check::rest_ok(s, n, m);
-    let nodes = nodes_ok(s, n, steps);
-    let channels = channels_ok(s, m, steps);
+    let mut t: [u8; 156] = [255; 156];
+    table::fill(s, &mut t);
+    let nodes = pages_ok(s, &t, n, steps);
+    let channels = channels_ok(s, &t, m, steps);
     let found = rest & (steps <= Line::STEP_LIMIT) & nodes & channels;
     if !found {
         return false;

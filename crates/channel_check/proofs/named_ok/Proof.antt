@@ -9,14 +9,14 @@ returns : tie.Need-returns
 returns c =
     let start = c .before .before .before in
     let a = start .args in
-    rw (c .is-source .ensures, origin-none (a .time) (a .from) (c .before .if1 .taken)) (named-fed (a .s .now) (a .steps) (start .pre) (a .n))
+    rw (c .source-in .ensures, origin-none (a .time) (a .from) (c .before .if1 .taken)) (named-fed (a .s .now) (a .t .now) (a .steps) (start .pre) (a .n))
 
 returns-2 : tie.Need-returns-2
 returns-2 c =
-    let start = c .before .before .before .before in
+    let start = c .before .before .before in
     let a = start .args in
-    rw (c .channel-count .ensures .0, origin-some (a .time) (a .from) (c .before .before .if1 .left))
-    (named-made (a .s .now) (a .steps) (start .pre) (a .n) (a .from - 1) (a .time) (c .before .channel-between .result) (c .before .channel-between .ensures))
+    rw (origin-some (a .time) (a .from) (c .before .if1 .left))
+    (named-made (a .s .now) (a .t .now) (a .steps) (start .pre) (a .n) (a .from - 1) (a .time) (c .joined .result) (c .joined .ensures))
 
 pub named-ok-spec : {M : Type 1} → statement M
 named-ok-spec =
@@ -25,6 +25,5 @@ named-ok-spec =
     (λ c κs. search needs)
     returns
     (λ c. search needs)
-    (λ c κs. search needs)
     (λ c κs. search needs)
     returns-2)

@@ -18,49 +18,40 @@ record Seen (s : List ℕ) (b sender : ℕ) (stopped : Bool) (mark last₀ left�
   now : (ok₀ && messagesOk s sender stopped mark last₀ (blockAt b + 28) left₀) ≡ (ok && messagesOk s sender stopped mark last at left)
 
 abbrev Inv-loop : tie.InvT-loop
-Inv-loop s steps b stopped sender at₀ mark last₀ left₀ ok₀ at last left ok = Seen s b sender stopped mark last₀ left₀ ok₀ at last left ok
+Inv-loop s t steps b sender stopped count at₀ mark last₀ ok₀ left₀ at last ok left = Seen s b sender stopped mark last₀ count ok₀ at last left ok
 
 abbrev μ-loop : tie.MeasureT-loop
-μ-loop s steps b stopped sender at₀ mark last₀ left₀ ok₀ at last left ok = left
-
-sender-of-requires : tie.Need-sender-of-requires Inv-loop μ-loop
-sender-of-requires c κs = c .before .pre .1 .on
+μ-loop s t steps b sender stopped count at₀ mark last₀ ok₀ left₀ at last ok left = left
 
 loop-holds : tie.Need-loop-holds Inv-loop μ-loop
-loop-holds c =
-    let start = c .before .before .before .before .before in
-    let most : c .get323 .result ≤ 8 = rw (c .get323 .ensures) (start .pre .1 .few) in
-    record { few = most; place = omega arith; now = refl }
+loop-holds c = record { few = c .before .before .before .pre .1 .few; place = omega (arith, c .before .before .before .pre .1 .few); now = refl }
 
 message-ok-requires : tie.Need-message-ok-requires Inv-loop μ-loop
-message-ok-requires c κs = (c .before .before .before .before .before .before .before .before .pre .0, omega arith)
+message-ok-requires c κs = (c .before .before .before .before .before .before .pre .0, omega arith)
 
 loop-again : tie.Need-loop-again Inv-loop μ-loop
 loop-again c =
     let t = c .before .before .before .loop in
-    let a = c .before .before .before .before .before .before .before .before .before .args in
-    let sender : ℕ = c .before .before .before .before .before .before .before .sender-of .result in
-    let mark : ℕ = c .before .before .before .before .before .before .get32 .result in
+    let a = c .before .before .before .before .before .before .before .args in
+    let mark : ℕ = c .before .before .before .before .before .get32 .result in
     record {
       few = omega arith;
       place = omega arith;
       now = t .inv .now
-          ∙ messages-turn (a .s .now) sender (a .stopped) mark (t .last) (t .at) (t .left) (c .before .get324 .result) (t .ok) (c .message-ok .result) (omega arith)
-          (c .before .get324 .ensures ∙ message-time (t .at) (a .s .now)) (c .message-ok .ensures);
+          ∙ messages-turn (a .s .now) (a .sender) (a .stopped) mark (t .last) (t .at) (t .left) (c .before .get323 .result) (t .ok) (c .message-ok .result) (omega arith)
+          (c .before .get323 .ensures ∙ message-time (t .at) (a .s .now)) (c .message-ok .ensures);
     }
 
 returns : tie.Need-returns Inv-loop μ-loop
 returns c =
     let t = c .before .loop in
-    let start = c .before .before .before .before .before .before .before in
+    let start = c .before .before .before .before .before in
     let a = start .args in
-    let sender = c .before .before .before .before .before .sender-of in
-    let mark = c .before .before .before .before .get32 in
-    let taken = c .before .before .before .get322 in
-    let count = c .before .before .get323 in
+    let mark = c .before .before .before .get32 in
+    let taken = c .before .before .get322 in
     let first : blockAt (a .b) + 28 ≡ blockAt (a .b) + 24 + 4 = omega arith in
-    sym (t .inv .now ∙ messages-end (a .s .now) (sender .result) (a .stopped) (mark .result) (t .last) (t .at) (t .left) (t .ok) (omega arith))
-    ∙ rw (first, count .ensures) (queue-whole (a .s .now) (a .b) (start .pre .1) (sender .result) (a .stopped) (mark .result) (taken .result) (sender .ensures .0) (start .pre .2) (mark .ensures) (taken .ensures))
+    sym (t .inv .now ∙ messages-end (a .s .now) (a .sender) (a .stopped) (mark .result) (t .last) (t .at) (t .left) (t .ok) (omega arith))
+    ∙ rw first (queue-whole (a .s .now) (a .b) (a .count) (start .pre .1) (a .sender) (a .stopped) (mark .result) (taken .result) (start .pre .2) (start .pre .3) (mark .ensures) (taken .ensures))
 
 pub queue-ok-spec : {M : Type 1} → statement M
 queue-ok-spec =
@@ -68,10 +59,7 @@ queue-ok-spec =
     (tie.spec
     Inv-loop
     μ-loop
-    sender-of-requires
     (λ c. search needs)
-    (λ c. search needs)
-    (λ c κs. search needs)
     (λ c. search needs)
     (λ c κs. search needs)
     (λ c. search needs)

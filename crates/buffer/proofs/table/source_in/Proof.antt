@@ -1,20 +1,14 @@
-use native.Mathlib.Omega.{arith}
+use mathlib.Core.Path.{ap, _∙_}
+use Prim.Native.Nat.{ℕ}
 use borrow.Author.Needs.{needs}
-use Rattle.buffer.proofs.TableLaws.{source-outside}
+use lib.Dec.{eqb}
+use Rattle.plan.specs.Plan.{planOf}
+use Rattle.buffer.proofs.TableLaws.{source-counted}
 use Rattle.buffer.proofs.table.source_in.Statement.{statement}
 use Rattle.buffer.proofs.table.source_in.Tie as tie
 
 returns : tie.Need-returns
-returns c = let start = c .before in source-outside (start .args .s .now) (start .pre .0) (start .args .node) (c .if1 .taken)
-
-returns-2 : tie.Need-returns-2
-returns-2 c = let start = c .before .before in start .pre .1 .sources (start .args .node) (omega arith)
+returns c = let a = c .before .before .args in ap (λ (n : ℕ). eqb n 0) (c .parents-in .ensures) ∙ source-counted (planOf (a .s .now)) (a .node)
 
 pub source-in-spec : {M : Type 1} → statement M
-source-in-spec =
-    tie.close
-    (tie.spec
-    returns
-    (λ c. search needs)
-    (λ c. search needs)
-    returns-2)
+source-in-spec = tie.close (tie.spec (λ c κs. search needs) returns)

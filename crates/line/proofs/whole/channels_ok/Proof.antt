@@ -9,10 +9,10 @@ use Rattle.line.proofs.whole.channels_ok.Statement.{statement}
 use Rattle.line.proofs.whole.channels_ok.Tie as tie
 
 abbrev Inv-loop : tie.InvT-loop
-Inv-loop s m steps ok₀ b₀ ok b = Tested (channelChecked s) m ok b
+Inv-loop s t m steps ok₀ b₀ ok b = Tested (channelChecked s) m ok b
 
 abbrev μ-loop : tie.MeasureT-loop
-μ-loop s m steps ok₀ b₀ ok b = m - b
+μ-loop s t m steps ok₀ b₀ ok b = m - b
 
 loop-holds : tie.Need-loop-holds Inv-loop μ-loop
 loop-holds c = let a = c .before .args in tested-start (channelChecked (a .s .now)) (a .m)
@@ -20,7 +20,7 @@ loop-holds c = let a = c .before .args in tested-start (channelChecked (a .s .no
 channel-ok-requires : tie.Need-channel-ok-requires Inv-loop μ-loop
 channel-ok-requires c κs =
     let entry = c .before .before .before in
-    (record { ready = entry .pre .0; same = entry .pre .2 ∙ sym (line-steps (entry .args .s .now) (counted (entry .pre .0))) }, omega (arith, entry .pre .1))
+    (record { ready = entry .pre .0; tabled = entry .pre .1; same = entry .pre .3 ∙ sym (line-steps (entry .args .s .now) (counted (entry .pre .0))) }, omega (arith, entry .pre .2))
 
 loop-again : tie.Need-loop-again Inv-loop μ-loop
 unfolding channelChecked
