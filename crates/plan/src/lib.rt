@@ -194,6 +194,15 @@ pub fn channel_at(plan: &[u8], channel: usize) -> Channel
         };
     }
     let at = 5 + 4 * node_count(plan) + 6 * channel;
+    if at + 6 <= plan.len() {
+        return Channel {
+            sender: plan[at],
+            receiver: plan[at + 1],
+            mask: wide(plan[at + 2]) * 256 + wide(plan[at + 3]),
+            modulus: plan[at + 4],
+            remainder: plan[at + 5],
+        };
+    }
     Channel {
         sender: byte_at(plan, at),
         receiver: byte_at(plan, at + 1),
