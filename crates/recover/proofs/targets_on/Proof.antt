@@ -13,7 +13,7 @@ returns : tie.Need-returns
 returns c =
     let first = c .before .before .before .before in
     let a = first .args in
-    changed-over (a .low) (sym (on-other (a .s .now) (a .n) (a .b) (λ e. c .if1 .taken (c .before .sender-of .ensures .0 ∙ e)))) (no-change (a .xs .now) (a .start) (first .pre .4) (first .pre .5))
+    changed-over (a .low) (sym (on-other (a .s .now) (a .n) (a .b) (λ e. c .if1 .taken (c .before .sender-of .ensures .0 ∙ e)))) (no-change (a .xs .now) (a .start) (first .pre .4))
 
 receiver-of-requires : tie.Need-receiver-of-requires
 receiver-of-requires c κs = let p = c .before .before .before .before .pre in record { ready = p .0; below = p .3 }
@@ -21,7 +21,7 @@ receiver-of-requires c κs = let p = c .before .before .before .before .pre in r
 targets-in-requires : tie.Need-targets-in-requires
 targets-in-requires c κs =
     let first = c .before .before .before .before .before .before in
-    (first .pre .0, first .pre .1, first .pre .2, c .before .receiver-of .ensures .1, first .pre .4, first .pre .5)
+    (first .pre .0, first .pre .1, first .pre .2, c .before .receiver-of .ensures .1, first .pre .4)
 
 returns-2 : tie.Need-returns-2
 returns-2 c =
