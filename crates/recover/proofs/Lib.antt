@@ -1,6 +1,7 @@
 -- What Recover's findings rest on.
 pub mod ChildLaws
 pub mod TripleLaws
+pub mod OrderLaws
 pub mod TargetLaws
 pub mod FoundLaws
 pub mod RowLaws

@@ -77,6 +77,11 @@ abbrev pub targetsIn : List ℕ → ℕ → List Target
 targetsIn xs zero = []
 targetsIn xs (suc k) = target (getD xs 0 0) (getD xs 1 0) (getD xs 2 0) ∷ targetsIn (drop 3 xs) k
 
+-- Targets in their order: each is before all behind it.
+abbrev pub inOrder : List Target → Bool
+inOrder [] = true
+inOrder (t ∷ ts) = allOf (targetBefore t) ts && inOrder ts
+
 -- A target's place among some: it goes behind all before it, and there it is before the next or the same.
 pub record PlaceOf (t : Target) (ts : List Target) (r : ℕ) : Type 0 where
   pub within : r ≤ length ts
@@ -93,10 +98,15 @@ pub record Holds (xs : List ℕ) (count : ℕ) (ts : List Target) : Type 0 where
   pub counted : count ≡ min (length ts) tooMany
   pub held : count < tooMany → targetsIn xs count ≡ ts
 
+-- A slice with so many targets, in their order if they are not too many.
+pub record Kept (xs : List ℕ) (count : ℕ) : Type 0 where
+  pub long : length xs ≡ slotsLong
+  pub few : count ≤ tooMany
+  pub ordered : count < tooMany → inOrder (targetsIn xs count) ≡ true
+
 -- What is left of a slice when a change of the targets is made: of any targets that it held, it holds the changed ones.
 pub record Changed (f : List Target → List Target) (xs : List ℕ) (count : ℕ) (ys : List ℕ) (r : ℕ) : Type 0 where
-  pub long : length ys ≡ slotsLong
-  pub few : r ≤ tooMany
+  pub kept : Kept ys r
   pub holds : (ts : List Target) → Holds xs count ts → Holds ys r (f ts)
 
 -- Some triples above low, added to those there are.

@@ -15,7 +15,7 @@ returns-2 : tie.Need-returns-2
 returns-2 c =
     let first = c .before .before .before .before in
     let a = first .args in
-    changed-as (λ ts. ts) (addAbove (a .low) (tripleList (a .f))) (above-none (a .low) (a .f) (c .if1 .left)) (no-change (a .xs .now) (a .count) (first .pre .0) (first .pre .1))
+    changed-as (λ ts. ts) (addAbove (a .low) (tripleList (a .f))) (above-none (a .low) (a .f) (c .if1 .left)) (no-change (a .xs .now) (a .count) (first .pre))
 
 pub add-found-spec : {M : Type 1} → statement M
 add-found-spec = tie.close (tie.spec (λ c κs. search needs) (λ c. search needs) returns returns-2)

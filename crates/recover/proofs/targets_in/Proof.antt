@@ -21,7 +21,7 @@ loop-holds : tie.Need-loop-holds Inv-loop μ-loop
 loop-holds c =
     let first = c .before .before .before in
     let a = first .args in
-    added-start (a .n) (a .low) (nodeAt (lineOf (a .s .now)) (a .k) .log) (a .xs .now) (a .start) (first .pre .4) (first .pre .5)
+    added-start (a .n) (a .low) (nodeAt (lineOf (a .s .now)) (a .k) .log) (a .xs .now) (a .start) (first .pre .4)
 
 triple-at-requires : tie.Need-triple-at-requires Inv-loop μ-loop
 triple-at-requires c κs =
@@ -30,7 +30,7 @@ triple-at-requires c κs =
     (p .0, p .1, p .2, p .3, omega (arith, e .1), omega (arith, e .0))
 
 add-found-requires : tie.Need-add-found-requires Inv-loop μ-loop
-add-found-requires c κs = let t = c .before .before .before .loop in (t .inv .changed .long, t .inv .changed .few)
+add-found-requires c κs = c .before .before .before .loop .inv .changed .kept
 
 loop-again : tie.Need-loop-again Inv-loop μ-loop
 loop-again c =

@@ -22,7 +22,7 @@ targets-on-requires : tie.Need-targets-on-requires Inv-loop μ-loop
 targets-on-requires c κs =
     let p = c .before .before .before .before .before .before .pre in
     let t = c .before .before .loop in
-    (p .0, p .1, p .2, omega (arith, c .before .before .before .channel-count .ensures .0), t .inv .changed .long, t .inv .changed .few)
+    (p .0, p .1, p .2, omega (arith, c .before .before .before .channel-count .ensures .0), t .inv .changed .kept)
 
 loop-again : tie.Need-loop-again Inv-loop μ-loop
 loop-again c =
