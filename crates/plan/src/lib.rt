@@ -2,14 +2,14 @@
 ghost use mathlib.Core.Path.{_≡_};
 ghost use mathlib.Core.Bool.{cond};
 ghost use mathlib.Core.List.{[]};
-ghost use Prim.Native.Nat.{_+_, _%_, _<_, _≤_};
+ghost use Prim.Native.Nat.{_+_, _%_, _^_, _<_, _≤_};
 ghost use lib.Dec.{ltb, eqb};
 ghost use lib.ListN.{length, getD, set, take, drop, replicate};
 ghost use Rattle.plan.specs.Layout.{spelled, readSlots};
 ghost use Rattle.plan.specs.Rule.{applied, ruleOfKind, ruleKindFits, ruleFits, ruleFields};
 ghost use Rattle.plan.specs.Channel.{bitSet, takes, channelFits, channelAfter};
 ghost use Rattle.plan.specs.Plan.{planOf, planNodes, planChannels, ruleAt, channelAt, numbersFrom, entering, leaving};
-ghost use Rattle.plan.specs.Mask.{picked, taking, planMask, CountOf, FirstOf};
+ghost use Rattle.plan.specs.Mask.{picked, taking, planMask, CountOf, FirstOf, TakingOf};
 ghost use Rattle.plan.specs.Check.{badLength, badVersion, badCounts, badSize, badRules, badChannels, fourAtMost, badDegrees, planRefusal};
 ghost use Rattle.plan.specs.Degrees.{Joined, Degrees};
 ghost use Rattle.plan.specs.Narrow.{narrowed};
@@ -37,11 +37,10 @@ pub struct Channel {
     pub remainder: u8,
 }
 
-// Which of a plan's channels are asked for: those that enter a node, that leave it, or that leave it and take a record.
+// Which of a plan's channels are asked for: those that enter a node, or that leave it.
 pub enum Pick {
     Entering(usize),
     Leaving(usize),
-    Taking(usize, Record),
 }
 
 fn relabelled(material: u8, p: u8, q: u8) -> u8
@@ -233,10 +232,6 @@ fn picks(p: Pick, c: Channel) -> bool
     match p {
         Pick::Entering(node) => index_of(c.receiver) == node,
         Pick::Leaving(node) => index_of(c.sender) == node,
-        Pick::Taking(node, r) => {
-            let leaves = index_of(c.sender) == node;
-            leaves & channel_takes(c, r)
-        }
     }
 }
 
@@ -279,11 +274,34 @@ pub fn leaving_mask(plan: &[u8], node: usize) -> u32
     picked_mask(plan, Pick::Leaving(node))
 }
 
+// A mask of one channel.
+fn bit_of(b: u32) -> u32
+    requires { ⌜ b < 32 ⌝ }
+    ensures { λ r. ⌜ r ≡ 2 ^ b ⌝ }
+{
+    1 << b
+}
+
+// Of a mask's channels those that take a record, as a mask.
+pub fn taking_among(plan: &[u8], mask: u32, r: Record) -> u32
+    ensures { λ m. ⌜ TakingOf (now (plan .entry)) r mask m ⌝ }
+{
+    let mut left = mask;
+    let mut found: u32 = 0;
+    while left != 0 {
+        let b = mask_next(left);
+        let bit = bit_of(b);
+        found += bit_if(channel_takes(channel_at(plan, b as usize), r), bit);
+        left -= bit;
+    }
+    found
+}
+
 // The channels that leave a node and take a record, as a mask.
 pub fn taking_mask(plan: &[u8], node: usize, r: Record) -> u32
     ensures { λ m. ⌜ m ≡ planMask (now (plan .entry)) (taking (planOf (now (plan .entry))) node r) ⌝ }
 {
-    picked_mask(plan, Pick::Taking(node, r))
+    taking_among(plan, leaving_mask(plan, node), r)
 }
 
 // 1: shorter than a head, or another length than its length field says.
