@@ -3,5 +3,6 @@ pub mod ChildLaws
 pub mod TripleLaws
 pub mod TargetLaws
 pub mod FoundLaws
+pub mod RisingLaws
 pub mod RowLaws
 pub mod ReplayLaws

@@ -109,6 +109,18 @@ pub record Found (xs : List ℕ) (r : ℕ) (ts : List Target) : Type 0 where
   pub few : r ≤ tooMany
   pub holds : Holds xs r ts
 
+-- ---- a number for each parent
+
+abbrev pub rowsLong : ℕ
+rowsLong = 12
+
+-- Whether a target's parent has its time above its last one, and the times when it is the last.
+abbrev pub follows : List ℕ → Target → Bool
+follows last t = ltb (t .parent) rowsLong && ltb (getD last (t .parent) 0) (t .parentTime)
+
+abbrev pub noted : List ℕ → Target → List ℕ
+noted last t = set last (t .parent) (t .parentTime)
+
 -- ---- rows
 
 -- Whether a parent's row is complete in the restored node, by some targets; and whether all rows are.
