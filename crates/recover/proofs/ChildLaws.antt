@@ -10,14 +10,12 @@ use lib.Dec.{eqb}
 use lib.ListN.{length, take}
 use lib.Seq.{take-suc, take-all, length-take-le}
 use Rattle.plan.specs.declared.Channel.{Channel}
-use Rattle.plan.specs.Plan.{Plan, planOf, planNodes, planChannels, channelCount, channelAt, noChannel, keepIf, numbersFrom, leaving}
-use Rattle.plan.proofs.PlanLaws.{node-count, channel-count}
-use Rattle.plan.proofs.FitsLaws.{fitting}
+use Rattle.plan.specs.Plan.{Plan, planOf, planChannels, channelCount, channelAt, noChannel, keepIf, numbersFrom, leaving}
+use Rattle.plan.proofs.PlanLaws.{channel-count}
 use Rattle.rules.specs.Lists.{keepOne, isEmpty, greatestOf, leastOf}
 use Rattle.rules.specs.Line.{laneAt}
 use Rattle.rules.specs.Recover.{childTimes, lowOf, highOf}
 use Rattle.rules.proofs.ListLaws.{nil-right, map-more}
-use Rattle.rules.proofs.PlanOrder.{ordered-channels}
 use Rattle.state.specs.State.{lineOf}
 use Rattle.state.proofs.InPlace.{Counted, line-plan}
 use Rattle.buffer.specs.Ready.{Ready}
@@ -25,11 +23,6 @@ use Rattle.recover.specs.Found.{lowWith}
 
 pub ready-counted : {s : List ℕ} → Ready s → Counted s
 ready-counted r = record { nodes = r .nodes; channels = r .channels }
-
--- A channel's receiver is one of the plan's nodes.
-pub receiver-inside : {s : List ℕ} → Ready s → (b : ℕ) → b < planChannels s → channelAt (planOf s) b .receiver < planNodes s
-receiver-inside {s} r b h =
-    rw node-count at (ordered-channels (planOf s) (fitting (planOf s) (r .fits) .channels) .inside b (rw channel-count h))
 
 -- ---- the plan's channels, one by one
 

@@ -15,15 +15,18 @@ abbrev μ-loop : tie.MeasureT-loop
 loop-holds : tie.Need-loop-holds Inv-loop μ-loop
 loop-holds c = low-start (c .before .before .args .s .now) (c .before .before .args .n)
 
+sender-of-requires : tie.Need-sender-of-requires Inv-loop μ-loop
+sender-of-requires c κs = record { ready = c .before .before .before .before .pre; below = omega (arith, c .before .before .channel-count .ensures .0) }
+
 taken-on-requires : tie.Need-taken-on-requires Inv-loop μ-loop
-taken-on-requires c κs = (c .before .before .before .before .before .before .pre, omega (arith, c .before .before .before .before .channel-count .ensures .0))
+taken-on-requires c κs = (c .before .before .before .before .before .pre, omega (arith, c .before .before .before .channel-count .ensures .0))
 
 loop-again : tie.Need-loop-again Inv-loop μ-loop
 loop-again c =
-    let a = c .before .before .before .before .before .before .before .before .args in
-    let t = c .before .before .before .before .before .loop in
-    let h : t .b < planChannels (a .s .now) = omega (arith, c .before .before .before .before .before .before .channel-count .ensures .0) in
-    rw (c .low-with .ensures, c .before .taken-on .ensures, c .before .before .index .ensures .0, c .before .before .before .channel-at .ensures) (low-turn (a .s .now) (a .n) (t .b) (t .low) (t .seen) h (t .inv))
+    let a = c .before .before .before .before .before .before .before .args in
+    let t = c .before .before .before .before .loop in
+    let h : t .b < planChannels (a .s .now) = omega (arith, c .before .before .before .before .before .channel-count .ensures .0) in
+    rw (c .low-with .ensures, c .before .taken-on .ensures, c .before .before .sender-of .ensures .0) (low-turn (a .s .now) (a .n) (t .b) (t .low) (t .seen) h (t .inv))
 
 returns : tie.Need-returns Inv-loop μ-loop
 returns c =
@@ -39,8 +42,7 @@ low-of-spec =
     μ-loop
     (λ c κs. search needs)
     loop-holds
-    (λ c κs. tt)
-    (λ c κs. tt)
+    sender-of-requires
     taken-on-requires
     (λ c κs. tt)
     (λ c. omega arith)

@@ -6,7 +6,7 @@ use Rattle.rules.specs.Line.{nodeAt}
 use Rattle.rules.specs.Recover.{triples}
 use Rattle.state.specs.State.{lineOf}
 use Rattle.recover.specs.Found.{restoredOver}
-use Rattle.recover.proofs.ChildLaws.{receiver-inside}
+use Rattle.buffer.proofs.ReadyLaws.{receiver-inside}
 use Rattle.recover.proofs.TripleLaws.{on-leaving, on-other}
 use Rattle.recover.proofs.restored_on.Statement.{statement}
 use Rattle.recover.proofs.restored_on.Tie as tie
@@ -22,7 +22,7 @@ restored-in-requires c κs =
     let first = c .before .before .before .before .before in
     let s = first .args .s .now in
     let receiver : c .index2 .result ≡ channelAt (planOf s) (first .args .b) .receiver = c .index2 .ensures .0 ∙ ap (λ x. x .receiver) (c .before .before .before .channel-at .ensures) in
-    (first .pre .0, first .pre .1, first .pre .2, omega (arith, receiver, receiver-inside (first .pre .0) (first .args .b) (first .pre .3)))
+    (first .pre .0, first .pre .1, first .pre .2, omega (arith, receiver, receiver-inside s (first .args .b) (record { ready = first .pre .0; below = first .pre .3 })))
 
 returns-2 : tie.Need-returns-2
 returns-2 c =
