@@ -3,6 +3,7 @@ pub mod ChildLaws
 pub mod TripleLaws
 pub mod TargetLaws
 pub mod FoundLaws
+pub mod RestoredLaws
 pub mod RisingLaws
 pub mod RowLaws
 pub mod ReplayLaws
