@@ -4,5 +4,7 @@ pub mod TripleLaws
 pub mod OrderLaws
 pub mod TargetLaws
 pub mod FoundLaws
+pub mod RestoredLaws
+pub mod RisingLaws
 pub mod RowLaws
 pub mod ReplayLaws

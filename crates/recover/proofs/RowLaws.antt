@@ -1,23 +1,23 @@
 -- Targets that conflict, and the rows that they leave, one by one.
 use Prim.Native.Nat.{ℕ, suc, _+_, _≤_, _<_, max}
-use mathlib.Core.Path.{_≡_, refl, sym, ap, _∙_}
+use mathlib.Core.Path.{_≡_, refl, sym, ap, ap₂, _∙_}
 use mathlib.Core.Bool.{Bool, true, false, not, cond, _&&_, _||_, or-assoc, or-false, and-assoc, and-true}
 use mathlib.Core.List.{List, [], _∷_, _++_, map}
 use native.Mathlib.Numerals.{add-one}
 use native.Mathlib.Omega.{arith}
-use lib.Dec.{eqb}
+use lib.Dec.{leb, eqb}
 use lib.ListN.{length, getD, take, drop, drop-of-length-le}
 use lib.Seq.{take-suc, take-all, drop-cons}
 use Rattle.plan.specs.declared.Channel.{Channel}
 use Rattle.plan.specs.Plan.{Plan, planOf, planChannels, channelAt, entering}
 use Rattle.plan.proofs.PlanLaws.{channel-count}
 use Rattle.rules.specs.Lists.{keep, keepOne, allOf, anyOf, greatestOf}
-use Rattle.rules.specs.Line.{Target}
-use Rattle.rules.specs.Recover.{clash, conflict, rowGoal}
+use Rattle.rules.specs.Line.{Target, Line}
+use Rattle.rules.specs.Recover.{clash, conflict, restored, rowGoal}
 use Rattle.rules.proofs.ListLaws.{keep-append, map-more}
 use Rattle.state.specs.State.{lineOf}
 use Rattle.state.proofs.InPlace.{line-plan}
-use Rattle.recover.specs.Found.{targetAt, targetsIn, rowIn, rowsIn}
+use Rattle.recover.specs.Found.{targetAt, targetsIn, rowsLong, Rows, raisedAt, rowReached, rowIn, rowsIn}
 use Rattle.recover.proofs.ChildLaws.{numbersTo, numbers-turn, numbers-whole, high-snoc}
 use Rattle.recover.proofs.TargetLaws.{targets-length, targets-at}
 
@@ -118,22 +118,29 @@ conflicting-turn xs count found i r l e k =
 pub conflicting-end : (xs : List ℕ) (count : ℕ) (found : Bool) (i : ℕ) → count ≤ i → Conflicting xs count found i → found ≡ conflict (targetsIn xs count)
 conflicting-end xs count found i h k = sym (k .now ∙ conflict-end (targetsIn xs count) found i (rw targets-length h))
 
-pub record GoalTo (xs : List ℕ) (count parent i best : ℕ) : Type 0 where
+pub record GoalsTo (xs : List ℕ) (count i : ℕ) (rows : List ℕ) : Type 0 where
   pub within : i ≤ count
-  pub now : best ≡ rowGoal (take i (targetsIn xs count)) parent
+  pub now : Rows rows (rowGoal (take i (targetsIn xs count)))
 
-pub goal-to-turn : (xs : List ℕ) (count parent i best : ℕ) (g : Target) → i < count → g ≡ targetAt xs i → GoalTo xs count parent i best
-    → GoalTo xs count parent (i + 1) (cond (eqb (g .parent) parent) (max best (g .parentTime)) best)
-goal-to-turn xs count parent i best g l e k =
+pub goals-turn : (xs : List ℕ) (count i : ℕ) (rows : List ℕ) (g : Target) (next : List ℕ) → i < count → g ≡ targetAt xs i → Rows next (raisedAt rows (g .parent) (g .parentTime)) → GoalsTo xs count i rows
+    → GoalsTo xs count (i + 1) next
+goals-turn xs count i rows g next l e r k =
     let ts : List Target = targetsIn xs count in
     let is : g ≡ getD ts i g = e ∙ sym (targets-at xs count i g l) in
     record {
       within = omega arith;
-      now = (λ j. cond (eqb (is j .parent) parent) (max (k .now j) (is j .parentTime)) (k .now j)) ∙ goal-turn parent ts g i (rw targets-length l);
+      now = record {
+        long = r .long;
+        each = λ q h. r .each q h ∙ (λ j. cond (eqb (is j .parent) q) (max (k .now .each q h j) (is j .parentTime)) (k .now .each q h j)) ∙ goal-turn q ts g i (rw targets-length l);
+      };
     }
 
-pub goal-to-end : (xs : List ℕ) (count parent i best : ℕ) → count ≤ i → GoalTo xs count parent i best → best ≡ rowGoal (targetsIn xs count) parent
-goal-to-end xs count parent i best h k = k .now ∙ goal-end parent (targetsIn xs count) i (rw targets-length h)
+pub goals-end : (xs : List ℕ) (count i : ℕ) (rows : List ℕ) → count ≤ i → GoalsTo xs count i rows → Rows rows (rowGoal (targetsIn xs count))
+goals-end xs count i rows h k = record { long = k .now .long; each = λ q l. k .now .each q l ∙ goal-end q (targetsIn xs count) i (rw targets-length h) }
+
+-- A parent's row by what its goal and its restored entry are.
+pub row-same : (l : Line) (n : ℕ) (ts : List Target) (goals entries : List ℕ) (q : ℕ) → Rows goals (rowGoal ts) → Rows entries (restored l n) → q < rowsLong → rowReached goals entries q ≡ rowIn l n ts q
+row-same l n ts goals entries q a b h = ap₂ leb (a .each q h) (b .each q h)
 
 pub record RowsBefore (s : List ℕ) (n : ℕ) (ts : List Target) (ok : Bool) (b : ℕ) : Type 0 where
   pub within : b ≤ planChannels s

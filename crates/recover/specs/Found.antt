@@ -1,5 +1,5 @@
 -- What Recover finds, as the code goes over the state's bytes.
-use Prim.Native.Nat.{ℕ, zero, suc, _+_, _*_, _≤_, _<_, min}
+use Prim.Native.Nat.{ℕ, zero, suc, _+_, _*_, _≤_, _<_, min, max}
 use mathlib.Core.Path.{_≡_}
 use mathlib.Core.Bool.{Bool, true, not, cond, _&&_, _||_}
 use mathlib.Core.List.{List, [], _∷_, _++_, map}
@@ -119,7 +119,35 @@ pub record Found (xs : List ℕ) (r : ℕ) (ts : List Target) : Type 0 where
   pub few : r ≤ tooMany
   pub holds : Holds xs r ts
 
+-- ---- a number for each parent
+
+abbrev pub rowsLong : ℕ
+rowsLong = 12
+
+-- What stands for each parent is as a function says.
+pub record Rows (rows : List ℕ) (f : ℕ → ℕ) : Type 0 where
+  pub long : length rows ≡ rowsLong
+  pub each : (q : ℕ) → q < rowsLong → getD rows q 0 ≡ f q
+
+-- The greater of what stood and a time, of one parent; and of what stood and what a function says, of each.
+abbrev pub raisedAt : List ℕ → ℕ → ℕ → ℕ → ℕ
+raisedAt rows parent time q = cond (eqb parent q) (max (getD rows q 0) time) (getD rows q 0)
+
+abbrev pub raisedBy : List ℕ → (ℕ → ℕ) → ℕ → ℕ
+raisedBy rows f q = max (getD rows q 0) (f q)
+
+-- Whether a target's parent has its time above its last one, and the times when it is the last.
+abbrev pub follows : List ℕ → Target → Bool
+follows last t = ltb (t .parent) rowsLong && ltb (getD last (t .parent) 0) (t .parentTime)
+
+abbrev pub noted : List ℕ → Target → List ℕ
+noted last t = set last (t .parent) (t .parentTime)
+
 -- ---- rows
+
+-- Whether a parent's row is complete by all goals and all entries.
+abbrev pub rowReached : List ℕ → List ℕ → ℕ → Bool
+rowReached goals entries parent = leb (getD goals parent 0) (getD entries parent 0)
 
 -- Whether a parent's row is complete in the restored node, by some targets; and whether all rows are.
 abbrev pub rowIn : Line → ℕ → List Target → ℕ → Bool

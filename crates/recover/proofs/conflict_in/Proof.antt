@@ -1,5 +1,5 @@
 use Prim.Native.Nat.{_-_}
-use mathlib.Core.Path.{refl}
+use mathlib.Core.Path.{refl, sym}
 use native.Mathlib.Omega.{arith}
 use Rattle.recover.proofs.RowLaws.{Conflicting, conflicting-turn, conflicting-end}
 use Rattle.recover.proofs.conflict_in.Statement.{statement}
@@ -11,22 +11,25 @@ Inv-loop xs count found₀ i₀ found i = Conflicting xs count found i
 abbrev μ-loop : tie.MeasureT-loop
 μ-loop xs count found₀ i₀ found i = count - i
 
+returns : tie.Need-returns Inv-loop μ-loop
+returns c = sym (c .before .rising .ensures (c .if1 .taken))
+
 loop-holds : tie.Need-loop-holds Inv-loop μ-loop
 loop-holds c = record { within = omega arith; now = refl }
 
 clashes-requires : tie.Need-clashes-requires Inv-loop μ-loop
-clashes-requires c κs = let p = c .before .before .before .pre in (p .0, p .1, omega arith)
+clashes-requires c κs = let p = c .before .before .before .before .before .pre in (p .0, p .1, omega arith)
 
 loop-again : tie.Need-loop-again Inv-loop μ-loop
 loop-again c =
     let t = c .before .before .loop in
-    let a = c .before .before .before .before .args in
+    let a = c .before .before .before .before .before .before .args in
     conflicting-turn (a .xs .now) (a .count) (t .found) (t .i) (c .clashes .result) (omega arith) (c .clashes .ensures) (t .inv)
 
-returns : tie.Need-returns Inv-loop μ-loop
-returns c =
+returns-2 : tie.Need-returns-2 Inv-loop μ-loop
+returns-2 c =
     let t = c .before .loop in
-    let a = c .before .before .before .args in
+    let a = c .before .before .before .before .before .args in
     conflicting-end (a .xs .now) (a .count) (t .found) (t .i) (omega arith) (t .inv)
 
 pub conflict-in-spec : {M : Type 1} → statement M
@@ -35,9 +38,11 @@ conflict-in-spec =
     (tie.spec
     Inv-loop
     μ-loop
+    (λ c κs. c .before .pre)
+    returns
     loop-holds
     clashes-requires
     (λ c. omega arith)
     (λ c. omega arith)
     loop-again
-    returns)
+    returns-2)

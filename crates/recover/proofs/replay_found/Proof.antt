@@ -14,10 +14,10 @@ use Rattle.recover.proofs.replay_found.Statement.{statement}
 use Rattle.recover.proofs.replay_found.Tie as tie
 
 rows-restored-requires : tie.Need-rows-restored-requires
-rows-restored-requires c κs = let p = c .before .before .before .pre in (p .0, p .1, p .2, p .4, p .5)
+rows-restored-requires c κs = let p = c .before .before .before .pre in (p .0, p .1, p .2, p .3, p .5, p .6)
 
 same-targets-requires : tie.Need-same-targets-requires
-same-targets-requires c κs = let p = c .before .before .before .before .pre in (p .0, p .2, p .3, p .4, p .5)
+same-targets-requires c κs = let p = c .before .before .before .before .pre in (p .0, p .2, p .4, p .5, p .6)
 
 returns : tie.Need-returns
 returns c =
@@ -32,7 +32,7 @@ pub replay-found-spec : {M : Type 1} → statement M
 replay-found-spec =
     tie.close
     (tie.spec
-    (λ c κs. let p = c .before .before .pre in (p .4, p .5))
+    (λ c κs. let p = c .before .before .pre in (p .5, p .6))
     rows-restored-requires
     same-targets-requires
     (λ c. search needs)

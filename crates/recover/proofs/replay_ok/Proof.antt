@@ -17,8 +17,9 @@ returns c =
 replay-found-requires : tie.Need-replay-found-requires
 replay-found-requires c κs =
     let found = c .before .before .before .targets-of in
+    let low = c .before .before .before .before .before .low-of in
     let p = c .before .before .before .before .before .before .before .pre in
-    (p .0, p .1, p .2, p .3, found .ensures .long, some-but-few (found .result) (c .before .if1 .left) .1)
+    (p .0, p .1, p .2, low .ensures, p .3, found .ensures .long, some-but-few (found .result) (c .before .if1 .left) .1)
 
 returns-2 : tie.Need-returns-2
 returns-2 c =
