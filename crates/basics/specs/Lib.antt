@@ -1,3 +1,4 @@
 -- Laws that several crates cite.
 pub mod Bools
 pub mod Update
+pub mod Replicate

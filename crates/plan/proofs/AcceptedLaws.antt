@@ -1,5 +1,5 @@
 -- The rules, channels and nodes of a plan that is not refused, one by one.
-use Prim.Native.Nat.{ℕ, zero, suc, _+_, _*_, _%_, _≤_, _<_}
+use Prim.Native.Nat.{ℕ, zero, suc, _+_, _*_, _≤_, _<_}
 use mathlib.Core.Path.{_≡_, refl, sym, ap, _∙_, subst}
 use mathlib.Core.Bool.{Bool, true, false, cond, _&&_}
 use mathlib.Core.Logic.{_⊎_, inl, inr, ⊎-elim}
@@ -11,16 +11,16 @@ use lib.Dec.{leb, ltb, eqb}
 use lib.ListN.{length, getD, take, drop}
 use Rattle.plan.specs.declared.Rule.the-variants.{Keep, Relabel, Cap}
 use Rattle.plan.specs.declared.Channel.{Channel}
-use Rattle.plan.specs.Layout.{readSlots, spelled}
+use Rattle.plan.specs.Layout.{spelled}
 use Rattle.plan.specs.Rule.{ruleFields, ruleFits, ruleKindFits, ruleOfKind}
 use Rattle.plan.specs.Channel.{channelFits, channelAfter}
-use Rattle.plan.specs.Plan.{Plan, planOf, planNodes, planChannels, ruleAt, channelAt, noChannel, channelCount, entering, leaving}
+use Rattle.plan.specs.Plan.{Plan, planOf, planNodes, planChannels, ruleAt, channelAt, noChannel, entering, leaving}
 use Rattle.plan.specs.Check.{rulesFit, channelsFit, fourAtMost, planRefusal}
 use Rattle.plan.specs.Narrow.{narrowed}
 use Rattle.basics.specs.Bools.{both-true, and-left, below-or-not}
 use Rattle.plan.proofs.LayoutLaws.{length-readSlots}
 use Rattle.plan.proofs.ReadLaws.{rule-numbers-at, rule-at, rule-past}
-use Rattle.plan.proofs.CheckLaws.{Accepted, accepted}
+use Rattle.plan.proofs.CheckLaws.{accepted}
 use Rattle.plan.proofs.PlanLaws.{channel-count}
 use Rattle.plan.proofs.LoopLaws.{ruleSlots}
 

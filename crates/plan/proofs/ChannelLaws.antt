@@ -1,6 +1,6 @@
 -- What holds of a channel's mask.
-use Prim.Native.Nat.{ℕ, _/_, _%_, _^_, _≤_, _<_}
-use mathlib.Core.Path.{_≡_, refl}
+use Prim.Native.Nat.{ℕ, _<_}
+use mathlib.Core.Path.{_≡_}
 use mathlib.Core.Bool.{false}
 use native.Mathlib.Nat.{div-eq-of-lt, lt-of-lt-of-le}
 use lib.Pow.{pow-mono}

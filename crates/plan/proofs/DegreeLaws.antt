@@ -13,7 +13,7 @@ use Rattle.plan.specs.declared.Channel.{Channel}
 use Rattle.plan.specs.Plan.{planOf, planNodes, planChannels, channelAt, channelCount, noChannel, keepIf, numbersFrom, entering, leaving}
 use Rattle.plan.specs.Check.{badCounts, badSize, badChannels}
 use Rattle.plan.specs.Degrees.{Joined, Degrees}
-use Rattle.plan.proofs.BytesLaws.{replicate-default}
+use Rattle.basics.specs.Replicate.{replicate-default}
 use Rattle.plan.proofs.ReadLaws.{channel-at}
 use Rattle.plan.proofs.CheckLaws.{counts-within}
 use Rattle.plan.proofs.PlanLaws.{plan-size, channel-count}

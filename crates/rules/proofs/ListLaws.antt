@@ -1,9 +1,7 @@
 -- Lists joined at their ends, and selections from them.
-use Prim.Native.Nat.{ℕ, zero, suc}
 use mathlib.Core.Path.{_≡_, refl, sym, ap, _∙_}
 use mathlib.Core.Bool.{Bool, true, false, true≢false}
 use mathlib.Core.List.{List, [], _∷_, _++_, map, append-nil, append-cancel-left}
-use lib.ListN.{getD, replicate}
 use Rattle.rules.specs.Lists.{keep, keepOne, isEmpty}
 
 pub nil-right : {A : Type 0} (xs : List A) → xs ++ [] ≡ xs
@@ -16,12 +14,6 @@ append-cancel xs {ys} {zs} e = append-cancel-left xs ys zs e
 pub map-append : {A B : Type 0} (g : A → B) (xs ys : List A) → map g (xs ++ ys) ≡ map g xs ++ map g ys
 map-append g [] ys = refl
 map-append g (x ∷ xs) ys = ap (λ (l : List _). g x ∷ l) (map-append g xs ys)
-
--- The same thing at every place, the default too.
-pub replicate-default : {A : Type 0} (n i : ℕ) (x : A) → getD (replicate n x) i x ≡ x
-replicate-default zero i x = refl
-replicate-default (suc n) zero x = refl
-replicate-default (suc n) (suc i) x = replicate-default n i x
 
 -- An empty list, and one that is not.
 pub empty-none : {A : Type 0} (xs : List A) → isEmpty xs ≡ true → xs ≡ []

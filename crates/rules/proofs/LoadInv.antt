@@ -11,7 +11,7 @@ use Rattle.plan.specs.Check.{planRefusal}
 use Rattle.rules.specs.Lists.{keep}
 use Rattle.rules.specs.Line.{up, Node, Lane, Line, freshNode, noLane, freshLane, initialLine, nodeAt, laneAt}
 use Rattle.rules.specs.Clock.{messageOf}
-use Rattle.rules.proofs.ListLaws.{replicate-default}
+use Rattle.basics.specs.Replicate.{replicate-default}
 use Rattle.rules.proofs.Rising.{none, none-in, past}
 use Rattle.rules.proofs.Witness.{no-more, none}
 use Rattle.rules.proofs.Ghost.{Ghost, takesMessage, put, got, logPut}

@@ -7,27 +7,17 @@ use mathlib.Core.List.{List, [], _∷_}
 use native.Mathlib.Omega.{arith}
 use native.Mathlib.Decide.{decLt}
 use lib.ListN.{length, getD}
-use lib.Dec.{leb, ltb, eqb}
+use lib.Dec.{ltb, eqb}
 use borrow.Author.Tests.{ltb-true, eqb-true}
-use Rattle.basics.specs.Bools.{both-true, and-left}
+use Rattle.basics.specs.Bools.{both-true}
 use Rattle.plan.specs.declared.Channel.{Channel}
 use Rattle.plan.specs.Channel.{channelFits, channelAfter}
 use Rattle.plan.specs.Plan.{Plan, planOf, nodeCount, channelCount, channelAt, noChannel}
 use Rattle.plan.specs.Check.{channelsFit, planRefusal}
+use Rattle.plan.proofs.AcceptedLaws.{fits-forward}
 use Rattle.plan.proofs.CheckLaws.{accepted}
 use Rattle.plan.proofs.PlanLaws.{node-count}
 use Rattle.rules.proofs.Inv.{Ordered}
-
--- One channel's check.
-fits-forward : (n : ℕ) (c : Channel) → channelFits n c ≡ true → (c .sender < c .receiver) × (c .receiver < n)
-unfolding channelFits
-fits-forward n c e =
-    let forward : Bool = ltb (c .sender) (c .receiver) in
-    let inside : Bool = ltb (c .receiver) n in
-    let mask : Bool = leb 1 (c .mask) in
-    let modulus : Bool = leb 1 (c .modulus) in
-    let ends = both-true forward inside (and-left (forward && inside) mask (and-left (forward && inside && mask) modulus (and-left (forward && inside && mask && modulus) (ltb (c .remainder) (c .modulus)) e))) in
-    (ltb-true (c .sender) (c .receiver) (ends .0), ltb-true (c .receiver) n (ends .1))
 
 -- A pair of nodes comes before a channel's.
 abbrev Before : ℕ → ℕ → Channel → Type 0

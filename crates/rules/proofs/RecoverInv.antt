@@ -29,7 +29,7 @@ use Rattle.rules.proofs.Kept.{cuts-at}
 use Rattle.rules.proofs.Joins.{no-source}
 use Rattle.rules.proofs.Targets.{low-below, targets-from, targets-of}
 use Rattle.rules.proofs.Children.{Child, triples-from, triples-of, restored-reach, restored-is, none-above}
-use Rattle.rules.proofs.Inv.{timeOf, Enters, Leaves, targetFrom, Nodes, Shape, Channels, Ends, Row, Replays, Inv}
+use Rattle.rules.proofs.Inv.{timeOf, Enters, Leaves, targetFrom, Nodes, Channels, Ends, Row, Replays, Inv}
 use Rattle.rules.proofs.InvLaws.{took-enters, up-not-replay, up-not-down, marked-unless-up, replay-marked, marked-took, ends-up}
 use Rattle.rules.proofs.MarkedLaws.{sender-other, receiver-other, parent-unmarked, child-unmarked, parent-up, child-up, own, got-rises, taken-cut}
 use Rattle.rules.proofs.Stays.{moved, unmarked-other, marks-beside, nodes-stay, reached-back, reached-on, channels-beside, ends-beside, events-stay, replays-stay}

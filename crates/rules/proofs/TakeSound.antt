@@ -11,7 +11,7 @@ use lib.ListN.{length, set, length-set}
 use lib.Dec.{leb, eqb}
 use borrow.Author.Tests.{leb-false, eq-eqb, ne-eqb}
 use Rattle.plan.specs.Plan.{Plan, nodeCount, channelCount, channelAt}
-use Rattle.rules.specs.Line.{logLimit, heldLimit, Origin, fed, made, Message, Status, up, down, replay, Node, Lane, Line, nodeAt, laneAt, parents, receiverOf, withNode, withLane, counted, isReplay}
+use Rattle.rules.specs.Line.{logLimit, heldLimit, Origin, fed, made, Message, Status, up, down, replay, Node, Lane, Line, nodeAt, laneAt, parents, withNode, withLane, counted, isReplay}
 use Rattle.rules.specs.Frame.{take}
 use Rattle.rules.specs.Recover.{triple}
 use Rattle.rules.specs.Clock.{raiseHeard, takenFrom}

@@ -9,7 +9,7 @@ use lib.Dec.{leb, ltb}
 use borrow.Author.Tests.{ltb-true, leb-true, lt-ltb, le-leb}
 use Rattle.basics.specs.Bools.{both-true, neither-true}
 use Rattle.rules.specs.Lists.{isEmpty, allOf, anyOf, upTo}
-use Rattle.rules.specs.Line.{Status, up, down, replay, isDown, isReplay}
+use Rattle.rules.specs.Line.{Status, up, down, replay, isReplay}
 use Rattle.rules.specs.Damaged.{rises, risesTo}
 use Rattle.rules.proofs.Members.{In, here, there, in-none, in-first}
 use Rattle.rules.proofs.Rising.{Rises, none, more, Within, none-in, more-in}

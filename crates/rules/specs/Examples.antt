@@ -8,7 +8,7 @@ use Rattle.plan.specs.declared.Rule.the-variants.{Keep}
 use Rattle.plan.specs.Plan.{Plan}
 use Rattle.plan.specs.Check.{planRefusal}
 use Rattle.rules.specs.Lists.{keep, joined}
-use Rattle.rules.specs.Line.{fed, made, Message, Lane, initialLine}
+use Rattle.rules.specs.Line.{fed, made, Lane, initialLine}
 use Rattle.rules.specs.Clock.{raiseHeard, takenFrom}
 use Rattle.rules.specs.Plain.{Receipt}
 use Rattle.rules.specs.Claim.{startOf, storyFrom, told}
