@@ -32,7 +32,7 @@ four-field i s h = four-spelled (drop i s) (simp length-drop (omega arith)) ∙ 
 -- ---- bytes that are all 0
 
 -- An or is 0 where both are.
-or-zero : (a b : ℕ) → eqb 0 (bitOr a b) ≡ (eqb 0 a && eqb 0 b)
+pub or-zero : (a b : ℕ) → eqb 0 (bitOr a b) ≡ (eqb 0 a && eqb 0 b)
 or-zero zero b = rw or-zero-l
 or-zero (suc a) b = rw (eqb·zero-suc, ne-eqb 0 (bitOr (suc a) b) (λ e. omega (arith, e, or-add-and (suc a) b, and-le-r (suc a) b)))
 
