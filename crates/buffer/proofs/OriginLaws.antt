@@ -1,13 +1,13 @@
 -- Records and origins in the state's bytes.
 use Prim.Native.Nat.{ℕ, zero, suc, _+_, _*_, _-_, _^_, _≤_, _<_}
-use mathlib.Core.Path.{_≡_, refl, sym, ap, _∙_}
-use mathlib.Core.Bool.{Bool, true, false, _&&_, and-true, and-false}
-use mathlib.Core.List.{List, [], _∷_}
-use mathlib.Core.Option.{Option, none, some}
+use mathlib.Core.Path.{_≡_, refl, sym, ap, ap₂, _∙_}
+use mathlib.Core.Bool.{Bool, true, false, not, _&&_, _||_, and-true, and-false, and-comm}
+use mathlib.Core.List.{List}
+use mathlib.Core.Option.{none, some}
 use native.Mathlib.Omega.{arith}
-use borrow.Author.Tests.{lt-ltb, le-ltb}
+use borrow.Author.Tests.{lt-ltb, ne-eqb, eqb-true, eqb-false}
 use lib.Seq.{take-take}
-use lib.Dec.{lit≤, leb, ltb, eqb, eqb·suc-zero}
+use lib.Dec.{lit≤, leb, eqb, eqb·suc-zero}
 use lib.ListN.{length, getD, take, drop, length-map}
 use Rattle.plan.specs.Lawful.{Bytes}
 use Rattle.plan.specs.Layout.{spelled}
@@ -16,7 +16,6 @@ use Rattle.plan.proofs.NumberLaws.{spelled-below}
 use Rattle.plan.proofs.PlanLaws.{channel-count}
 use Rattle.rules.specs.Line.{Origin, fed, made, Line, laneAt, parents}
 use Rattle.rules.specs.Damaged.{isFed}
-use Rattle.rules.proofs.Joins.{entering-in}
 use Rattle.state.specs.Sizes.{takenAt, heardAt, parentLimit, blockAt}
 use Rattle.state.specs.Pieces.{originFrom}
 use Rattle.state.specs.Lane.{heardCount}
@@ -28,11 +27,11 @@ use Rattle.state.proofs.InPlace.{Counted as Few, line-plan}
 use Rattle.state.proofs.OffsetLaws.{line-taken, line-heard-at}
 use Rattle.state.proofs.HeardLaws.{heard-few}
 use Rattle.items.specs.Items.{fromSender, placeFrom, ifFound, timeRight, recordRight, beforeRight, originRight}
-use Rattle.items.proofs.Lookup.{found-in}
-use Rattle.buffer.specs.Exact.{recordExact}
-use Rattle.buffer.specs.Look.{numberOr}
+use Rattle.buffer.specs.Exact.{recordExact, timeNamed}
+use Rattle.buffer.specs.Table.{codeOr}
 use Rattle.buffer.specs.Check.{Counted, recordIn}
 use Rattle.buffer.proofs.LookLaws.{place-below}
+use Rattle.buffer.proofs.TableLaws.{coded, not-found}
 
 -- ---- records
 
@@ -52,20 +51,6 @@ record-right a s h l =
 pub record-tested : (a : ℕ) (s : List ℕ) → Bytes s → a + 8 ≤ length s → (eqb (getD s (a + 5) 0) 0 && leb (getD s (a + 4) 0) 15) ≡ (recordExact a s && recordRight (recordIn a s))
 record-tested a s h l = ap (λ (t : Bool). recordExact a s && t) (sym (record-right a s h l))
 
--- ---- what is found
-
-some-found : (d r : ℕ) (o : Option ℕ) → r ≡ numberOr d o → r < d → o ≡ some r
-some-found d r none e h = let no : ⊥ = omega arith in absurd no
-some-found d r (some b) e h = ap some (sym e)
-
-none-found : (d r : ℕ) (o : Option ℕ) → r ≡ numberOr d o → ((b : ℕ) → o ≡ some b → b < d) → d ≤ r → o ≡ none
-none-found d r none e below h = refl
-none-found d r (some b) e below h = let no : ⊥ = omega (arith, below b refl) in absurd no
-
-found-test : (d r : ℕ) (o : Option ℕ) → r ≡ numberOr d o → ((b : ℕ) → o ≡ some b → b < d) → ltb r d ≡ ifFound o (λ (b : ℕ). true)
-found-test d r none e below = le-ltb r d (omega arith)
-found-test d r (some b) e below = lt-ltb r d (omega (arith, below b refl))
-
 -- ---- what an input was made from
 
 pub origin-none : (t : ℕ) (q : ℕ) → q ≡ 0 → originFrom q t ≡ fed
@@ -78,6 +63,27 @@ origin-some t (suc q) h = let same : q ≡ suc q - 1 = omega arith in ap (λ (x 
 pub origin-fed : (q t : ℕ) → isFed (originFrom q t) ≡ eqb q 0
 origin-fed zero t = refl
 origin-fed (suc q) t = sym (eqb·suc-zero q)
+
+named-none : (q t : ℕ) → q ≡ 0 → timeNamed q t ≡ eqb t 0
+named-none q t e = rw e refl
+
+named-some : (q t : ℕ) → (q ≡ 0 → ⊥) → timeNamed q t ≡ true
+named-some q t h = ap (λ (v : Bool). not v || eqb t 0) (ne-eqb q 0 h)
+
+-- A name, and what is asked of the rest, in another order.
+name-first : (name time taken rest : Bool) → (time && (taken && (name && rest))) ≡ (name && (time && (taken && rest)))
+name-first true time taken rest = refl
+name-first false true true rest = refl
+name-first false true false rest = refl
+name-first false false taken rest = refl
+
+names-first : (source free earlier since : Bool) → ((source && free) && (earlier && since)) ≡ ((free && (not earlier || since)) && (source && earlier))
+names-first true true true true = refl
+names-first true true true false = refl
+names-first true true false since = refl
+names-first true false earlier since = refl
+names-first false free true since = sym (and-false (free && since))
+names-first false free false since = sym (and-false (free && true))
 
 module _ (s table : List ℕ) (steps : ℕ) (count : Counted s table steps) where
   abbrev l : Line
@@ -98,59 +104,54 @@ module _ (s table : List ℕ) (steps : ℕ) (count : Counted s table steps) wher
     at-most-four : heardCount p (channelAt p b) ≤ parentLimit
     at-most-four = heard-few p (count .ready .fits) b (rw channel-count h)
 
-    pub before-fed : beforeRight l sender b fed ≡ isSource p sender
+    before-made : (q u : ℕ) → beforeRight l sender b (made q u) ≡ (timeRight steps u && ifFound (placeFrom p q 0 (entering p sender)) (λ (i : ℕ). leb u (getD (laneAt l b .heard) i 0)))
     unfolding beforeRight
-    before-fed = rw line-plan
+    before-made q u = rw (line-plan s, ← count .same)
 
-    module _ (q u r : ℕ) (e : r ≡ numberOr 4 (placeFrom p q 0 (entering p sender))) where
-      before-made : beforeRight l sender b (made q u) ≡ (timeRight steps u && ifFound (placeFrom p q 0 (entering p sender)) (λ (i : ℕ). leb u (getD (laneAt l b .heard) i 0)))
+    module _ (q u : ℕ) where
+      pub before-fed : q ≡ 0 → (isSource p sender && eqb u 0) ≡ (timeNamed q u && beforeRight l sender b (originFrom q u))
       unfolding beforeRight
-      before-made = rw (line-plan s, ← count .same)
+      before-fed e = and-comm (isSource p sender) (eqb u 0) ∙ sym (ap₂ _&&_ (named-none q u e) (ap (beforeRight l sender b) (origin-none u q e) ∙ rw (line-plan s) refl))
 
-      place-four : (i : ℕ) → placeFrom p q 0 (entering p sender) ≡ some i → i < heardCount p (channelAt p b)
-      place-four i f = omega (arith, place-below p q 0 i (entering p sender) f, entered)
+      named-before : (q ≡ 0 → ⊥) → (timeNamed q u && beforeRight l sender b (originFrom q u)) ≡ beforeRight l sender b (made (q - 1) u)
+      named-before z = ap₂ _&&_ (named-some q u z) (ap (beforeRight l sender b) (origin-some u q z))
 
-      pub before-missing : 4 ≤ r → beforeRight l sender b (made q u) ≡ false
-      before-missing k =
-          let none-there = none-found 4 r (placeFrom p q 0 (entering p sender)) e (λ i f. omega (arith, place-four i f, at-most-four)) k in
-          before-made ∙ rw (none-there, and-false)
+      pub before-missing : (q ≡ 0 → ⊥) → placeFrom p (q - 1) 0 (entering p sender) ≡ none → false ≡ (timeNamed q u && beforeRight l sender b (originFrom q u))
+      before-missing z e = sym (named-before z ∙ before-made (q - 1) u ∙ rw (e, and-false))
 
-      pub before-there : r < 4 → beforeRight l sender b (made q u) ≡ (timeRight steps u && leb u (wordAt (blockAt b + (heardAt + 4 * r)) s))
-      before-there k =
-          let there = some-found 4 r (placeFrom p q 0 (entering p sender)) e k in
-          before-made ∙ rw there (ap (λ (v : ℕ). timeRight steps u && leb u v) (line-heard-at s few b h r (place-four r there) k))
+      pub before-there : (q ≡ 0 → ⊥) → (i : ℕ) → placeFrom p (q - 1) 0 (entering p sender) ≡ some i → (timeRight steps u && leb u (wordAt (blockAt b + (heardAt + 4 * i)) s)) ≡ (timeNamed q u && beforeRight l sender b (originFrom q u))
+      before-there z i e =
+          let early : i < heardCount p (channelAt p b) = omega (arith, place-below p (q - 1) 0 i (entering p sender) e, entered) in
+          sym (named-before z ∙ before-made (q - 1) u ∙ rw e (ap (λ (v : ℕ). timeRight steps u && leb u v) (line-heard-at s few b h i early (omega (arith, early, at-most-four)))))
 
   -- What node n made something from.
   module _ (n : ℕ) where
-    pub origin-at-source : (o : Origin) → originRight l n fed o ≡ (isSource p n && isFed o)
+    made-is : (q t : ℕ) (o : Origin) → originRight l n (made q t) o ≡ (timeRight steps t && ifFound (fromSender p q (entering p n)) (λ (b : ℕ). leb t (laneAt l b .taken) && beforeRight l q b o))
     unfolding originRight
-    origin-at-source o = rw line-plan
+    made-is q t o = rw (line-plan s, ← count .same)
 
-    module _ (q t : ℕ) (o : Origin) (r : ℕ) (e : r ≡ numberOr 24 (fromSender p q (entering p n))) where
-      made-is : originRight l n (made q t) o ≡ (timeRight steps t && ifFound (fromSender p q (entering p n)) (λ (b : ℕ). leb t (laneAt l b .taken) && beforeRight l q b o))
-      unfolding originRight
-      made-is = rw (line-plan s, ← count .same)
+    pub made-missing : (q t : ℕ) (name : Bool) (o : Origin) → fromSender p q (entering p n) ≡ none → false ≡ (name && originRight l n (made q t) o)
+    made-missing q t name o e = sym (ap (λ (v : Bool). name && v) (made-is q t o ∙ rw (e, and-false)) ∙ and-false name)
 
-      channel-below : (b : ℕ) → fromSender p q (entering p n) ≡ some b → b < planChannels s
-      channel-below b f = rw channel-count at (entering-in p n b (found-in p q (entering p n) b f .0) .0)
+    pub made-there : (q t : ℕ) (name : Bool) (o : Origin) (b : ℕ) → b < planChannels s → fromSender p q (entering p n) ≡ some b
+        → (timeRight steps t && (leb t (wordAt (blockAt b + takenAt) s) && (name && beforeRight l q b o))) ≡ (name && originRight l n (made q t) o)
+    made-there q t name o b h e =
+        name-first name (timeRight steps t) (leb t (wordAt (blockAt b + takenAt) s)) (beforeRight l q b o)
+        ∙ sym (ap (λ (v : Bool). name && v) (made-is q t o ∙ rw e (ap (λ (v : ℕ). timeRight steps t && (leb t v && beforeRight l q b o)) (line-taken s few b h))))
 
-      channel-small : (b : ℕ) → fromSender p q (entering p n) ≡ some b → b < 24
-      channel-small b f = omega (arith, channel-below b f, count .ready .channels)
+    pub origin-at-source : (q t e u : ℕ) → q ≡ 0 → ((isSource p n && eqb t 0) && (eqb e 0 && eqb u 0)) ≡ ((timeNamed q t && timeNamed e u) && originRight l n (originFrom q t) (originFrom e u))
+    unfolding originRight
+    origin-at-source q t e u z =
+        names-first (isSource p n) (eqb t 0) (eqb e 0) (eqb u 0)
+        ∙ sym (ap₂ _&&_ (ap (λ (v : Bool). v && timeNamed e u) (named-none q t z)) (ap (λ (o : Origin). originRight l n o (originFrom e u)) (origin-none t q z) ∙ rw (line-plan s, origin-fed e u) refl))
 
-      found : r < 24 → fromSender p q (entering p n) ≡ some r
-      found k = some-found 24 r (fromSender p q (entering p n)) e k
+    pub origin-named : (q t e u : ℕ) → (q ≡ 0 → ⊥) → (timeNamed e u && originRight l n (made (q - 1) t) (originFrom e u)) ≡ ((timeNamed q t && timeNamed e u) && originRight l n (originFrom q t) (originFrom e u))
+    origin-named q t e u z = sym (ap₂ _&&_ (ap (λ (v : Bool). v && timeNamed e u) (named-some q t z)) (ap (λ (o : Origin). originRight l n o (originFrom e u)) (origin-some t q z)))
 
-      pub parent-found : ltb r 24 ≡ ifFound (fromSender (l .plan) q (entering (l .plan) n)) (λ (b : ℕ). true)
-      parent-found = rw (line-plan s) (found-test 24 r (fromSender p q (entering p n)) e channel-small)
-
-      pub made-missing : 24 ≤ r → originRight l n (made q t) o ≡ false
-      made-missing k = made-is ∙ rw (none-found 24 r (fromSender p q (entering p n)) e channel-small k, and-false)
-
-      pub made-below : r < 24 → r < planChannels s
-      made-below k = channel-below r (found k)
-
-      pub made-sender : r < 24 → channelAt p r .sender ≡ q
-      made-sender k = found-in p q (entering p n) r (found k) .1
-
-      pub made-there : r < 24 → originRight l n (made q t) o ≡ (timeRight steps t && (leb t (wordAt (blockAt r + takenAt) s) && beforeRight l q r o))
-      made-there k = made-is ∙ rw (found k) (ap (λ (v : ℕ). timeRight steps t && (leb t v && beforeRight l q r o)) (line-taken s few r (made-below k)))
+    -- A sender's code, as what is asked of a parent.
+    pub parent-coded : (q code : ℕ) → code ≡ codeOr p (fromSender p q (entering p n)) → not (eqb code 255) ≡ ifFound (fromSender (l .plan) q (entering (l .plan) n)) (λ (b : ℕ). true)
+    parent-coded q code is = rw (line-plan s) (one (eqb code 255) refl)
+      where
+        one : (v : Bool) → eqb code 255 ≡ v → not v ≡ ifFound (fromSender p q (entering p n)) (λ (b : ℕ). true)
+        one true e = rw (not-found s (count .ready) q n code is (eqb-true code 255 e)) refl
+        one false e = rw (coded s (count .ready) q n code is (eqb-false code 255 e) .found) refl

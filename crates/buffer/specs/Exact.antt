@@ -15,8 +15,12 @@ zeroAt a n s = zeroBytes (take n (drop a s))
 abbrev pub recordExact : ℕ → List ℕ → Bool
 recordExact a s = eqb (getD s (a + 5) 0) 0
 
+-- A time stands with a name only; 0 names nothing.
+abbrev pub timeNamed : ℕ → ℕ → Bool
+timeNamed from time = not (eqb from 0) || eqb time 0
+
 abbrev pub originExact : ℕ → List ℕ → Bool
-originExact a s = not (eqb (getD s a 0) 0) || eqb (wordAt (a + 1) s) 0
+originExact a s = timeNamed (getD s a 0) (wordAt (a + 1) s)
 
 unfoldable pub messageExact : ℕ → List ℕ → Bool
 messageExact a s = recordExact a s && originExact (a + 12) s && zeroAt (a + 17) 3 s

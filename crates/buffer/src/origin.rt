@@ -1,4 +1,4 @@
-// Records and origins at an offset of the state. An origin's first byte is 0 for none, else the sender and 1.
+// Records and origins at an offset of the state. An origin's first byte is 0 for none, else the sender and 1; a time stands with a sender only.
 ghost use mathlib.Core.Path.{_≡_};
 ghost use mathlib.Core.Bool.{_&&_};
 ghost use Prim.Native.Nat.{_+_, _≤_, _<_};
@@ -8,7 +8,7 @@ ghost use Rattle.rules.specs.Line.{made};
 ghost use Rattle.state.specs.Pieces.{originFrom};
 ghost use Rattle.state.specs.State.{lineOf};
 ghost use Rattle.items.specs.Items.{recordRight, beforeRight, originRight};
-ghost use Rattle.buffer.specs.Exact.{recordExact};
+ghost use Rattle.buffer.specs.Exact.{recordExact, timeNamed};
 ghost use Rattle.buffer.specs.Check.{Counted, recordIn};
 use crate::bytes;
 use crate::table;
@@ -32,16 +32,17 @@ pub fn before_ok(
     time: u32,
 ) -> bool
     requires { ⌜ Counted (now s) (now t) steps × (b < planChannels (now s)) × (channelAt (planOf (now s)) b .sender ≡ sender) ⌝ }
-    ensures { λ r. ⌜ r ≡ beforeRight (lineOf (now (s .entry))) sender b (originFrom from time) ⌝ }
+    ensures { λ r. ⌜ r ≡ (timeNamed from time && beforeRight (lineOf (now (s .entry))) sender b (originFrom from time)) ⌝ }
 {
     if from == 0 {
-        return table::source_in(s, t, sender);
+        let source = table::source_in(s, t, sender);
+        return source & (time == 0);
     }
-    let place = table::place_in(s, t, from - 1, sender);
-    if 4 <= place {
+    let code = table::joined(s, t, from - 1, sender);
+    if code == 255 {
         return false;
     }
-    let heard = bytes::get32(s, 53_248 + 320 * b + (8 + 4 * place));
+    let heard = bytes::get32(s, 53_248 + 320 * b + (8 + 4 * (code / 32)));
     ((0 < time) & (time <= steps)) & (time <= heard)
 }
 
@@ -57,17 +58,18 @@ pub fn made_ok(
     since: u32,
 ) -> bool
     requires { ⌜ Counted (now s) (now t) steps ⌝ }
-    ensures { λ r. ⌜ r ≡ originRight (lineOf (now (s .entry))) n (made sender time) (originFrom earlier since) ⌝ }
+    ensures { λ r. ⌜ r ≡ (timeNamed earlier since && originRight (lineOf (now (s .entry))) n (made sender time) (originFrom earlier since)) ⌝ }
 {
-    let b = table::channel_in(s, t, sender, n);
-    if 24 <= b {
+    let code = table::joined(s, t, sender, n);
+    if code == 255 {
         return false;
     }
-    let taken = bytes::get32(s, 53_248 + 320 * b + 4);
-    let rest = before_ok(s, t, steps, sender, b, earlier, since);
+    let taken = bytes::get32(s, 53_248 + 320 * (code % 32) + 4);
+    let rest = before_ok(s, t, steps, sender, code % 32, earlier, since);
     ((0 < time) & (time <= steps)) & ((time <= taken) & rest)
 }
 
+// What node n made something from, by its bytes, and what that was made from.
 pub fn origin_ok(
     s: &[u8],
     t: &[u8; 156],
@@ -79,11 +81,11 @@ pub fn origin_ok(
     since: u32,
 ) -> bool
     requires { ⌜ Counted (now s) (now t) steps ⌝ }
-    ensures { λ r. ⌜ r ≡ originRight (lineOf (now (s .entry))) n (originFrom from time) (originFrom earlier since) ⌝ }
+    ensures { λ r. ⌜ r ≡ ((timeNamed from time && timeNamed earlier since) && originRight (lineOf (now (s .entry))) n (originFrom from time) (originFrom earlier since)) ⌝ }
 {
     if from == 0 {
         let source = table::source_in(s, t, n);
-        return source & (earlier == 0);
+        return (source & (time == 0)) & ((earlier == 0) & (since == 0));
     }
     made_ok(s, t, steps, n, from - 1, time, earlier, since)
 }

@@ -3,9 +3,8 @@ ghost use mathlib.Core.Path.{_≡_};
 ghost use Prim.Native.Nat.{_+_, _*_, _<_};
 ghost use lib.ListN.{length, getD, set};
 ghost use Rattle.plan.specs.Plan.{planOf, entering, isSource};
-ghost use Rattle.items.specs.Items.{fromSender, placeFrom};
+ghost use Rattle.items.specs.Items.{fromSender};
 ghost use Rattle.buffer.specs.Ready.{Ready};
-ghost use Rattle.buffer.specs.Look.{numberOr};
 ghost use Rattle.buffer.specs.Table.{Table, codeOr, emptyTable};
 use crate::bytes;
 use crate::look;
@@ -50,30 +49,6 @@ pub fn joined(s: &[u8], t: &[u8; 156], sender: usize, node: usize) -> usize
         return 255;
     }
     look::index(t[12 * node + sender])
-}
-
-// The channel from a sender to a receiver, 24 if there is none.
-pub fn channel_in(s: &[u8], t: &[u8; 156], sender: usize, node: usize) -> usize
-    requires { ⌜ Ready (now s) × Table (now s) (now t) ⌝ }
-    ensures { λ r. ⌜ r ≡ numberOr 24 (fromSender (planOf (now (s .entry))) sender (entering (planOf (now (s .entry))) node)) ⌝ }
-{
-    let code = joined(s, t, sender, node);
-    if code == 255 {
-        return 24;
-    }
-    code % 32
-}
-
-// The place of a sender among the channels that enter a node, 4 if it is at none.
-pub fn place_in(s: &[u8], t: &[u8; 156], sender: usize, node: usize) -> usize
-    requires { ⌜ Ready (now s) × Table (now s) (now t) ⌝ }
-    ensures { λ r. ⌜ r ≡ numberOr 4 (placeFrom (planOf (now (s .entry))) sender 0 (entering (planOf (now (s .entry))) node)) ⌝ }
-{
-    let code = joined(s, t, sender, node);
-    if code == 255 {
-        return 4;
-    }
-    code / 32
 }
 
 // How many channels enter a node.

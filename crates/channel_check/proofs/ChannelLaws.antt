@@ -1,27 +1,30 @@
 -- The parts of a channel's check.
 use Prim.Native.Nat.{ℕ, zero, suc, _+_, _*_, _-_, max, min, _≤_, _<_}
 use mathlib.Core.Path.{_≡_, refl, sym, ap, _∙_}
-use mathlib.Core.Bool.{Bool, not, _&&_, _||_, and-assoc}
+use mathlib.Core.Bool.{Bool, not, _&&_, _||_, and-assoc, and-true}
 use mathlib.Core.Logic.{inl, inr}
 use mathlib.Core.List.{List, [], _∷_, _++_}
 use native.Mathlib.Nat.{add-zero}
 use native.Mathlib.Omega.{arith}
 use borrow.Author.Tests.{ne-eqb, lt-ltb, le-leb, lt-leb}
+use lib.Bits.{bitOr}
 use lib.Dec.{leb, ltb, eqb}
 use lib.ListN.{length, getD, take, drop, drop-of-length-le}
 use lib.Seq.{drop-cons, drop-drop, take-add}
 use Rattle.rules.specs.Lists.{isEmpty, allOf, anyOf, greatestOf}
+use Rattle.plan.specs.Layout.{spelled}
 use Rattle.plan.specs.Plan.{planOf, channelAt}
 use Rattle.rules.specs.Line.{queueLimit, Lane, Line, nodeAt, laneAt}
 use Rattle.rules.specs.Step.{nodeDown, endDown, replaying}
 use Rattle.rules.specs.Damaged.{marksJoined, channelHolds}
-use Rattle.state.specs.Sizes.{blockAt, parentLimit, queueAt, laneRestAt, laneRest}
+use Rattle.state.specs.Sizes.{blockAt, queueAt, laneRestAt, laneRest}
 use Rattle.state.specs.Right.{wordAt}
 use Rattle.state.specs.State.{lineOf}
 use Rattle.state.proofs.InPlace.{line-plan}
 use Rattle.state.proofs.OffsetLaws.{line-mark, line-queue-count}
 use Rattle.buffer.specs.Ready.{OnChannel}
 use Rattle.buffer.proofs.ReadyLaws.{counted}
+use Rattle.buffer.proofs.BytesLaws.{or-zero}
 use Rattle.buffer.specs.Zero.{zeroBytes}
 use Rattle.buffer.specs.Exact.{zeroAt}
 use Rattle.basics.specs.Bools.{below-or-not}
@@ -65,21 +68,31 @@ zero-join : (s t : List ℕ) → zeroBytes (s ++ t) ≡ (zeroBytes s && zeroByte
 zero-join [] t = refl
 zero-join (b ∷ s) t = ap (λ (x : Bool). eqb 0 b && x) (zero-join s t) ∙ sym (and-assoc (eqb 0 b) (zeroBytes s) (zeroBytes t))
 
-pub zero-parts : (a n m : ℕ) (s : List ℕ) → zeroAt a (n + m) s ≡ (zeroAt a n s && zeroAt (a + n) m s)
+zero-parts : (a n m : ℕ) (s : List ℕ) → zeroAt a (n + m) s ≡ (zeroAt a n s && zeroAt (a + n) m s)
 zero-parts a n m s = ap zeroBytes (take-add n m (drop a s)) ∙ zero-join (take n (drop a s)) (take m (drop n (drop a s))) ∙ ap (λ (t : List ℕ). zeroAt a n s && zeroBytes (take m t)) (drop-drop n a s)
 
--- What a block leaves unused: the bytes of further parents, and those behind the queue up to the block's end.
-pub zeros-at : (s : List ℕ) (a heard count : ℕ) → heard ≤ parentLimit → count ≤ queueLimit
-    → (zeroAt (a + 8 + 4 * heard) (a + 24 - (a + 8 + 4 * heard)) s && zeroAt (a + 24 + 4 + 20 * count) (a + 320 - (a + 24 + 4 + 20 * count)) s)
-    ≡ (zeroAt (a + 8 + 4 * heard) (4 * (parentLimit - heard)) s && (zeroAt (a + 24 + 4 + 20 * count) (20 * (queueLimit - count)) s && zeroAt (a + laneRestAt) laneRest s))
-zeros-at s a heard count h k =
-    let first : a + 24 - (a + 8 + 4 * heard) ≡ 4 * (parentLimit - heard) = omega arith in
-    let second : a + 320 - (a + 24 + 4 + 20 * count) ≡ 20 * (queueLimit - count) + laneRest = omega arith in
-    let third : a + 24 + 4 + 20 * count + 20 * (queueLimit - count) ≡ a + laneRestAt = omega arith in
-    ap (λ (n : ℕ). zeroAt (a + 8 + 4 * heard) n s && zeroAt (a + 24 + 4 + 20 * count) (a + 320 - (a + 24 + 4 + 20 * count)) s) first
-    ∙ ap (λ (n : ℕ). zeroAt (a + 8 + 4 * heard) (4 * (parentLimit - heard)) s && zeroAt (a + 24 + 4 + 20 * count) n s) second
-    ∙ ap (λ (t : Bool). zeroAt (a + 8 + 4 * heard) (4 * (parentLimit - heard)) s && t) (zero-parts (a + 24 + 4 + 20 * count) (20 * (queueLimit - count)) laneRest s)
-    ∙ ap (λ (n : ℕ). zeroAt (a + 8 + 4 * heard) (4 * (parentLimit - heard)) s && (zeroAt (a + 24 + 4 + 20 * count) (20 * (queueLimit - count)) s && zeroAt n laneRest s)) third
+-- A number is 0 where all its bytes are.
+digit-zero : (n b : ℕ) → eqb 0 (n * 256 + b) ≡ (eqb 0 n && eqb 0 b)
+digit-zero zero b = let same : 0 * 256 + b ≡ b = omega arith in ap (eqb 0) same
+digit-zero (suc n) b = ne-eqb 0 (suc n * 256 + b) (λ e. omega arith) ∙ sym (rw (ne-eqb 0 (suc n) (λ e. omega arith)))
+
+spelled-zero : (n : ℕ) (s : List ℕ) → eqb 0 (spelled n s) ≡ (eqb 0 n && zeroBytes s)
+spelled-zero n [] = sym (and-true (eqb 0 n))
+spelled-zero n (b ∷ s) = spelled-zero (n * 256 + b) s ∙ ap (λ (t : Bool). t && zeroBytes s) (digit-zero n b) ∙ and-assoc (eqb 0 n) (eqb 0 b) (zeroBytes s)
+
+-- One word more.
+pub word-turn : (s : List ℕ) (from k i seen word : ℕ) → from + 4 * k ≡ i → word ≡ wordAt i s → eqb 0 seen ≡ zeroAt from (4 * k) s → eqb 0 (bitOr seen word) ≡ zeroAt from (4 * (k + 1)) s
+word-turn s from k i seen word e f g =
+    let more : 4 * (k + 1) ≡ 4 * k + 4 = omega arith in
+    or-zero seen word ∙ rw (g, f, more, zero-parts from (4 * k) 4 s, e) (ap (λ (t : Bool). zeroAt from (4 * k) s && t) (spelled-zero 0 (take 4 (drop i s))))
+
+-- What a block leaves unused behind the queue: up to the block's end.
+pub behind-at : (s : List ℕ) (a count : ℕ) → count ≤ queueLimit
+    → zeroAt (a + 24 + 4 + 20 * count) (a + 320 - (a + 24 + 4 + 20 * count)) s ≡ (zeroAt (a + 24 + 4 + 20 * count) (20 * (queueLimit - count)) s && zeroAt (a + laneRestAt) laneRest s)
+behind-at s a count k =
+    let wide : a + 320 - (a + 24 + 4 + 20 * count) ≡ 20 * (queueLimit - count) + laneRest = omega arith in
+    let rest : a + 24 + 4 + 20 * count + 20 * (queueLimit - count) ≡ a + laneRestAt = omega arith in
+    rw (wide, ← rest) (zero-parts (a + 24 + 4 + 20 * count) (20 * (queueLimit - count)) laneRest s)
 
 -- ---- empty queues
 

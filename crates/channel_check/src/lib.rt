@@ -3,6 +3,7 @@ ghost use mathlib.Core.Path.{_≡_};
 ghost use mathlib.Core.Bool.{not, _&&_, _||_};
 ghost use mathlib.Core.List.{_∷_};
 ghost use Prim.Native.Nat.{_+_, _-_, _*_, _≤_, _<_, max};
+ghost use lib.Dec.{eqb};
 ghost use lib.ListN.{length};
 ghost use Rattle.plan.specs.Plan.{planOf, planNodes, planChannels, channelAt};
 ghost use Rattle.rules.specs.Lists.{greatestOf};
@@ -84,6 +85,21 @@ fn most_heard(s: &[u8], b: usize, heard: usize) -> u32
     most
 }
 
+// The words of parents that the sender does not have are 0.
+fn unheard_zero(s: &[u8], b: usize, heard: usize) -> bool
+    requires { ⌜ OnChannel (now s) b × (heard ≤ 4) ⌝ }
+    ensures { λ r. ⌜ r ≡ zeroAt (blockAt b + heardAt + 4 * heard) (4 * (parentLimit - heard)) (now (s .entry)) ⌝ }
+{
+    let at = 53_248 + 320 * b;
+    let mut seen: u32 = 0;
+    let mut i = heard;
+    while i < 4 {
+        seen = seen | bytes::get32(s, at + (8 + 4 * i));
+        i += 1;
+    }
+    seen == 0
+}
+
 // The bytes that a channel's block leaves unused are 0: those of further parents, and all behind the queue.
 fn zeros_ok(s: &[u8], b: usize, heard: usize, count: u32) -> bool
     requires { ⌜ QueueFits (now s) b count × (heard ≤ 4) ⌝ }
@@ -92,9 +108,9 @@ fn zeros_ok(s: &[u8], b: usize, heard: usize, count: u32) -> bool
         && zeroAt (blockAt b + laneRestAt) laneRest (now (s .entry)))) ⌝ }
 {
     let at = 53_248 + 320 * b;
-    let heards = bytes::all_zero(s, at + 8 + 4 * heard, at + 24);
+    let unheard = unheard_zero(s, b, heard);
     let rest = bytes::all_zero(s, at + 24 + 4 + 20 * wide(count), at + 320);
-    heards & rest
+    unheard & rest
 }
 
 // No two crash marks are joined, and nothing stands on a channel that its ends' status forbids.
@@ -120,29 +136,29 @@ fn ends_ok(
     !joined & !held
 }
 
-// What node n made something from: nothing, or a parent's message.
+// What node n made something from: nothing, or a parent's message. A time stands with a name only.
 fn named_ok(s: &[u8], t: &[u8; 156], steps: u32, n: usize, from: usize, time: u32) -> bool
     requires { ⌜ Counted (now s) (now t) steps ⌝ }
-    ensures { λ r. ⌜ r ≡ namedRight (lineOf (now (s .entry))) n (originFrom from time) ⌝ }
+    ensures { λ r. ⌜ r ≡ ((not (eqb from 0) || eqb time 0) && namedRight (lineOf (now (s .entry))) n (originFrom from time)) ⌝ }
 {
     if from == 0 {
-        return table::source_in(s, t, n);
+        return (time == 0) & table::source_in(s, t, n);
     }
     let code = table::joined(s, t, from - 1, n);
     ((0 < time) & (time <= steps)) & (code != 255)
 }
 
-// A message that node n sent.
+// A message that node n sent: record, time, what it was made from, three bytes unused.
 fn message_ok(s: &[u8], t: &[u8; 156], steps: u32, n: usize, at: usize) -> bool
     requires { ⌜ Counted (now s) (now t) steps × (at + 20 ≤ length (now s)) ⌝ }
     ensures { λ r. ⌜ r ≡ messageOk (now (s .entry)) n at ⌝ }
 {
-    let from = look::index(bytes::get8(s, at + 12));
+    let from = look::index(s[at + 12]);
     let time = bytes::get32(s, at + 13);
     let what = origin::record_ok(s, at);
     let named = named_ok(s, t, steps, n, from, time);
-    let zeros = bytes::all_zero(s, at + 17, at + 20);
-    what & named & ((from != 0) | (time == 0)) & zeros
+    let unused = (s[at + 17] | s[at + 18] | s[at + 19]) == 0;
+    what & named & unused
 }
 
 // A channel's messages, so many. Where no end is down, their times rise strictly from above what was taken to the mark.

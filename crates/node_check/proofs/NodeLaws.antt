@@ -7,12 +7,14 @@ use native.Mathlib.Nat.{add-zero}
 use native.Mathlib.Omega.{arith}
 use borrow.Author.Tests.{le-leb, lt-leb, eq-eqb, ne-eqb}
 use lib.Dec.{leb, ltb, eqb, eqb·suc-zero}
+use lib.Bits.{bitOr}
 use lib.ListN.{length, getD, set}
 use lib.Seq.{ext-getD}
 use Rattle.plan.specs.Plan.{planOf, planNodes, isSource, isSink}
 use Rattle.rules.specs.Lists.{allOf, isEmpty}
 use Rattle.rules.specs.Line.{logLimit, heldLimit, targetLimit, Entry, Held, Target, Node, Line, nodeAt, fed, isUp}
 use Rattle.rules.specs.Damaged.{markMissing, markOnEnd, nodeHolds, holdsByStatus}
+use Rattle.rules.specs.Replay.{passedOn}
 use Rattle.rules.specs.Step.{replaying}
 use Rattle.state.specs.Sizes.{stepsAt, pageAt, countSize, timeAt, logAt, entrySize, heldAt, heldSize, targetsAt, targetSize, nodeRestAt, nodeRest}
 use Rattle.state.specs.Node.{statusOf, crashOf}
@@ -22,12 +24,12 @@ use Rattle.state.proofs.InPlace.{Counted as Few, line-plan, line-steps}
 use Rattle.state.proofs.OffsetLaws.{line-status, line-crashed, line-time, line-log-count, line-log-at, line-held-count, line-held-at, line-targets-count, line-target-at}
 use Rattle.items.specs.Items.{timesRise, entryRight, logRight, heldRise, noneHeld, heldRight, heldAllRight, targetRight, countsRight, statusRight, replayRight, nodeRight}
 use Rattle.buffer.specs.Exact.{zeroAt, entryExact, heldExact, targetExact, slotsExact, listExact, pageExact}
-use Rattle.node_check.specs.NodeCheck.{headExact, holdsNothing, nodePlain}
+use Rattle.node_check.specs.NodeCheck.{headExact, entryPlain, entryMade, heldPlain, heldMade, holdsNothing, nodePlain}
 use Rattle.buffer.specs.Ready.{Ready}
 use Rattle.buffer.specs.Table.{Table}
-use Rattle.buffer.specs.Check.{Counted, PageOf, entryIn, heldIn, targetIn}
+use Rattle.buffer.specs.Check.{Counted, PageOf, recordIn, entryIn, heldIn, targetIn}
 use Rattle.node_check.proofs.SlotLaws.{swap-middle, slotsIn, passes, length-slots, slots-at, slotsPass, slots-pass, pass-more}
-use Rattle.node_check.proofs.PieceBytes.{entry-in, held-in, two-zero}
+use Rattle.node_check.proofs.PieceBytes.{entry-in, held-in, entry-ordered, held-ordered, two-zero}
 
 pub few-of : {s table : List ℕ} {steps : ℕ} → Counted s table steps → Few s
 few-of h = record { nodes = h .ready .nodes; channels = h .ready .channels }
@@ -82,12 +84,21 @@ module _ (s table : List ℕ) (steps n at : ℕ) (page : PageOf s table steps n 
   time-in t e = e ∙ rw (page .start) (sym (line-time s (few-of (page .counted)) n (page .within)))
 
   -- One entry more.
-  pub entries-more : (ok entry : Bool) (last a k time top : ℕ) → time ≡ wordAt (a + 8) s → top ≡ nodeIn .time → entry ≡ (entryExact a s && entryRight lineIn n (entryIn a s))
-      → (ok && logPass s n last a (suc k)) ≡ ((ok && (entry && (ltb last time && leb time top))) && logPass s n time (a + entrySize) k)
-  entries-more ok entry last a k time top e f g =
-      let same : entryIn a s .time ≡ time = ap (λ (x : Entry). x .time) (entry-in a s) ∙ sym e in
-      pass-more entryIn entrySize s entryExact (entryPasses lineIn n (nodeIn .time)) (entryNext lineIn n (nodeIn .time)) ok last a k
-      ∙ rw (same, f, g) (ap (λ (t : Bool). (ok && t) && logPass s n time (a + entrySize) k) (sym (and-assoc (entryExact a s) (entryRight lineIn n (entryIn a s)) (ltb last time && leb time (nodeIn .time)))))
+  module _ (last a k time top : ℕ) (e : time ≡ wordAt (a + 8) s) (f : top ≡ nodeIn .time) where
+    entries-turn : logPass s n last a (suc k) ≡ (((entryPlain a s && (ltb last time && leb time top)) && entryMade n a s) && logPass s n time (a + entrySize) k)
+    entries-turn =
+        let same : entryIn a s .time ≡ time = ap (λ (x : Entry). x .time) (entry-in a s) ∙ sym e in
+        rw (same, f) (ap (λ (t : Bool). t && logPass s n time (a + entrySize) k) (entry-ordered n a s (ltb last time && leb time (nodeIn .time))))
+
+    pub entry-bare : (plain : Bool) → plain ≡ entryPlain a s → (plain && (ltb last time && leb time top)) ≡ false → logPass s n last a (suc k) ≡ false
+    entry-bare plain g h = entries-turn ∙ rw (← g, h) refl
+
+    module _ (plain made : Bool) (g : plain ≡ entryPlain a s) (h : (plain && (ltb last time && leb time top)) ≡ true) (i : made ≡ entryMade n a s) where
+      pub entry-unmade : made ≡ false → logPass s n last a (suc k) ≡ false
+      entry-unmade m = entries-turn ∙ rw (← g, h, ← i, m) refl
+
+      pub entry-more : made ≡ true → logPass s n last a (suc k) ≡ logPass s n time (a + entrySize) k
+      entry-more m = entries-turn ∙ rw (← g, h, ← i, m) refl
 
   module _ (count : ℕ) (is : count ≡ wordAt (pageAt n + logAt) s) (small : count ≤ logLimit) where
     log-slots : nodeIn .log ≡ slotsIn entryIn entrySize (pageAt n + logAt + countSize) count s
@@ -128,13 +139,22 @@ heldPass s n last a k = slotsPass heldIn heldSize s heldExact (heldPasses (lineO
 
 module _ (s table : List ℕ) (steps n at : ℕ) (page : PageOf s table steps n at) where
   -- One held record more.
-  pub held-more : (ok one : Bool) (last after : List ℕ) (a k sender time row : ℕ) → sender ≡ getD s (a + 8) 0 → time ≡ wordAt (a + 9) s → row ≡ getD last sender 0 → after ≡ set last sender time
-      → one ≡ (heldExact a s && heldRight (lineOf s) n (heldIn a s)) → (ok && heldPass s n last a (suc k)) ≡ ((ok && (one && ltb row time)) && heldPass s n after (a + heldSize) k)
-  held-more ok one last after a k sender time row d e f h g =
-      let from : heldIn a s .sender ≡ sender = ap (λ (x : Held). x .sender) (held-in a s) ∙ sym d in
-      let same : heldIn a s .time ≡ time = ap (λ (x : Held). x .time) (held-in a s) ∙ sym e in
-      pass-more heldIn heldSize s heldExact (heldPasses (lineOf s) n) (heldNext (lineOf s) n) ok last a k
-      ∙ rw (from, same, f, g, h) (ap (λ (t : Bool). (ok && t) && heldPass s n (set last sender time) (a + heldSize) k) (sym (and-assoc (heldExact a s) (heldRight (lineOf s) n (heldIn a s)) (ltb (getD last sender 0) time))))
+  module _ (last : List ℕ) (a k sender time row : ℕ) (d : sender ≡ getD s (a + 8) 0) (e : time ≡ wordAt (a + 9) s) (f : row ≡ getD last sender 0) where
+    held-turn : heldPass s n last a (suc k) ≡ (((heldPlain a s && ltb row time) && (heldMade n a s && passedOn (planOf s) n (recordIn a s))) && heldPass s n (set last sender time) (a + heldSize) k)
+    held-turn =
+        let from : heldIn a s .sender ≡ sender = ap (λ (x : Held). x .sender) (held-in a s) ∙ sym d in
+        let same : heldIn a s .time ≡ time = ap (λ (x : Held). x .time) (held-in a s) ∙ sym e in
+        rw (from, same, f, ← line-plan s) (ap (λ (t : Bool). t && heldPass s n (set last sender time) (a + heldSize) k) (held-ordered n a s (ltb (getD last sender 0) time)))
+
+    pub held-bare : (plain : Bool) → plain ≡ heldPlain a s → (plain && ltb row time) ≡ false → heldPass s n last a (suc k) ≡ false
+    held-bare plain g h = held-turn ∙ rw (← g, h) refl
+
+    module _ (plain made passed : Bool) (g : plain ≡ heldPlain a s) (h : (plain && ltb row time) ≡ true) (i : made ≡ heldMade n a s) (j : passed ≡ passedOn (planOf s) n (recordIn a s)) where
+      pub held-unmade : (made && passed) ≡ false → heldPass s n last a (suc k) ≡ false
+      held-unmade m = held-turn ∙ rw (← g, h, ← i, ← j, m) refl
+
+      pub held-more : (after : List ℕ) → after ≡ set last sender time → (made && passed) ≡ true → heldPass s n last a (suc k) ≡ heldPass s n after (a + heldSize) k
+      held-more after x m = held-turn ∙ rw (← g, h, ← i, ← j, m, x) refl
 
   module _ (count : ℕ) (is : count ≡ wordAt (pageAt n + heldAt) s) (small : count ≤ heldLimit) where
     held-slots : nodeAt (lineOf s) n .held ≡ slotsIn heldIn heldSize (pageAt n + heldAt + countSize) count s
@@ -250,7 +270,7 @@ module _ (s table : List ℕ) (steps n at : ℕ) (page : PageOf s table steps n 
   at-page : (k v : ℕ) → v ≡ wordAt (at + k) s → v ≡ wordAt (pageAt n + k) s
   at-page k v e = rw (page .start) at e
 
-  pub head-tested : (time : ℕ) → time ≡ wordAt (at + timeAt) s → (leb (getD s at 0) 2 && leb (getD s (at + 1) 0) 1 && (eqb (getD s (at + 2) 0) 0 && eqb (getD s (at + 3) 0) 0) && leb time steps) ≡ (headExact (pageAt n) s && leb (x .time) (lineOf s .steps))
+  pub head-tested : (time : ℕ) → time ≡ wordAt (at + timeAt) s → (leb (getD s at 0) 2 && leb (getD s (at + 1) 0) 1 && eqb (bitOr (getD s (at + 2) 0) (getD s (at + 3) 0)) 0 && leb time steps) ≡ (headExact (pageAt n) s && leb (x .time) (lineOf s .steps))
   head-tested time e =
       let same : time ≡ x .time = time-in s table steps n at page time e in
       let next : at + 3 ≡ at + 2 + 1 = omega arith in

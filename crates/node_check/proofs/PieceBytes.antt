@@ -1,12 +1,13 @@
 -- What stands in a slot, byte by byte.
 use Prim.Native.Nat.{ℕ, _+_, _-_, suc, _≤_, _<_}
-use mathlib.Core.Path.{_≡_, refl, sym, ap, ap₂, _∙_}
-use mathlib.Core.Bool.{Bool, true, false, not, _&&_, _||_, and-true, and-assoc, or-false}
+use mathlib.Core.Path.{_≡_, refl, sym, ap, _∙_}
+use mathlib.Core.Bool.{Bool, true, false, not, _&&_, _||_, and-true, and-false, and-assoc, or-false}
 use mathlib.Core.List.{List, [], _∷_}
 use native.Mathlib.Nat.{add-zero}
 use native.Mathlib.Omega.{arith}
 use borrow.Author.Tests.{eq-eqb, ne-eqb}
 use lib.Dec.{lit≤, lit<, leb, eqb}
+use lib.Bits.{bitOr}
 use lib.ListN.{length, getD, take, drop, length-drop}
 use lib.Seq.{take-take, getD-drop}
 use Rattle.plan.specs.Layout.{spelled}
@@ -18,37 +19,43 @@ use Rattle.plan.specs.Channel.{takes}
 use Rattle.plan.specs.Mask.{taking}
 use Rattle.plan.proofs.PlanLaws.{channel-count}
 use Rattle.rules.specs.Lists.{isEmpty}
-use Rattle.rules.specs.Line.{Line, made}
+use Rattle.rules.specs.Line.{Entry, Held, Line, made}
 use Rattle.rules.specs.Replay.{passedOn}
 use Rattle.state.specs.Pieces.{originFrom, originLayout}
+use Rattle.state.specs.State.{lineOf}
 use Rattle.state.specs.Right.{wordAt}
 use Rattle.state.proofs.ReadLaws.{part-part, byte-part, origin-read, entry-read, held-read, target-read}
 use Rattle.items.specs.Items.{ifFound, fromSender, recordRight, originRight, entryRight, heldRight, targetRight}
-use Rattle.buffer.specs.Exact.{zeroAt, recordExact, entryExact, heldExact, targetExact}
+use Rattle.buffer.specs.Exact.{zeroAt, recordExact, timeNamed, originExact, entryExact, heldExact, targetExact}
 use Rattle.buffer.specs.Zero.{zeroBytes}
 use Rattle.buffer.specs.Look.{channelFrom}
 use Rattle.buffer.proofs.LookLaws.{numbersOn, numbers-turn, numbers-end, sender-byte}
 use Rattle.buffer.specs.Check.{recordIn, entryIn, heldIn, targetIn}
-use Rattle.buffer.proofs.BytesLaws.{zero-test}
+use Rattle.buffer.proofs.BytesLaws.{or-zero, zero-test}
+use Rattle.node_check.specs.NodeCheck.{entryPlain, entryMade, heldPlain, heldMade}
 
 -- ---- zero bytes
 
-first-two : (s : List ℕ) → 2 ≤ length s → zeroBytes (take 2 s) ≡ (eqb (getD s 0 0) 0 && eqb (getD s 1 0) 0)
+-- An or is tested once.
+or-test : (a b : ℕ) → eqb (bitOr a b) 0 ≡ (eqb 0 a && eqb 0 b)
+or-test a b = zero-test (bitOr a b) ∙ or-zero a b
+
+first-two : (s : List ℕ) → 2 ≤ length s → zeroBytes (take 2 s) ≡ eqb (bitOr (getD s 0 0) (getD s 1 0)) 0
 first-two [] h = let no : ⊥ = omega arith in absurd no
 first-two (a ∷ []) h = let no : ⊥ = omega arith in absurd no
-first-two (a ∷ b ∷ s) h = ap (λ (t : Bool). eqb 0 a && t) (and-true (eqb 0 b)) ∙ ap₂ _&&_ (sym (zero-test a)) (sym (zero-test b))
+first-two (a ∷ b ∷ s) h = ap (λ (t : Bool). eqb 0 a && t) (and-true (eqb 0 b)) ∙ sym (or-test a b)
 
-pub two-zero : (a : ℕ) (s : List ℕ) → a + 2 ≤ length s → zeroAt a 2 s ≡ (eqb (getD s a 0) 0 && eqb (getD s (a + 1) 0) 0)
+pub two-zero : (a : ℕ) (s : List ℕ) → a + 2 ≤ length s → zeroAt a 2 s ≡ eqb (bitOr (getD s a 0) (getD s (a + 1) 0)) 0
 two-zero a s h = first-two (drop a s) (simp length-drop (omega arith)) ∙ simp (getD-drop, add-zero)
 
-first-three : (s : List ℕ) → 3 ≤ length s → zeroBytes (take 3 s) ≡ (eqb (getD s 0 0) 0 && eqb (getD s 1 0) 0 && eqb (getD s 2 0) 0)
+first-three : (s : List ℕ) → 3 ≤ length s → zeroBytes (take 3 s) ≡ eqb (bitOr (bitOr (getD s 0 0) (getD s 1 0)) (getD s 2 0)) 0
 first-three [] h = let no : ⊥ = omega arith in absurd no
 first-three (a ∷ []) h = let no : ⊥ = omega arith in absurd no
 first-three (a ∷ b ∷ []) h = let no : ⊥ = omega arith in absurd no
 first-three (a ∷ b ∷ c ∷ s) h =
-    ap (λ (t : Bool). eqb 0 a && (eqb 0 b && t)) (and-true (eqb 0 c)) ∙ sym (and-assoc (eqb 0 a) (eqb 0 b) (eqb 0 c)) ∙ ap₂ _&&_ (ap₂ _&&_ (sym (zero-test a)) (sym (zero-test b))) (sym (zero-test c))
+    ap (λ (t : Bool). eqb 0 a && (eqb 0 b && t)) (and-true (eqb 0 c)) ∙ sym (and-assoc (eqb 0 a) (eqb 0 b) (eqb 0 c)) ∙ sym (or-test (bitOr a b) c ∙ ap (λ (t : Bool). t && eqb 0 c) (or-zero a b))
 
-pub three-zero : (a : ℕ) (s : List ℕ) → a + 3 ≤ length s → zeroAt a 3 s ≡ (eqb (getD s a 0) 0 && eqb (getD s (a + 1) 0) 0 && eqb (getD s (a + 2) 0) 0)
+pub three-zero : (a : ℕ) (s : List ℕ) → a + 3 ≤ length s → zeroAt a 3 s ≡ eqb (bitOr (bitOr (getD s a 0) (getD s (a + 1) 0)) (getD s (a + 2) 0)) 0
 three-zero a s h = first-three (drop a s) (simp length-drop (omega arith)) ∙ simp (getD-drop, add-zero)
 
 -- Bytes from a place up to another.
@@ -90,71 +97,59 @@ module _ (a : ℕ) (s : List ℕ) where
       target-read (take 12 (drop a s))
       ∙ (λ i. record { time = spelled 0 (take-take 4 12 (drop a s) (lit≤ tt) i); parent = byte-part 8 12 a s (lit< tt) i; parentTime = spelled 0 (part-part 4 4 12 a s (lit≤ tt) i) })
 
--- ---- a log entry
+-- ---- log entries and held records
 
-entry-parts : (r q b z w o : Bool) → ((((r && w) && (q && b)) && z) && o) ≡ ((((r && q) && b) && z) && (w && o))
-entry-parts true true true true true o = refl
-entry-parts true true true true false o = refl
-entry-parts true true true false true o = refl
-entry-parts true true true false false o = refl
-entry-parts true true false z true o = refl
-entry-parts true true false z false o = refl
-entry-parts true false b z true o = refl
-entry-parts true false b z false o = refl
-entry-parts false q b z w o = refl
+-- A record and two bytes unused, at the end of a slot.
+pub plain-tested : (k after a : ℕ) (s : List ℕ) (what : Bool) → after ≡ a + k + 1 → a + k + 2 ≤ length s → what ≡ (recordExact a s && recordRight (recordIn a s))
+    → (what && eqb (bitOr (getD s (a + k) 0) (getD s after 0)) 0) ≡ (recordExact a s && recordRight (recordIn a s) && zeroAt (a + k) 2 s)
+plain-tested k after a s what next long e = rw (e, next, ← two-zero (a + k) s long) refl
 
-module _ (l : Line) (n a : ℕ) (s : List ℕ) (long : a + 24 ≤ length s) (q t e u : ℕ) (sender : q ≡ getD s (a + 12) 0) (time : t ≡ wordAt (a + 13) s) (earlier : e ≡ getD s (a + 17) 0) (since : u ≡ wordAt (a + 18) s) where
-  entry-right : entryRight l n (entryIn a s) ≡ (recordRight (recordIn a s) && originRight l n (originFrom q t) (originFrom e u))
-  unfolding entryRight
-  entry-right =
+module _ (n a : ℕ) (s : List ℕ) where
+  pub entry-made : (q t e u : ℕ) → q ≡ getD s (a + 12) 0 → t ≡ wordAt (a + 13) s → e ≡ getD s (a + 17) 0 → u ≡ wordAt (a + 18) s
+      → ((timeNamed q t && timeNamed e u) && originRight (lineOf s) n (originFrom q t) (originFrom e u)) ≡ entryMade n a s
+  unfolding entryMade
+  entry-made q t e u f g h i =
       let first : a + 13 ≡ a + 12 + 1 = omega arith in
       let second : a + 18 ≡ a + 17 + 1 = omega arith in
-      rw (sender, time, earlier, since, first, second) (ap (entryRight l n) (entry-in a s))
+      rw (f, g, h, i, first, second)
+      (ap (λ (x : Entry). (originExact (a + 12) s && originExact (a + 17) s) && originRight (lineOf s) n (x .origin) (x .before)) (sym (entry-in a s)))
 
-  entry-exact : entryExact a s ≡ (recordExact a s && (not (eqb q 0) || eqb t 0) && (not (eqb e 0) || eqb u 0) && (eqb (getD s (a + 22) 0) 0 && eqb (getD s (a + 23) 0) 0))
-  unfolding entryExact
-  entry-exact =
-      let first : a + 13 ≡ a + 12 + 1 = omega arith in
-      let second : a + 18 ≡ a + 17 + 1 = omega arith in
-      let third : a + 23 ≡ a + 22 + 1 = omega arith in
-      rw (sender, time, earlier, since, first, second, third, ← two-zero (a + 22) s (omega arith)) refl
-
-  pub entry-tested : (what origin : Bool) → what ≡ (recordExact a s && recordRight (recordIn a s)) → origin ≡ originRight l n (originFrom q t) (originFrom e u)
-      → (what && ((not (eqb q 0) || eqb t 0) && (not (eqb e 0) || eqb u 0)) && (eqb (getD s (a + 22) 0) 0 && eqb (getD s (a + 23) 0) 0) && origin) ≡ (entryExact a s && entryRight l n (entryIn a s))
-  entry-tested what origin f g =
-      rw (f, g, entry-right, entry-exact)
-      (entry-parts (recordExact a s) (not (eqb q 0) || eqb t 0) (not (eqb e 0) || eqb u 0) (eqb (getD s (a + 22) 0) 0 && eqb (getD s (a + 23) 0) 0) (recordRight (recordIn a s)) (originRight l n (originFrom q t) (originFrom e u)))
-
--- ---- a held record
-
-held-parts : (r q z w o p : Bool) → (((((r && w) && q) && z) && o) && p) ≡ (((r && q) && z) && ((w && o) && p))
-held-parts true true true true o p = refl
-held-parts true true true false o p = refl
-held-parts true true false true o p = refl
-held-parts true true false false o p = refl
-held-parts true false z true o p = refl
-held-parts true false z false o p = refl
-held-parts false q z w o p = refl
-
-module _ (l : Line) (n a : ℕ) (s : List ℕ) (long : a + 20 ≤ length s) (q t e u : ℕ) (sender : q ≡ getD s (a + 8) 0) (time : t ≡ wordAt (a + 9) s) (earlier : e ≡ getD s (a + 13) 0) (since : u ≡ wordAt (a + 14) s) where
-  held-right : heldRight l n (heldIn a s) ≡ (recordRight (recordIn a s) && originRight l n (made q t) (originFrom e u) && passedOn (l .plan) n (recordIn a s))
-  unfolding heldRight
-  held-right =
+  pub held-made : (q t e u : ℕ) → q ≡ getD s (a + 8) 0 → t ≡ wordAt (a + 9) s → e ≡ getD s (a + 13) 0 → u ≡ wordAt (a + 14) s
+      → (timeNamed e u && originRight (lineOf s) n (made q t) (originFrom e u)) ≡ heldMade n a s
+  unfolding heldMade
+  held-made q t e u f g h i =
       let first : a + 14 ≡ a + 13 + 1 = omega arith in
-      rw (sender, time, earlier, since, first) (ap (heldRight l n) (held-in a s))
+      rw (f, g, h, i, first)
+      (ap (λ (x : Held). originExact (a + 13) s && originRight (lineOf s) n (made (x .sender) (x .time)) (x .before)) (sym (held-in a s)))
 
-  held-exact : heldExact a s ≡ (recordExact a s && (not (eqb e 0) || eqb u 0) && (eqb (getD s (a + 18) 0) 0 && eqb (getD s (a + 19) 0) 0))
-  unfolding heldExact
-  held-exact =
-      let first : a + 14 ≡ a + 13 + 1 = omega arith in
-      let second : a + 19 ≡ a + 18 + 1 = omega arith in
-      rw (earlier, since, first, second, ← two-zero (a + 18) s (omega arith)) refl
+-- What is asked of a slot, in the order in which it is tested.
+entry-parts : (r o z w b t : Bool) → (((r && o) && z) && ((w && b) && t)) ≡ ((((r && w) && z) && t) && (o && b))
+entry-parts true true true true true t = sym (and-true t)
+entry-parts true true true true false t = sym (and-false t)
+entry-parts true true true false b t = refl
+entry-parts true true false true b t = refl
+entry-parts true true false false b t = refl
+entry-parts true false z w b t = sym (and-false ((w && z) && t))
+entry-parts false o z w b t = refl
 
-  pub held-tested : (what origin passed : Bool) → what ≡ (recordExact a s && recordRight (recordIn a s)) → origin ≡ originRight l n (made q t) (originFrom e u) → passed ≡ passedOn (l .plan) n (recordIn a s)
-      → (what && (not (eqb e 0) || eqb u 0) && (eqb (getD s (a + 18) 0) 0 && eqb (getD s (a + 19) 0) 0) && origin && passed) ≡ (heldExact a s && heldRight l n (heldIn a s))
-  held-tested what origin passed f g h =
-      rw (f, g, h, held-right, held-exact)
-      (held-parts (recordExact a s) (not (eqb e 0) || eqb u 0) (eqb (getD s (a + 18) 0) 0 && eqb (getD s (a + 19) 0) 0) (recordRight (recordIn a s)) (originRight l n (made q t) (originFrom e u)) (passedOn (l .plan) n (recordIn a s)))
+held-parts : (r o z w b p t : Bool) → (((r && o) && z) && (((w && b) && p) && t)) ≡ ((((r && w) && z) && t) && ((o && b) && p))
+held-parts r o z w b p t =
+    ap (λ (v : Bool). ((r && o) && z) && v) (ap (λ (v : Bool). v && t) (and-assoc w b p))
+    ∙ entry-parts r o z w (b && p) t
+    ∙ ap (λ (v : Bool). (((r && w) && z) && t) && v) (sym (and-assoc o b p))
+
+pub entry-ordered : (n a : ℕ) (s : List ℕ) (rises : Bool) → (entryExact a s && (entryRight (lineOf s) n (entryIn a s) && rises)) ≡ ((entryPlain a s && rises) && entryMade n a s)
+unfolding entryExact entryRight entryPlain entryMade
+entry-ordered n a s rises =
+    ap (λ (x : Record). ((recordExact a s && originExact (a + 12) s && originExact (a + 17) s && zeroAt (a + 22) 2 s) && ((recordRight x && originRight (lineOf s) n (entryIn a s .origin) (entryIn a s .before)) && rises))) (ap (λ (x : Entry). x .what) (entry-in a s))
+    ∙ ap (λ (v : Bool). ((v && zeroAt (a + 22) 2 s) && ((recordRight (recordIn a s) && originRight (lineOf s) n (entryIn a s .origin) (entryIn a s .before)) && rises))) (and-assoc (recordExact a s) (originExact (a + 12) s) (originExact (a + 17) s))
+    ∙ entry-parts (recordExact a s) (originExact (a + 12) s && originExact (a + 17) s) (zeroAt (a + 22) 2 s) (recordRight (recordIn a s)) (originRight (lineOf s) n (entryIn a s .origin) (entryIn a s .before)) rises
+
+pub held-ordered : (n a : ℕ) (s : List ℕ) (rises : Bool) → (heldExact a s && (heldRight (lineOf s) n (heldIn a s) && rises)) ≡ ((heldPlain a s && rises) && (heldMade n a s && passedOn (lineOf s .plan) n (recordIn a s)))
+unfolding heldExact heldRight heldPlain heldMade
+held-ordered n a s rises =
+    ap (λ (x : Record). ((recordExact a s && originExact (a + 13) s && zeroAt (a + 18) 2 s) && ((recordRight x && originRight (lineOf s) n (made (heldIn a s .sender) (heldIn a s .time)) (heldIn a s .before) && passedOn (lineOf s .plan) n x) && rises))) (ap (λ (x : Held). x .what) (held-in a s))
+    ∙ held-parts (recordExact a s) (originExact (a + 13) s) (zeroAt (a + 18) 2 s) (recordRight (recordIn a s)) (originRight (lineOf s) n (made (heldIn a s .sender) (heldIn a s .time)) (heldIn a s .before)) (passedOn (lineOf s .plan) n (recordIn a s)) rises
 
 -- Whether a channel takes a record, one channel at a time: of those from b on.
 abbrev pub takesOn : Plan → ℕ → Record → ℕ → Bool
@@ -195,7 +190,7 @@ module _ (l : Line) (n a : ℕ) (s : List ℕ) (long : a + 12 ≤ length s) (t u
   unfolding targetRight
   target-right found e = rw (time, other, e, parent) (ap (targetRight l n) (target-in a s))
 
-  target-exact : targetExact a s ≡ (eqb (getD s (a + 9) 0) 0 && eqb (getD s (a + 10) 0) 0 && eqb (getD s (a + 11) 0) 0)
+  target-exact : targetExact a s ≡ eqb (bitOr (bitOr (getD s (a + 9) 0) (getD s (a + 10) 0)) (getD s (a + 11) 0)) 0
   unfolding targetExact
   target-exact =
       let first : a + 10 ≡ a + 9 + 1 = omega arith in
@@ -203,5 +198,5 @@ module _ (l : Line) (n a : ℕ) (s : List ℕ) (long : a + 12 ≤ length s) (t u
       rw (first, second) (three-zero (a + 9) s (omega arith))
 
   pub target-tested : (found : Bool) → found ≡ ifFound (fromSender (l .plan) q (entering (l .plan) n)) (λ (b : ℕ). true)
-      → ((eqb (getD s (a + 9) 0) 0 && eqb (getD s (a + 10) 0) 0 && eqb (getD s (a + 11) 0) 0) && (leb t (l .steps) && leb u (l .steps) && found)) ≡ (targetExact a s && targetRight l n (targetIn a s))
+      → (eqb (bitOr (bitOr (getD s (a + 9) 0) (getD s (a + 10) 0)) (getD s (a + 11) 0)) 0 && (leb t (l .steps) && leb u (l .steps) && found)) ≡ (targetExact a s && targetRight l n (targetIn a s))
   target-tested found e = rw (target-right found e, target-exact) refl

@@ -5,10 +5,12 @@ use mathlib.Core.List.{List}
 use lib.ListN.{getD}
 use lib.Dec.{leb, eqb}
 use Rattle.rules.specs.Lists.{allOf}
-use Rattle.rules.specs.Line.{Line, nodeAt}
+use Rattle.rules.specs.Line.{Line, nodeAt, made}
 use Rattle.state.specs.Sizes.{statusAt, crashedAt}
-use Rattle.buffer.specs.Exact.{zeroAt}
-use Rattle.items.specs.Items.{countsRight, logRight, heldAllRight, targetRight, statusRight}
+use Rattle.state.specs.State.{lineOf}
+use Rattle.buffer.specs.Exact.{zeroAt, recordExact, originExact}
+use Rattle.buffer.specs.Check.{recordIn, entryIn, heldIn}
+use Rattle.items.specs.Items.{recordRight, originRight, countsRight, logRight, heldAllRight, targetRight, statusRight}
 
 unfoldable pub nodePlain : Line → ℕ → Bool
 unfolding countsRight logRight heldAllRight targetRight statusRight
@@ -19,6 +21,22 @@ nodePlain l n =
 -- The head of a page at a: status, crash mark, two bytes unused.
 abbrev pub headExact : ℕ → List ℕ → Bool
 headExact a s = leb (getD s (a + statusAt) 0) 2 && leb (getD s (a + crashedAt) 0) 1 && zeroAt (a + 2) 2 s
+
+-- A log entry at a: its record and two bytes unused; what it was made from.
+unfoldable pub entryPlain : ℕ → List ℕ → Bool
+entryPlain a s = recordExact a s && recordRight (recordIn a s) && zeroAt (a + 22) 2 s
+
+unfoldable pub entryMade : ℕ → ℕ → List ℕ → Bool
+unfolding originRight
+entryMade n a s = originExact (a + 12) s && originExact (a + 17) s && originRight (lineOf s) n (entryIn a s .origin) (entryIn a s .before)
+
+-- The same of a held record.
+unfoldable pub heldPlain : ℕ → List ℕ → Bool
+heldPlain a s = recordExact a s && recordRight (recordIn a s) && zeroAt (a + 18) 2 s
+
+unfoldable pub heldMade : ℕ → ℕ → List ℕ → Bool
+unfolding originRight
+heldMade n a s = originExact (a + 13) s && originRight (lineOf s) n (made (heldIn a s .sender) (heldIn a s .time)) (heldIn a s .before)
 
 -- What a node of a status may not hold is not there: by the status, the time and the counts of log, held records and targets.
 abbrev pub holdsNothing : ℕ → ℕ → ℕ → ℕ → ℕ → Bool

@@ -11,10 +11,10 @@ ghost use Rattle.rules.specs.Replay.{passedOn};
 ghost use Rattle.state.specs.Sizes.{pageAt, countSize, logAt, entrySize, heldAt, heldSize, targetsAt, targetSize, stepsAt};
 ghost use Rattle.state.specs.State.{lineOf};
 ghost use Rattle.state.specs.Right.{wordAt};
-ghost use Rattle.items.specs.Items.{entryRight, logRight, heldRight, heldAllRight, targetRight, statusRight};
+ghost use Rattle.items.specs.Items.{logRight, heldAllRight, targetRight, statusRight};
 ghost use Rattle.buffer.specs.Exact.{entryExact, heldExact, targetExact, slotsExact, listExact, pageExact};
-ghost use Rattle.node_check.specs.NodeCheck.{headExact, holdsNothing, nodePlain};
-ghost use Rattle.buffer.specs.Check.{Counted, PageOf, recordIn, entryIn, heldIn, targetIn};
+ghost use Rattle.node_check.specs.NodeCheck.{headExact, entryPlain, entryMade, heldPlain, heldMade, holdsNothing, nodePlain};
+ghost use Rattle.buffer.specs.Check.{Counted, PageOf, recordIn, targetIn};
 ghost use Rattle.buffer.specs.Ready.{Ready};
 ghost use Rattle.buffer.specs.Table.{Table};
 use buffer::Line;
@@ -23,20 +23,25 @@ use buffer::look;
 use buffer::origin;
 use buffer::table;
 
-// A log entry: record, time, what it was made from and what that was made from, two bytes unused.
-fn entry_ok(s: &[u8], t: &[u8; 156], steps: u32, n: usize, at: usize) -> bool
+// A log entry's record and its two unused bytes.
+fn entry_plain(s: &[u8], at: usize) -> bool
+    requires { ⌜ at + 24 ≤ length (now s) ⌝ }
+    ensures { λ r. ⌜ r ≡ entryPlain at (now (s .entry)) ⌝ }
+{
+    let what = origin::record_ok(s, at);
+    what & ((s[at + 22] | s[at + 23]) == 0)
+}
+
+// What a log entry was made from, and what that was made from.
+fn entry_made(s: &[u8], t: &[u8; 156], steps: u32, n: usize, at: usize) -> bool
     requires { ⌜ Counted (now s) (now t) steps × (at + 24 ≤ length (now s)) ⌝ }
-    ensures { λ r. ⌜ r ≡ (entryExact at (now (s .entry)) && entryRight (lineOf (now (s .entry))) n (entryIn at (now (s .entry)))) ⌝ }
+    ensures { λ r. ⌜ r ≡ entryMade n at (now (s .entry)) ⌝ }
 {
     let from = look::index(s[at + 12]);
     let time = bytes::get32(s, at + 13);
     let earlier = look::index(s[at + 17]);
     let since = bytes::get32(s, at + 18);
-    let made = origin::origin_ok(s, t, steps, n, from, time, earlier, since);
-    let named = ((from != 0) | (time == 0)) & ((earlier != 0) | (since == 0));
-    let unused = (s[at + 22] == 0) & (s[at + 23] == 0);
-    let what = origin::record_ok(s, at);
-    what & named & unused & made
+    origin::origin_ok(s, t, steps, n, from, time, earlier, since)
 }
 
 // The log's entries, so many: their times rise to the node's.
@@ -45,19 +50,23 @@ fn entries_ok(s: &[u8], t: &[u8; 156], steps: u32, n: usize, at: usize, count: u
     ensures { λ r. ⌜ r ≡ (slotsExact entryExact entrySize (pageAt n + logAt + countSize) count (now (s .entry)) && logRight (lineOf (now (s .entry))) n (nodeAt (lineOf (now (s .entry))) n .log)) ⌝ }
 {
     let top = bytes::get32(s, at + 4);
-    let mut ok = true;
     let mut last: u32 = 0;
     let mut slot = at + 12;
     let mut left = count;
     while 0 < left {
         let time = bytes::get32(s, slot + 8);
-        let entry = entry_ok(s, t, steps, n, slot);
-        ok = ok & (entry & ((last < time) & (time <= top)));
+        let plain = entry_plain(s, slot);
+        if !(plain & ((last < time) & (time <= top))) {
+            return false;
+        }
+        if !entry_made(s, t, steps, n, slot) {
+            return false;
+        }
         last = time;
         slot += 24;
         left -= 1;
     }
-    ok
+    true
 }
 
 // The log: its count, its entries, and zero bytes behind them.
@@ -107,21 +116,25 @@ fn passed_on(s: &[u8], n: usize, at: usize) -> bool
     found
 }
 
-// A held record: record, sender and its time, what that was made from, two bytes unused.
-fn held_one_ok(s: &[u8], t: &[u8; 156], steps: u32, n: usize, at: usize) -> bool
+// A held record's record and its two unused bytes.
+fn held_plain(s: &[u8], at: usize) -> bool
+    requires { ⌜ at + 20 ≤ length (now s) ⌝ }
+    ensures { λ r. ⌜ r ≡ heldPlain at (now (s .entry)) ⌝ }
+{
+    let what = origin::record_ok(s, at);
+    what & ((s[at + 18] | s[at + 19]) == 0)
+}
+
+// What a held record was made from, a sender and its time, and what that was made from.
+fn held_made(s: &[u8], t: &[u8; 156], steps: u32, n: usize, at: usize) -> bool
     requires { ⌜ Counted (now s) (now t) steps × (at + 20 ≤ length (now s)) ⌝ }
-    ensures { λ r. ⌜ r ≡ (heldExact at (now (s .entry)) && heldRight (lineOf (now (s .entry))) n (heldIn at (now (s .entry)))) ⌝ }
+    ensures { λ r. ⌜ r ≡ heldMade n at (now (s .entry)) ⌝ }
 {
     let sender = look::index(s[at + 8]);
     let time = bytes::get32(s, at + 9);
     let earlier = look::index(s[at + 13]);
     let since = bytes::get32(s, at + 14);
-    let made = origin::made_ok(s, t, steps, n, sender, time, earlier, since);
-    let named = (earlier != 0) | (since == 0);
-    let unused = (s[at + 18] == 0) & (s[at + 19] == 0);
-    let what = origin::record_ok(s, at);
-    let passed = passed_on(s, n, at);
-    what & named & unused & made & passed
+    origin::made_ok(s, t, steps, n, sender, time, earlier, since)
 }
 
 // The last time of each row, by sender: a plan has at most 12 nodes.
@@ -146,21 +159,27 @@ fn held_each_ok(s: &[u8], t: &[u8; 156], steps: u32, n: usize, at: usize, count:
     requires { ⌜ PageOf (now s) (now t) steps n at × (count ≡ wordAt (pageAt n + heldAt) (now s)) × (count ≤ heldLimit) ⌝ }
     ensures { λ r. ⌜ r ≡ (slotsExact heldExact heldSize (pageAt n + heldAt + countSize) count (now (s .entry)) && heldAllRight (lineOf (now (s .entry))) n (nodeAt (lineOf (now (s .entry))) n .held)) ⌝ }
 {
-    let mut ok = true;
     let mut last: [u32; 12] = [0; 12];
     let mut slot = at + 1552;
     let mut left = count;
     while 0 < left {
         let sender = look::index(s[slot + 8]);
         let time = bytes::get32(s, slot + 9);
-        let one = held_one_ok(s, t, steps, n, slot);
+        let plain = held_plain(s, slot);
         let row = row_last(&last, sender);
-        ok = ok & (one & (row < time));
+        if !(plain & (row < time)) {
+            return false;
+        }
+        let made = held_made(s, t, steps, n, slot);
+        let passed = passed_on(s, n, slot);
+        if !(made & passed) {
+            return false;
+        }
         row_set(&mut last, sender, time);
         slot += 20;
         left -= 1;
     }
-    ok
+    true
 }
 
 // The list of held records: its count, the records, and zero bytes behind them.
@@ -185,9 +204,9 @@ fn target_ok(s: &[u8], t: &[u8; 156], steps: u32, n: usize, at: usize) -> bool
     let time = bytes::get32(s, at);
     let other = bytes::get32(s, at + 4);
     let parent = look::index(s[at + 8]);
-    let b = table::channel_in(s, t, parent, n);
-    let unused = (s[at + 9] == 0) & (s[at + 10] == 0) & (s[at + 11] == 0);
-    unused & ((time <= steps) & (other <= steps) & (b < 24))
+    let code = table::joined(s, t, parent, n);
+    let unused = ((s[at + 9] | s[at + 10]) | s[at + 11]) == 0;
+    unused & ((time <= steps) & (other <= steps) & (code != 255))
 }
 
 // The targets, so many.
@@ -226,7 +245,7 @@ fn head_ok(s: &[u8], t: &[u8; 156], steps: u32, n: usize, at: usize) -> bool
     ensures { λ r. ⌜ r ≡ (headExact (pageAt n) (now (s .entry)) && leb (nodeAt (lineOf (now (s .entry))) n .time) (lineOf (now (s .entry)) .steps)) ⌝ }
 {
     let time = bytes::get32(s, at + 4);
-    let unused = (s[at + 2] == 0) & (s[at + 3] == 0);
+    let unused = (s[at + 2] | s[at + 3]) == 0;
     (s[at] <= 2) & (s[at + 1] <= 1) & unused & (time <= steps)
 }
 

@@ -1,21 +1,21 @@
 use Prim.Native.Nat.{ℕ, suc, _+_, _-_}
 use mathlib.Core.Path.{_≡_, refl, sym, ap, _∙_}
-use mathlib.Core.Bool.{_&&_, and-true}
 use native.Mathlib.Omega.{arith}
+use borrow.Author.Tests.{not-true, not-false}
 use borrow.Author.Needs.{needs}
 use lib.ListN.{length, length-set}
 use Rattle.state.specs.Sizes.{pageAt, heldAt, countSize, heldSize}
 use Rattle.items.specs.Items.{noneHeld}
-use Rattle.node_check.proofs.NodeLaws.{Going, page-room, heldPass, held-more, held-whole}
+use Rattle.node_check.proofs.NodeLaws.{Going, page-room, heldPass, held-bare, held-unmade, held-more, held-whole}
 use Rattle.node_check.proofs.held_each_ok.Statement.{statement}
 use Rattle.node_check.proofs.held_each_ok.Tie as tie
 
 abbrev Inv-loop : tie.InvT-loop
-Inv-loop s t steps n at count ok₀ last₀ slot₀ left₀ ok last slot left =
-    (length last ≡ 12) × Going (length s) heldSize (pageAt n + heldAt + countSize) slot count left (heldPass s n noneHeld (pageAt n + heldAt + countSize) count) (ok && heldPass s n last slot left)
+Inv-loop s t steps n at count last₀ slot₀ left₀ last slot left =
+    (length last ≡ 12) × Going (length s) heldSize (pageAt n + heldAt + countSize) slot count left (heldPass s n noneHeld (pageAt n + heldAt + countSize) count) (heldPass s n last slot left)
 
 abbrev μ-loop : tie.MeasureT-loop
-μ-loop s t steps n at count ok₀ last₀ slot₀ left₀ ok last slot left = left
+μ-loop s t steps n at count last₀ slot₀ left₀ last slot left = left
 
 add-slot : tie.Need-add-slot Inv-loop μ-loop
 add-slot c = omega (arith, page-room (c .before .pre .0))
@@ -31,40 +31,93 @@ loop-holds c =
 get32-requires : tie.Need-get32-requires Inv-loop μ-loop
 get32-requires c κs = let v = c .before .before .before .loop .inv .1 in omega (arith, v .there, v .fits, v .within)
 
-held-one-ok-requires : tie.Need-held-one-ok-requires Inv-loop μ-loop
-held-one-ok-requires c κs = let v = c .before .before .before .before .loop .inv .1 in (c .before .before .before .before .before .before .pre .0 .counted, omega (arith, v .there, v .fits, v .within))
-
-loop-again : tie.Need-loop-again Inv-loop μ-loop
-loop-again c =
-    let row = c .before .before in
-    let one = row .before .before in
-    let time = one .before in
-    let sender = time .before in
-    let t = sender .before .before .before .loop in
-    let start = sender .before .before .before .before .before in
-    let a = start .args in
-    let more : suc (t .left - 1) ≡ t .left = omega arith in (
-      ap length (c .row-set .ensures) ∙ length-set (t .last) (sender .index .result) (time .get32 .result) ∙ t .inv .0,
-      record {
-        within = omega (arith, t .inv .1 .within);
-        there = omega (arith, t .inv .1 .there);
-        fits = t .inv .1 .fits;
-        same =
-            t .inv .1 .same
-            ∙ ap (λ (k : ℕ). t .ok && heldPass (a .s .now) (a .n) (t .last) (t .slot) k) (sym more)
-            ∙ held-more (a .s .now) (a .t .now) (a .steps) (a .n) (a .at) (start .pre .0) (t .ok) (one .held-one-ok .result) (t .last) (c .row-set .last .0) (t .slot) (t .left - 1) (sender .index .result) (time .get32 .result) (row .row-last .result) (sender .index .ensures .0) (time .get32 .ensures) (row .row-last .ensures) (c .row-set .ensures) (one .held-one-ok .ensures);
-      },
-    )
+held-plain-requires : tie.Need-held-plain-requires Inv-loop μ-loop
+held-plain-requires c κs = let v = c .before .before .before .before .loop .inv .1 in omega (arith, v .there, v .fits, v .within)
 
 returns : tie.Need-returns Inv-loop μ-loop
 returns c =
+    let row = c .before in
+    let plain = row .before .before in
+    let time = plain .before in
+    let sender = time .before in
+    let v = sender .before .before .before .loop in
+    let start = sender .before .before .before .before .before in
+    let a = start .args in
+    let s = a .s .now in
+    let page = start .pre .0 in
+    let more : suc (v .left - 1) ≡ v .left = omega arith in
+    sym
+    (sym (held-whole s (a .t .now) (a .steps) (a .n) (a .at) page (a .count) (start .pre .1) (start .pre .2))
+    ∙ v .inv .1 .same
+    ∙ ap (λ (k : ℕ). heldPass s (a .n) (v .last) (v .slot) k) (sym more)
+    ∙ held-bare s (a .t .now) (a .steps) (a .n) (a .at) page (v .last) (v .slot) (v .left - 1) (sender .index .result) (time .get32 .result) (row .row-last .result) (sender .index .ensures .0) (time .get32 .ensures) (row .row-last .ensures) (plain .held-plain .result) (plain .held-plain .ensures) (not-true _ (c .if1 .taken)))
+
+held-made-requires : tie.Need-held-made-requires Inv-loop μ-loop
+held-made-requires c κs =
+    let loop = c .before .before .before .before .before .before .before .before in
+    let v = loop .loop .inv .1 in
+    (loop .before .before .pre .0 .counted, omega (arith, v .there, v .fits, v .within))
+
+passed-on-requires : tie.Need-passed-on-requires Inv-loop μ-loop
+passed-on-requires c κs =
+    let loop = c .before .before .before .before .before .before .before .before .before in
+    let v = loop .loop .inv .1 in
+    (loop .before .before .pre .0 .counted .ready, omega (arith, v .there, v .fits, v .within))
+
+returns-2 : tie.Need-returns-2 Inv-loop μ-loop
+returns-2 c =
+    let passed = c .before in
+    let made = passed .before in
+    let row = made .before .before in
+    let plain = row .before .before in
+    let time = plain .before in
+    let sender = time .before in
+    let v = sender .before .before .before .loop in
+    let start = sender .before .before .before .before .before in
+    let a = start .args in
+    let s = a .s .now in
+    let page = start .pre .0 in
+    let more : suc (v .left - 1) ≡ v .left = omega arith in
+    sym
+    (sym (held-whole s (a .t .now) (a .steps) (a .n) (a .at) page (a .count) (start .pre .1) (start .pre .2))
+    ∙ v .inv .1 .same
+    ∙ ap (λ (k : ℕ). heldPass s (a .n) (v .last) (v .slot) k) (sym more)
+    ∙ held-unmade s (a .t .now) (a .steps) (a .n) (a .at) page (v .last) (v .slot) (v .left - 1) (sender .index .result) (time .get32 .result) (row .row-last .result) (sender .index .ensures .0) (time .get32 .ensures) (row .row-last .ensures) (plain .held-plain .result) (made .held-made .result) (passed .passed-on .result) (plain .held-plain .ensures) (not-false _ (made .before .if1 .left)) (made .held-made .ensures) (passed .passed-on .ensures) (not-true _ (c .if2 .taken)))
+
+loop-again : tie.Need-loop-again Inv-loop μ-loop
+loop-again c =
+    let passed = c .before .before .before in
+    let made = passed .before in
+    let row = made .before .before in
+    let plain = row .before .before in
+    let time = plain .before in
+    let sender = time .before in
+    let v = sender .before .before .before .loop in
+    let start = sender .before .before .before .before .before in
+    let a = start .args in
+    let s = a .s .now in
+    let page = start .pre .0 in
+    let more : suc (v .left - 1) ≡ v .left = omega arith in (
+      ap length (c .row-set .ensures) ∙ length-set (v .last) (sender .index .result) (time .get32 .result) ∙ v .inv .0,
+      record {
+        within = omega (arith, v .inv .1 .within);
+        there = omega (arith, v .inv .1 .there);
+        fits = v .inv .1 .fits;
+        same =
+            v .inv .1 .same
+            ∙ ap (λ (k : ℕ). heldPass s (a .n) (v .last) (v .slot) k) (sym more)
+            ∙ held-more s (a .t .now) (a .steps) (a .n) (a .at) page (v .last) (v .slot) (v .left - 1) (sender .index .result) (time .get32 .result) (row .row-last .result) (sender .index .ensures .0) (time .get32 .ensures) (row .row-last .ensures) (plain .held-plain .result) (made .held-made .result) (passed .passed-on .result) (plain .held-plain .ensures) (not-false _ (made .before .if1 .left)) (made .held-made .ensures) (passed .passed-on .ensures) (c .row-set .last .0) (c .row-set .ensures) (not-false _ (c .before .before .if2 .left));
+      },
+    )
+
+returns-3 : tie.Need-returns-3 Inv-loop μ-loop
+returns-3 c =
     let start = c .before .before .before in
     let a = start .args in
-    let t = c .before .loop in
-    let none : t .left ≡ 0 = omega arith in
-    sym (and-true (t .ok))
-    ∙ ap (λ (k : ℕ). t .ok && heldPass (a .s .now) (a .n) (t .last) (t .slot) k) (sym none)
-    ∙ sym (t .inv .1 .same)
+    let v = c .before .loop in
+    let none : v .left ≡ 0 = omega arith in
+    ap (λ (k : ℕ). heldPass (a .s .now) (a .n) (v .last) (v .slot) k) (sym none)
+    ∙ sym (v .inv .1 .same)
     ∙ held-whole (a .s .now) (a .t .now) (a .steps) (a .n) (a .at) (start .pre .0) (a .count) (start .pre .1) (start .pre .2)
 
 pub held-each-ok-spec : {M : Type 1} → statement M
@@ -80,11 +133,15 @@ held-each-ok-spec =
     (λ c κs. search needs)
     (λ c. omega arith)
     get32-requires
-    held-one-ok-requires
+    held-plain-requires
     (λ c κs. search needs)
+    returns
+    held-made-requires
+    passed-on-requires
+    returns-2
     (λ c κs. search needs)
     (λ c. omega arith)
     (λ c. omega arith)
     (λ c. omega arith)
     loop-again
-    returns)
+    returns-3)

@@ -1,8 +1,8 @@
 use borrow.Author.Needs.{needs}
-use lib.Dec.{ltb}
-use Rattle.rules.specs.Line.{fed}
+use mathlib.Core.Bool.{not}
+use lib.Dec.{eqb}
 use Rattle.state.specs.State.{lineOf}
-use Rattle.buffer.proofs.OriginLaws.{parent-found}
+use Rattle.buffer.proofs.OriginLaws.{parent-coded}
 use Rattle.node_check.proofs.PieceBytes.{target-tested}
 use Rattle.node_check.proofs.target_ok.Statement.{statement}
 use Rattle.node_check.proofs.target_ok.Tie as tie
@@ -17,8 +17,8 @@ returns c =
     let a = start .args in
     let s = a .s .now in
     rw (start .pre .0 .same)
-    (target-tested (lineOf s) (a .n) (a .at) s (start .pre .1) (time .get32 .result) (other .get322 .result) (parent .index .result) (time .get32 .ensures) (other .get322 .ensures) (parent .index .ensures .0) (ltb (found .channel-in .result) 24)
-    (parent-found s (a .t .now) (a .steps) (start .pre .0) (a .n) (parent .index .result) 0 fed (found .channel-in .result) (found .channel-in .ensures)))
+    (target-tested (lineOf s) (a .n) (a .at) s (start .pre .1) (time .get32 .result) (other .get322 .result) (parent .index .result) (time .get32 .ensures) (other .get322 .ensures) (parent .index .ensures .0) (not (eqb (found .joined .result) 255))
+    (parent-coded s (a .t .now) (a .steps) (start .pre .0) (a .n) (parent .index .result) (found .joined .result) (found .joined .ensures)))
 
 pub target-ok-spec : {M : Type 1} → statement M
 target-ok-spec =

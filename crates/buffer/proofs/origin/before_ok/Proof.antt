@@ -1,9 +1,11 @@
-use mathlib.Core.Path.{sym, ap, _∙_}
+use Prim.Native.Nat.{_-_, _/_}
+use mathlib.Core.Path.{ap, _∙_}
+use mathlib.Core.Bool.{Bool, _&&_}
 use native.Mathlib.Omega.{arith}
 use borrow.Author.Needs.{needs}
-use Rattle.state.specs.State.{lineOf}
-use Rattle.items.specs.Items.{beforeRight}
-use Rattle.buffer.proofs.OriginLaws.{origin-none, origin-some, before-fed, before-missing, before-there}
+use lib.Dec.{eqb}
+use Rattle.buffer.proofs.TableLaws.{coded, not-placed}
+use Rattle.buffer.proofs.OriginLaws.{before-fed, before-missing, before-there}
 use Rattle.buffer.proofs.origin.before_ok.Statement.{statement}
 use Rattle.buffer.proofs.origin.before_ok.Tie as tie
 
@@ -11,23 +13,30 @@ returns : tie.Need-returns
 returns c =
     let a = c .before .before .before .args in
     let k = c .before .before .before .pre in
-    c .source-in .ensures
-    ∙ sym (ap (beforeRight (lineOf (a .s .now)) (a .sender) (a .b)) (origin-none (a .time) (a .from) (c .before .if1 .taken)) ∙ before-fed (a .s .now) (a .t .now) (a .steps) (k .0) (a .sender) (a .b) (k .1) (k .2))
+    ap (λ (v : Bool). v && eqb (a .time) 0) (c .source-in .ensures) ∙ before-fed (a .s .now) (a .t .now) (a .steps) (k .0) (a .sender) (a .b) (k .1) (k .2) (a .from) (a .time) (c .before .if1 .taken)
 
 returns-2 : tie.Need-returns-2
 returns-2 c =
     let a = c .before .before .before .before .args in
     let k = c .before .before .before .before .pre in
-    let found = c .before .place-in in
-    sym (ap (beforeRight (lineOf (a .s .now)) (a .sender) (a .b)) (origin-some (a .time) (a .from) (c .before .before .if1 .left)) ∙ before-missing (a .s .now) (a .t .now) (a .steps) (k .0) (a .sender) (a .b) (k .1) (k .2) _ (a .time) (found .result) (found .ensures) (c .if2 .taken))
+    let code = c .before .joined in
+    before-missing (a .s .now) (a .t .now) (a .steps) (k .0) (a .sender) (a .b) (k .1) (k .2) (a .from) (a .time) (c .before .before .if1 .left) (not-placed (a .s .now) (k .0 .ready) (a .from - 1) (a .sender) (code .result) (code .ensures) (c .if2 .taken))
+
+get32-requires : tie.Need-get32-requires
+get32-requires c κs =
+    let start = c .before .before .before .before in
+    let a = start .args in
+    let k = start .pre in
+    let code = c .before .joined in
+    omega (arith, k .0 .ready .long, k .0 .ready .channels, k .1, coded (a .s .now) (k .0 .ready) (a .from - 1) (a .sender) (code .result) (code .ensures) (c .if2 .left) .small)
 
 returns-3 : tie.Need-returns-3
 returns-3 c =
     let a = c .before .before .before .before .before .args in
     let k = c .before .before .before .before .before .pre in
-    let found = c .before .before .place-in in
+    let code = c .before .before .joined in
     rw (c .get32 .ensures)
-    (sym (ap (beforeRight (lineOf (a .s .now)) (a .sender) (a .b)) (origin-some (a .time) (a .from) (c .before .before .before .if1 .left)) ∙ before-there (a .s .now) (a .t .now) (a .steps) (k .0) (a .sender) (a .b) (k .1) (k .2) _ (a .time) (found .result) (found .ensures) (omega arith)))
+    (before-there (a .s .now) (a .t .now) (a .steps) (k .0) (a .sender) (a .b) (k .1) (k .2) (a .from) (a .time) (c .before .before .before .if1 .left) (code .result / 32) (coded (a .s .now) (k .0 .ready) (a .from - 1) (a .sender) (code .result) (code .ensures) (c .before .if2 .left) .placed))
 
 pub before-ok-spec : {M : Type 1} → statement M
 before-ok-spec =
@@ -43,5 +52,5 @@ before-ok-spec =
     (λ c. search needs)
     (λ c. search needs)
     (λ c. search needs)
-    (λ c κs. search needs)
+    get32-requires
     returns-3)

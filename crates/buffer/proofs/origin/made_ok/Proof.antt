@@ -1,8 +1,10 @@
-use mathlib.Core.Path.{sym}
+use Prim.Native.Nat.{_%_}
 use native.Mathlib.Omega.{arith}
 use borrow.Author.Needs.{needs}
 use Rattle.state.specs.Pieces.{originFrom}
-use Rattle.buffer.proofs.OriginLaws.{made-missing, made-below, made-sender, made-there}
+use Rattle.buffer.specs.Exact.{timeNamed}
+use Rattle.buffer.proofs.TableLaws.{coded, not-found}
+use Rattle.buffer.proofs.OriginLaws.{made-missing, made-there}
 use Rattle.buffer.proofs.origin.made_ok.Statement.{statement}
 use Rattle.buffer.proofs.origin.made_ok.Tie as tie
 
@@ -10,24 +12,32 @@ returns : tie.Need-returns
 returns c =
     let start = c .before .before .before in
     let a = start .args in
-    let found = c .before .channel-in in
-    sym (made-missing (a .s .now) (a .t .now) (a .steps) (start .pre) (a .n) (a .sender) (a .time) (originFrom (a .earlier) (a .since)) (found .result) (found .ensures) (c .if1 .taken))
+    let code = c .before .joined in
+    made-missing (a .s .now) (a .t .now) (a .steps) (start .pre) (a .n) (a .sender) (a .time) (timeNamed (a .earlier) (a .since)) (originFrom (a .earlier) (a .since)) (not-found (a .s .now) (start .pre .ready) (a .sender) (a .n) (code .result) (code .ensures) (c .if1 .taken))
+
+get32-requires : tie.Need-get32-requires
+get32-requires c κs =
+    let start = c .before .before .before in
+    let a = start .args in
+    let code = c .before .joined in
+    omega (arith, start .pre .ready .long, start .pre .ready .channels, coded (a .s .now) (start .pre .ready) (a .sender) (a .n) (code .result) (code .ensures) (c .if1 .left) .below)
 
 before-ok-requires : tie.Need-before-ok-requires
 before-ok-requires c κs =
     let start = c .before .before .before .before in
     let a = start .args in
-    let found = c .before .before .channel-in in
-    let o = originFrom (a .earlier) (a .since) in
-    (start .pre, made-below (a .s .now) (a .t .now) (a .steps) (start .pre) (a .n) (a .sender) (a .time) o (found .result) (found .ensures) (omega arith), made-sender (a .s .now) (a .t .now) (a .steps) (start .pre) (a .n) (a .sender) (a .time) o (found .result) (found .ensures) (omega arith))
+    let code = c .before .before .joined in
+    let is = coded (a .s .now) (start .pre .ready) (a .sender) (a .n) (code .result) (code .ensures) (c .before .if1 .left) in
+    (start .pre, is .below, is .from)
 
 returns-2 : tie.Need-returns-2
 returns-2 c =
     let start = c .before .before .before .before .before in
     let a = start .args in
-    let found = c .before .before .before .channel-in in
+    let code = c .before .before .before .joined in
+    let is = coded (a .s .now) (start .pre .ready) (a .sender) (a .n) (code .result) (code .ensures) (c .before .before .if1 .left) in
     rw (c .before-ok .ensures, c .before .get32 .ensures)
-    (sym (made-there (a .s .now) (a .t .now) (a .steps) (start .pre) (a .n) (a .sender) (a .time) (originFrom (a .earlier) (a .since)) (found .result) (found .ensures) (omega arith)))
+    (made-there (a .s .now) (a .t .now) (a .steps) (start .pre) (a .n) (a .sender) (a .time) (timeNamed (a .earlier) (a .since)) (originFrom (a .earlier) (a .since)) (code .result % 32) (is .below) (is .found))
 
 pub made-ok-spec : {M : Type 1} → statement M
 made-ok-spec =
@@ -38,6 +48,6 @@ made-ok-spec =
     (λ c. search needs)
     (λ c. search needs)
     (λ c. search needs)
-    (λ c κs. search needs)
+    get32-requires
     before-ok-requires
     returns-2)
