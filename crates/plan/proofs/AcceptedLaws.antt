@@ -6,8 +6,8 @@ use mathlib.Core.Logic.{_⊎_, inl, inr, ⊎-elim}
 use mathlib.Core.List.{List, [], _∷_}
 use native.Mathlib.Nat.{mod-eq-of-lt}
 use native.Mathlib.Omega.{arith}
-use borrow.Author.Tests.{leb-true, eqb-true}
-use lib.Dec.{leb, eqb}
+use borrow.Author.Tests.{leb-true, ltb-true, eqb-true}
+use lib.Dec.{leb, ltb, eqb}
 use lib.ListN.{length, getD, take, drop}
 use Rattle.plan.specs.declared.Rule.the-variants.{Keep, Relabel, Cap}
 use Rattle.plan.specs.declared.Channel.{Channel}
@@ -17,7 +17,7 @@ use Rattle.plan.specs.Channel.{channelFits, channelAfter}
 use Rattle.plan.specs.Plan.{Plan, planOf, planNodes, planChannels, ruleAt, channelAt, noChannel, channelCount, entering, leaving}
 use Rattle.plan.specs.Check.{rulesFit, channelsFit, fourAtMost, planRefusal}
 use Rattle.plan.specs.Narrow.{narrowed}
-use Rattle.basics.specs.Bools.{both-true, below-or-not}
+use Rattle.basics.specs.Bools.{both-true, and-left, below-or-not}
 use Rattle.plan.proofs.LayoutLaws.{length-readSlots}
 use Rattle.plan.proofs.ReadLaws.{rule-numbers-at, rule-at, rule-past}
 use Rattle.plan.proofs.CheckLaws.{Accepted, accepted}
@@ -55,12 +55,23 @@ rule-narrow s z n = go (below-or-not n (planNodes s))
 
 -- ---- channels
 
-channels-at : (n sender receiver : ℕ) (cs : List Channel) (b : ℕ) → channelsFit n sender receiver cs ≡ true → b < length cs → channelFits n (getD cs b noChannel) ≡ true
+pub channels-at : (n sender receiver : ℕ) (cs : List Channel) (b : ℕ) → channelsFit n sender receiver cs ≡ true → b < length cs → channelFits n (getD cs b noChannel) ≡ true
 channels-at n sender receiver [] b e h = let no : ⊥ = omega arith in absurd no
 channels-at n sender receiver (c ∷ cs) zero e h =
     both-true (channelFits n c) (channelAfter sender receiver c) (both-true (channelFits n c && channelAfter sender receiver c) (channelsFit n (c .sender) (c .receiver) cs) e .0) .0
 channels-at n sender receiver (c ∷ cs) (suc b) e h =
     channels-at n (c .sender) (c .receiver) cs b (both-true (channelFits n c && channelAfter sender receiver c) (channelsFit n (c .sender) (c .receiver) cs) e .1) (omega arith)
+
+-- One channel's check: it goes forward, inside the plan.
+pub fits-forward : (n : ℕ) (c : Channel) → channelFits n c ≡ true → (c .sender < c .receiver) × (c .receiver < n)
+unfolding channelFits
+fits-forward n c e =
+    let forward : Bool = ltb (c .sender) (c .receiver) in
+    let inside : Bool = ltb (c .receiver) n in
+    let mask : Bool = leb 1 (c .mask) in
+    let modulus : Bool = leb 1 (c .modulus) in
+    let ends = both-true forward inside (and-left (forward && inside) mask (and-left (forward && inside && mask) modulus (and-left (forward && inside && mask && modulus) (ltb (c .remainder) (c .modulus)) e))) in
+    (ltb-true (c .sender) (c .receiver) (ends .0), ltb-true (c .receiver) n (ends .1))
 
 pub channel-fits : (s : List ℕ) → planRefusal s ≡ 0 → (b : ℕ) → b < planChannels s → channelFits (planNodes s) (channelAt (planOf s) b) ≡ true
 channel-fits s z b h = channels-at (planNodes s) 0 0 (planOf s .channels) b (accepted s z .channels) (rw (channel-count s) h)

@@ -1,10 +1,10 @@
 -- Lists of bytes: their parts and joins are bytes.
 use Prim.Native.Nat.{ℕ, zero, suc, _-_, _<_}
-use mathlib.Core.Path.{_≡_, sym}
+use mathlib.Core.Path.{_≡_, refl, sym}
 use mathlib.Core.List.{List, [], _∷_, _++_}
 use native.Mathlib.Nat.{zero-sub, sub-zero, suc-sub-suc}
 use native.Mathlib.Omega.{arith}
-use lib.ListN.{getD, take, drop}
+use lib.ListN.{getD, take, drop, replicate}
 use lib.Seq.{take-nil}
 use Rattle.plan.specs.Lawful.{Each, Bytes}
 
@@ -41,3 +41,9 @@ drop-take (suc m) zero [] = rw zero-sub
 drop-take (suc m) zero (x ∷ s) = rw zero-sub
 drop-take (suc m) (suc n) [] = sym (take-nil (suc n - suc m))
 drop-take (suc m) (suc n) (x ∷ s) = rw suc-sub-suc (drop-take m n s)
+
+-- So many of one, and the same past them.
+pub replicate-default : {A : Type 0} (n i : ℕ) (x : A) → getD (replicate n x) i x ≡ x
+replicate-default zero i x = refl
+replicate-default (suc n) zero x = refl
+replicate-default (suc n) (suc i) x = replicate-default n i x

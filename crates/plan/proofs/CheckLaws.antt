@@ -76,10 +76,6 @@ counts-within n m e =
 pub counts-fit : (n m : ℕ) → 2 ≤ n → n ≤ 12 → 1 ≤ m → m ≤ 24 → countsFit n m ≡ true
 counts-fit n m a b c d = rw (le-leb 2 n a, le-leb n 12 b, le-leb 1 m c, le-leb m 24 d)
 
-pub few-channels : (s : List ℕ) → badCounts s ≡ false → planChannels s ≤ 24
-unfolding badCounts
-few-channels s e = counts-within (planNodes s) (planChannels s) (not-false _ e) .3
-
 pub accepted : (s : List ℕ) → planRefusal s ≡ 0 → Accepted s
 unfolding badLength badVersion badCounts badSize badRules badChannels badDegrees
 accepted s z =

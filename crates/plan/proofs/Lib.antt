@@ -9,5 +9,6 @@ pub mod PlanLaws
 pub mod MaskLaws
 pub mod LoopLaws
 pub mod AcceptedLaws
+pub mod DegreeLaws
 pub mod TakingLaws
 pub mod FitsLaws

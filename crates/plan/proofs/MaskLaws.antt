@@ -3,37 +3,37 @@ use Prim.Native.Nat.{ℕ, zero, suc, _+_, _-_, _*_, _/_, _%_, _^_, _≤_, _<_}
 use mathlib.Core.Path.{_≡_, refl, sym, ap, _∙_}
 use mathlib.Core.Bool.{Bool, true, false, cond, _&&_}
 use mathlib.Core.List.{List, [], _∷_}
-use native.Mathlib.Nat.{add-mul, add-comm, mul-assoc, mul-comm, mul-one, zero-mul, lt-of-not-le, add-zero, pow-suc, pow-succ'}
+use native.Mathlib.Nat.{add-mul, mul-assoc, mul-one, zero-mul, lt-of-not-le, add-zero, pow-suc, pow-succ', div-add-mod'}
 use native.Mathlib.Numerals.{add-one}
 use native.Mathlib.Omega.{arith}
-use borrow.Author.Tests.{le-leb, lt-leb}
-use lib.Dec.{lit<, leb, eqb}
+use borrow.Author.Tests.{le-leb, lt-leb, ne-eqb}
+use lib.Dec.{lit<, eqb}
 use lib.ListN.{length, getD, drop, drop-of-length-le}
 use lib.Seq.{drop-cons}
 use lib.Pow.{pow-add, pow-pos, pow-mono}
 use lib.Bits.{shifted-half, shifted-even}
-use lib.Count.{ones, ones-cat, trailingZeros, trailing-of-zero, under}
+use lib.Count.{ones, ones-cat, trailingZeros, trailing-of-zero}
 use Rattle.plan.specs.declared.Record.{Record}
 use Rattle.plan.specs.declared.Channel.{Channel}
 use Rattle.plan.specs.Channel.{takes}
-use Rattle.plan.specs.Plan.{Plan, planOf, planChannels, noChannel, keepIf, numbersFrom, entering, leaving}
+use Rattle.plan.specs.Plan.{Plan, planChannels, noChannel, keepIf, numbersFrom, isNone, entering, leaving}
 use Rattle.plan.specs.Check.{planRefusal}
-use Rattle.plan.specs.Mask.{maskOf, Rising, taking, planMask, CountOf, FirstOf}
+use Rattle.plan.specs.Mask.{maskOf, Rising, onesFrom, channelsIn, taking, planMask, CountOf, FirstOf}
 use Rattle.plan.proofs.CheckLaws.{accepted}
 
 -- ---- rising lists
 
-rising-lower : (k : ℕ) (bs : List ℕ) → Rising (suc k) bs → Rising k bs
-rising-lower k [] h = tt
-rising-lower k (b ∷ bs) h = (omega arith, h .1)
+pub rising-lower : (j k : ℕ) (bs : List ℕ) → j ≤ k → Rising k bs → Rising j bs
+rising-lower j k [] l h = tt
+rising-lower j k (b ∷ bs) l h = (omega arith, h .1)
+
+rising-kept : (t : Bool) (k : ℕ) (ks : List ℕ) → Rising (suc k) ks → Rising k (keepIf t k ks)
+rising-kept true k ks h = (omega arith, h)
+rising-kept false k ks h = rising-lower k (suc k) ks (omega arith) h
 
 pub numbers-rise : {A : Type 0} (k : ℕ) (f : A → Bool) (xs : List A) → Rising k (numbersFrom k f xs)
 numbers-rise k f [] = tt
-numbers-rise k f (x ∷ xs) = go (f x) (numbersFrom (suc k) f xs) (numbers-rise (suc k) f xs)
-  where
-    go : (t : Bool) (ks : List ℕ) → Rising (suc k) ks → Rising k (keepIf t k ks)
-    go true ks h = (omega arith, h)
-    go false ks h = rising-lower k ks h
+numbers-rise k f (x ∷ xs) = rising-kept (f x) k (numbersFrom (suc k) f xs) (numbers-rise (suc k) f xs)
 
 -- ---- the ones of a mask
 
@@ -89,11 +89,55 @@ count-of mask = record { is = refl; listed = λ bs h e. ap ones e ∙ mask-ones 
 pub first-of : (mask : ℕ) → mask < 2 ^ 32 → FirstOf mask (trailingZeros 32 mask)
 first-of mask l = record { is = refl; listed = λ bs h e. ap (trailingZeros 32) e ∙ mask-trailing bs h (rw e at l) }
 
--- ---- a mask, channel by channel
+-- ---- the channels of a mask
 
-mask-kept : (t : Bool) (k : ℕ) (ks : List ℕ) → maskOf (keepIf t k ks) ≡ cond t (2 ^ k) 0 + maskOf ks
+pub mask-kept : (t : Bool) (k : ℕ) (ks : List ℕ) → maskOf (keepIf t k ks) ≡ cond t (2 ^ k) 0 + maskOf ks
 mask-kept true k ks = refl
 mask-kept false k ks = omega arith
+
+ones-rise : (k w mask : ℕ) → Rising k (onesFrom k w mask)
+ones-rise k zero mask = tt
+ones-rise k (suc w) mask = rising-kept (eqb (mask % 2) 1) k (onesFrom (suc k) w (mask / 2)) (ones-rise (suc k) w (mask / 2))
+
+ones-mask : (k w mask : ℕ) → mask < 2 ^ w → maskOf (onesFrom k w mask) ≡ mask * 2 ^ k
+ones-mask k zero mask h = let none : mask ≡ 0 = omega arith in rw (none, zero-mul)
+ones-mask k (suc w) mask h =
+    let double : 2 ^ suc w ≡ 2 ^ w * 2 = pow-suc 2 w in
+    let ih = ones-mask (suc k) w (mask / 2) (omega arith) in
+    mask-kept (eqb (mask % 2) 1) k (onesFrom (suc k) w (mask / 2)) ∙ omega (
+      arith,
+      ih,
+      bit-times (mask % 2) (2 ^ k) (omega arith),
+      ap (λ (x : ℕ). mask / 2 * x) (pow-succ' 2 k),
+      mul-assoc (mask / 2) 2 (2 ^ k),
+      add-mul (mask / 2 * 2) (mask % 2) (2 ^ k),
+      ap (λ (x : ℕ). x * 2 ^ k) (div-add-mod' mask 2),
+    )
+  where
+    bit-times : (d x : ℕ) → d < 2 → cond (eqb d 1) x 0 ≡ d * x
+    bit-times zero x l = sym (zero-mul x)
+    bit-times (suc zero) x l = omega arith
+    bit-times (suc (suc d)) x l = let no : ⊥ = omega arith in absurd no
+
+pub channels-rise : (mask : ℕ) → Rising 0 (channelsIn mask)
+unfolding channelsIn
+channels-rise mask = ones-rise 0 32 mask
+
+pub channels-mask : (mask : ℕ) → mask < 2 ^ 32 → maskOf (channelsIn mask) ≡ mask
+unfolding channelsIn
+channels-mask mask h = ones-mask 0 32 mask h ∙ mul-one mask
+
+-- Rising lists of one mask are one list.
+pub mask-unique : (bs cs : List ℕ) → Rising 0 bs → Rising 0 cs → maskOf bs < 2 ^ 32 → maskOf bs ≡ maskOf cs → bs ≡ cs
+mask-unique [] [] h k l e = refl
+mask-unique [] (c ∷ cs) h k l e = let no : ⊥ = omega (arith, pow-pos c) in absurd no
+mask-unique (b ∷ bs) [] h k l e = let no : ⊥ = omega (arith, pow-pos b) in absurd no
+mask-unique (b ∷ bs) (c ∷ cs) h k l e =
+    let same : b ≡ c = sym (mask-trailing (b ∷ bs) h l) ∙ ap (trailingZeros 32) e ∙ mask-trailing (c ∷ cs) k (rw e at l) in
+    let rest : maskOf bs ≡ maskOf cs = omega (arith, ap (λ (x : ℕ). 2 ^ x) same) in
+    rw (same, mask-unique bs cs (rising-lower 0 (suc b) bs (omega arith) (h .1)) (rising-lower 0 (suc c) cs (omega arith) (k .1)) (omega arith) rest)
+
+-- ---- a mask, channel by channel
 
 pub mask-more : {A : Type 0} (f : A → Bool) (d : A) (xs : List A) (b : ℕ) → b < length xs
     → maskOf (numbersFrom b f (drop b xs)) ≡ cond (f (getD xs b d)) (2 ^ b) 0 + maskOf (numbersFrom (suc b) f (drop (suc b) xs))
@@ -125,6 +169,11 @@ mask-few s h bs = rw (le-leb (planChannels s) 24 h)
 pub mask-many : (s : List ℕ) → 24 < planChannels s → (bs : List ℕ) → planMask s bs ≡ 0
 unfolding planMask
 mask-many s h bs = rw (lt-leb (planChannels s) 24 h)
+
+-- A mask is 0 exactly where no channel is in it.
+pub mask-none : (bs : List ℕ) → eqb (maskOf bs) 0 ≡ isNone bs
+mask-none [] = refl
+mask-none (b ∷ bs) = ne-eqb (2 ^ b + maskOf bs) 0 (λ e. omega (arith, e, pow-pos b))
 
 -- A plan that is not refused has its masks whole.
 pub mask-accepted : (s : List ℕ) → planRefusal s ≡ 0 → (bs : List ℕ) → planMask s bs ≡ maskOf bs

@@ -91,3 +91,13 @@ channel-at s b h =
     rw (channels-of s)
     (slot-at channelLayout (planChannels s) (drop (5 + 4 * planNodes s) s) b noChannel h
     ∙ rw (drop-drop, mul-comm b 6) (ap channelOf (channel-fields (5 + 4 * planNodes s + 6 * b) s)))
+
+-- One whose six bytes are all there.
+pub channel-whole : (s : List ℕ) (b : ℕ) → b < planChannels s
+    → (let a : ℕ = 5 + 4 * planNodes s + 6 * b in
+    a + 6 ≤ length s
+    → channelAt (planOf s) b
+    ≡ record { sender = getD s a 0; receiver = getD s (a + 1) 0; mask = getD s (a + 2) 0 * 256 + getD s (a + 3) 0; modulus = getD s (a + 4) 0; remainder = getD s (a + 5) 0 })
+channel-whole s b h l =
+    let a : ℕ = 5 + 4 * planNodes s + 6 * b in
+    channel-at s b h ∙ rw (word-field (a + 2) s (omega arith), add-assoc a 2 1)

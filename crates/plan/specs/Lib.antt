@@ -8,5 +8,6 @@ pub mod Plan
 pub mod Mask
 pub mod Narrow
 pub mod Check
+pub mod Degrees
 pub mod Fits
 pub mod Examples

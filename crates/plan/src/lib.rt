@@ -1,16 +1,17 @@
 // Records, rules, channels and plans (document 01, "The line").
 ghost use mathlib.Core.Path.{_≡_};
-ghost use mathlib.Core.Bool.{cond, _&&_};
+ghost use mathlib.Core.Bool.{cond};
 ghost use mathlib.Core.List.{[]};
-ghost use Prim.Native.Nat.{_%_, _<_, _≤_};
-ghost use lib.Dec.{leb, ltb, eqb};
-ghost use lib.ListN.{length, getD, take, drop};
+ghost use Prim.Native.Nat.{_+_, _%_, _^_, _<_, _≤_};
+ghost use lib.Dec.{ltb, eqb};
+ghost use lib.ListN.{length, getD, set, take, drop, replicate};
 ghost use Rattle.plan.specs.Layout.{spelled, readSlots};
 ghost use Rattle.plan.specs.Rule.{applied, ruleOfKind, ruleKindFits, ruleFits, ruleFields};
 ghost use Rattle.plan.specs.Channel.{bitSet, takes, channelFits, channelAfter};
 ghost use Rattle.plan.specs.Plan.{planOf, planNodes, planChannels, ruleAt, channelAt, numbersFrom, entering, leaving};
-ghost use Rattle.plan.specs.Mask.{picked, taking, planMask, CountOf, FirstOf};
-ghost use Rattle.plan.specs.Check.{badLength, badVersion, badCounts, badSize, badRules, badChannels, badDegrees, planRefusal};
+ghost use Rattle.plan.specs.Mask.{picked, taking, planMask, CountOf, FirstOf, TakingOf};
+ghost use Rattle.plan.specs.Check.{badLength, badVersion, badCounts, badSize, badRules, badChannels, fourAtMost, badDegrees, planRefusal};
+ghost use Rattle.plan.specs.Degrees.{Joined, Degrees};
 ghost use Rattle.plan.specs.Narrow.{narrowed};
 
 // A record: piece number, material, mass in tenths of a gram.
@@ -36,11 +37,10 @@ pub struct Channel {
     pub remainder: u8,
 }
 
-// Which of a plan's channels are asked for: those that enter a node, that leave it, or that leave it and take a record.
+// Which of a plan's channels are asked for: those that enter a node, or that leave it.
 pub enum Pick {
     Entering(usize),
     Leaving(usize),
-    Taking(usize, Record),
 }
 
 fn relabelled(material: u8, p: u8, q: u8) -> u8
@@ -193,6 +193,15 @@ pub fn channel_at(plan: &[u8], channel: usize) -> Channel
         };
     }
     let at = 5 + 4 * node_count(plan) + 6 * channel;
+    if at + 6 <= plan.len() {
+        return Channel {
+            sender: plan[at],
+            receiver: plan[at + 1],
+            mask: wide(plan[at + 2]) * 256 + wide(plan[at + 3]),
+            modulus: plan[at + 4],
+            remainder: plan[at + 5],
+        };
+    }
     Channel {
         sender: byte_at(plan, at),
         receiver: byte_at(plan, at + 1),
@@ -223,10 +232,6 @@ fn picks(p: Pick, c: Channel) -> bool
     match p {
         Pick::Entering(node) => index_of(c.receiver) == node,
         Pick::Leaving(node) => index_of(c.sender) == node,
-        Pick::Taking(node, r) => {
-            let leaves = index_of(c.sender) == node;
-            leaves & channel_takes(c, r)
-        }
     }
 }
 
@@ -269,11 +274,34 @@ pub fn leaving_mask(plan: &[u8], node: usize) -> u32
     picked_mask(plan, Pick::Leaving(node))
 }
 
+// A mask of one channel.
+fn bit_of(b: u32) -> u32
+    requires { ⌜ b < 32 ⌝ }
+    ensures { λ r. ⌜ r ≡ 2 ^ b ⌝ }
+{
+    1 << b
+}
+
+// Of a mask's channels those that take a record, as a mask.
+pub fn taking_among(plan: &[u8], mask: u32, r: Record) -> u32
+    ensures { λ m. ⌜ TakingOf (now (plan .entry)) r mask m ⌝ }
+{
+    let mut left = mask;
+    let mut found: u32 = 0;
+    while left != 0 {
+        let b = mask_next(left);
+        let bit = bit_of(b);
+        found += bit_if(channel_takes(channel_at(plan, b as usize), r), bit);
+        left -= bit;
+    }
+    found
+}
+
 // The channels that leave a node and take a record, as a mask.
 pub fn taking_mask(plan: &[u8], node: usize, r: Record) -> u32
     ensures { λ m. ⌜ m ≡ planMask (now (plan .entry)) (taking (planOf (now (plan .entry))) node r) ⌝ }
 {
-    picked_mask(plan, Pick::Taking(node, r))
+    taking_among(plan, leaving_mask(plan, node), r)
 }
 
 // 1: shorter than a head, or another length than its length field says.
@@ -389,28 +417,54 @@ fn bad_channels(plan: &[u8]) -> bool
     !ok
 }
 
-// Whether at most 4 channels enter a node and at most 4 leave it.
-fn node_degree_fits(plan: &[u8], node: usize) -> bool
-    requires { ⌜ planChannels (now plan) ≤ 24 ⌝ }
-    ensures { λ r. ⌜ r ≡ (leb (length (entering (planOf (now (plan .entry))) node)) 4 && leb (length (leaving (planOf (now (plan .entry))) node)) 4) ⌝ }
+// One channel more at a node.
+fn count_one(counts: &mut [u8; 12], node: usize)
+    requires { ⌜ (length (now counts) ≡ 12) × (node < 12) × (getD (now counts) node 0 < 255) ⌝ }
+    ensures { λ _. ⌜ now (counts .exit) ≡ set (now (counts .entry)) node (getD (now (counts .entry)) node 0 + 1) ⌝ }
 {
-    let enter = mask_count(entering_mask(plan, node));
-    let leave = mask_count(leaving_mask(plan, node));
-    (enter <= 4) & (leave <= 4)
+    counts[node] += 1;
 }
 
-// 7: more than 4 channels into a node or out of it.
-fn bad_degrees(plan: &[u8]) -> bool
-    requires { ⌜ planChannels (now plan) ≤ 24 ⌝ }
-    ensures { λ r. ⌜ r ≡ badDegrees (now (plan .entry)) ⌝ }
+// Counts each channel at its receiver and at its sender.
+fn count_ends(plan: &[u8], enter: &mut [u8; 12], leave: &mut [u8; 12])
+    requires { ⌜ Joined (now plan) × (now enter ≡ replicate 12 0) × (now leave ≡ replicate 12 0) ⌝ }
+    ensures { λ _. ⌜ Degrees (planOf (now (plan .entry))) (now (enter .exit)) (now (leave .exit)) ⌝ }
+{
+    let mut left = channel_count(plan);
+    let mut at = 5 + 4 * node_count(plan) + 6 * left;
+    while 0 < left {
+        left -= 1;
+        at -= 6;
+        let sender = index_of(plan[at]);
+        let receiver = index_of(plan[at + 1]);
+        count_one(enter, receiver);
+        count_one(leave, sender);
+    }
+}
+
+// Whether at most 4 channels enter each node and at most 4 leave it.
+fn degrees_fit(plan: &[u8], enter: &[u8; 12], leave: &[u8; 12]) -> bool
+    requires { ⌜ (planNodes (now plan) ≤ 12) × Degrees (planOf (now plan)) (now enter) (now leave) ⌝ }
+    ensures { λ r. ⌜ r ≡ fourAtMost (planOf (now (plan .entry))) (planNodes (now (plan .entry))) ⌝ }
 {
     let mut left = node_count(plan);
     let mut ok = true;
     while 0 < left {
         left -= 1;
-        ok = ok & node_degree_fits(plan, left);
+        ok = ok & ((enter[left] <= 4) & (leave[left] <= 4));
     }
-    !ok
+    ok
+}
+
+// 7: more than 4 channels into a node or out of it, in a plan that the checks 3, 4 and 6 pass.
+fn bad_degrees(plan: &[u8]) -> bool
+    requires { ⌜ Joined (now plan) ⌝ }
+    ensures { λ r. ⌜ r ≡ badDegrees (now (plan .entry)) ⌝ }
+{
+    let mut enter: [u8; 12] = [0; 12];
+    let mut leave: [u8; 12] = [0; 12];
+    count_ends(plan, &mut enter, &mut leave);
+    !degrees_fit(plan, &enter, &leave)
 }
 
 // The first of document 01's refusals 1 to 7 that applies to a plan, 0 if none does.

@@ -8,9 +8,6 @@ returns c = rw (c .index-of .ensures .0, c .before .before .p .given .1)
 returns-2 : tie.Need-returns-2
 returns-2 c = rw (c .index-of2 .ensures .0, c .before .before .p2 .given .1)
 
-returns-3 : tie.Need-returns-3
-returns-3 c = rw (c .before .index-of3 .ensures .0, c .channel-takes .ensures, c .before .before .before .p3 .given .1)
-
 pub picks-spec : {M : Type 1} → statement M
 picks-spec =
     tie.close
@@ -19,9 +16,5 @@ picks-spec =
     (λ c κs. tt)
     (λ c. search needs)
     (λ c κs. tt)
-    (λ c. search needs)
-    (λ c κs. tt)
-    (λ c κs. tt)
     returns
-    returns-2
-    returns-3)
+    returns-2)

@@ -1,5 +1,5 @@
 use mathlib.Core.Path.{sym, _∙_}
-use Rattle.plan.proofs.CheckLaws.{firstOf, refusal-first, few-channels}
+use Rattle.plan.proofs.CheckLaws.{firstOf, refusal-first}
 use Rattle.plan.proofs.plan_check.Statement.{statement}
 use Rattle.plan.proofs.plan_check.Tie as tie
 
@@ -28,7 +28,11 @@ unfolding firstOf
 returns-6 c = rw (refusal-first (c .before .before .before .before .before .before .before .before .before .before .before .before .before .args .plan .now), ← c .before .before .before .before .before .before .before .before .before .before .before .bad-length .ensures, c .before .before .before .before .before .before .before .before .before .before .if1 .left, ← c .before .before .before .before .before .before .before .before .before .bad-version .ensures, c .before .before .before .before .before .before .before .before .if2 .left, ← c .before .before .before .before .before .before .before .bad-counts .ensures, c .before .before .before .before .before .before .if3 .left, ← c .before .before .before .before .before .bad-size .ensures, c .before .before .before .before .if4 .left, ← c .before .before .before .bad-rules .ensures, c .before .before .if5 .left, ← c .before .bad-channels .ensures, c .if6 .taken)
 
 bad-degrees-requires : tie.Need-bad-degrees-requires
-bad-degrees-requires c κs = few-channels (c .before .before .before .before .before .before .before .before .before .before .before .before .before .args .plan .now) (sym (c .before .before .before .before .before .before .before .bad-counts .ensures) ∙ c .before .before .before .before .before .before .if3 .left)
+bad-degrees-requires c κs = record {
+  counts = sym (c .before .before .before .before .before .before .before .bad-counts .ensures) ∙ c .before .before .before .before .before .before .if3 .left;
+  size = sym (c .before .before .before .before .before .bad-size .ensures) ∙ c .before .before .before .before .if4 .left;
+  channels = sym (c .before .bad-channels .ensures) ∙ c .if6 .left;
+}
 
 returns-7 : tie.Need-returns-7
 unfolding firstOf
