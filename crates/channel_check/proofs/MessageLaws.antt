@@ -14,7 +14,7 @@ use lib.Seq.{take-take, getD-drop}
 use Rattle.plan.specs.Layout.{spelled}
 use Rattle.plan.specs.Record.{recordLayout}
 use Rattle.plan.specs.Plan.{planOf, entering, isSource}
-use Rattle.rules.specs.Line.{fed, made, Message}
+use Rattle.rules.specs.Line.{made, Message}
 use Rattle.state.specs.Pieces.{originFrom, originLayout}
 use Rattle.state.specs.Right.{wordAt}
 use Rattle.state.specs.State.{lineOf}

@@ -1,23 +1,23 @@
 -- The check's tests of bytes, and the properties that they stand for.
 use Prim.Native.Nat.{ℕ, zero, suc, _+_, _*_, _-_, _<_, _≤_}
-use mathlib.Core.Path.{_≡_, refl, sym, ap, subst, _∙_}
+use mathlib.Core.Path.{_≡_, refl, sym, subst, _∙_}
 use mathlib.Core.Logic.{_↔_}
 use mathlib.Core.Bool.{Bool, true, false, not, _&&_, _||_, true≢false}
 use mathlib.Core.List.{List, [], _∷_}
 use native.Mathlib.Nat.{zero-add}
 use native.Mathlib.Omega.{arith}
-use lib.ListN.{length, getD, take, drop}
+use lib.ListN.{getD, take, drop}
 use lib.Seq.{drop-drop}
 use lib.Dec.{leb, eqb}
-use borrow.Author.Tests.{eq-eqb, eqb-true, le-leb, leb-true, ne-eqb}
+use borrow.Author.Tests.{eq-eqb, eqb-true, le-leb, leb-true}
 use Rattle.plan.specs.Lawful.{Zeros}
 use Rattle.basics.specs.Bools.{both-true}
 use Rattle.rules.specs.Line.{logLimit, queueLimit, heldLimit, targetLimit}
-use Rattle.state.specs.Sizes.{countSize, entrySize, heldSize, targetSize, messageSize, heardAt, parentLimit, blockSize}
-use Rattle.state.specs.Right.{ZerosAt, wordAt, RecordRight, OriginRight, MessageRight, EntryRight, HeldRight, TargetRight, ListRight, NodeRight, LaneRight}
+use Rattle.state.specs.Sizes.{countSize, entrySize, heldSize, targetSize, messageSize, heardAt, parentLimit}
+use Rattle.state.specs.Right.{ZerosAt, wordAt, MessageRight, EntryRight, HeldRight, TargetRight, ListRight, NodeRight, LaneRight}
 use Rattle.state.proofs.BlockRight.{spelled-zero}
 use Rattle.buffer.specs.Zero.{zeroBytes}
-use Rattle.buffer.specs.Exact.{zeroAt, recordExact, originExact, messageExact, entryExact, heldExact, targetExact, slotsExact, listExact, pageExact, blockExact}
+use Rattle.buffer.specs.Exact.{zeroAt, messageExact, entryExact, heldExact, targetExact, slotsExact, listExact, pageExact, blockExact}
 use Rattle.buffer.proofs.BytesLaws.{zero-bytes}
 
 -- A test stands for a property.

@@ -1,27 +1,26 @@
 -- The check over the whole state: it finds nothing exactly where `stateAnswer` is 0.
-use Prim.Native.Nat.{ℕ, zero, suc, min, _+_, _*_, _-_, _<_, _≤_}
+use Prim.Native.Nat.{ℕ, zero, suc, _+_, _*_, _-_, _<_, _≤_}
 use mathlib.Core.Path.{_≡_, refl, sym, ap, _∙_}
 use mathlib.Core.Bool.{Bool, true, false, not, _&&_, true≢false}
 use mathlib.Core.List.{List}
 use native.Mathlib.Omega.{arith}
-use lib.ListN.{length, take, length-take}
+use lib.ListN.{length, take}
 use lib.Dec.{leb, eqb}
 use borrow.Author.Tests.{eq-eqb}
 use Rattle.plan.specs.Lawful.{Bytes}
 use Rattle.plan.specs.Plan.{Plan, planOf, planBytes, planSize, planNodes, planChannels, nodeCount, channelCount, channelAt}
 use Rattle.plan.specs.Check.{planRefusal, planFits}
 use Rattle.plan.proofs.PlanLaws.{node-count, channel-count}
-use Rattle.plan.proofs.FitsLaws.{fitting}
 use Rattle.basics.specs.Bools.{both-true}
 use Rattle.rules.specs.Lists.{allOf, upTo}
-use Rattle.rules.specs.Line.{stepLimit, Lane, Line, laneAt, nodeNumbers, channelNumbersOf, parents, senderOf}
+use Rattle.rules.specs.Line.{stepLimit, Line, laneAt, nodeNumbers, channelNumbersOf, parents, senderOf}
 use Rattle.rules.specs.Damaged.{damaged}
 use Rattle.rules.proofs.Members.{all-in, in-up-to}
-use Rattle.state.specs.Sizes.{stateSize, planArea, stepsAt, countSize, stepsRest, pageAt, pageSize, blockAt, blockSize, parentLimit, nodePages, laneBlocks, tailAt, tailSize}
-use Rattle.state.specs.Lane.{laneLayout, cutHeard, heardCount}
+use Rattle.state.specs.Sizes.{stateSize, planArea, stepsAt, countSize, stepsRest, pageAt, pageSize, blockAt, blockSize, nodePages, laneBlocks, tailAt, tailSize}
+use Rattle.state.specs.Lane.{heardCount}
 use Rattle.state.specs.State.{lineOf, stateAnswer}
 use Rattle.state.specs.Right.{ZerosAt, StateRight}
-use Rattle.state.proofs.InPlace.{Counted, line-plan, nodes-counted, lanes-counted, lane-in, blockOf}
+use Rattle.state.proofs.InPlace.{Counted, line-plan, nodes-counted, lanes-counted}
 use Rattle.state.proofs.PlanFitting.{fits-counted, few-heard, heard-long}
 use Rattle.state.proofs.StoredPlan.{storedPlan, stored-accepted}
 use Rattle.state.proofs.AcceptedState.{state-checked}
