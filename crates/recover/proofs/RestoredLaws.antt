@@ -12,7 +12,7 @@ use Rattle.basics.specs.Bools.{both-true}
 use Rattle.plan.specs.Plan.{planChannels}
 use Rattle.rules.specs.Line.{Entry, Target}
 use Rattle.rules.specs.Recover.{lowOf, triples, restored}
-use Rattle.rules.proofs.ListLaws.{replicate-default}
+use Rattle.basics.specs.Replicate.{replicate-default}
 use Rattle.state.specs.State.{lineOf}
 use Rattle.recover.specs.declared.Triple.{Triple}
 use Rattle.recover.specs.Found.{noEntry, tripleOf, tripleList, triplesOn, restoredOver, rowsLong, Rows, raisedAt, raisedBy}
