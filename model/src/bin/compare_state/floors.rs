@@ -78,8 +78,8 @@ fn calls() -> Vec<Floor> {
     let mut floors = under(section::LOAD, 500, (0..=8).map(answer));
     floors.extend(under(section::LOAD, 5_000, PLANS));
     floors.extend(under(section::LOAD, 5_000, LENGTHS));
-    floors.extend(under(section::WRITE, 500, [0, 8, 23].map(answer)));
-    floors.extend(under(section::WRITE, 1_000, LENGTHS));
+    floors.extend(under(section::WRITE, 2_000, [0, 8, 23].map(answer)));
+    floors.extend(under(section::WRITE, 2_000, LENGTHS));
     floors.extend(under(section::WRITE_AGAIN, 1_000, [0, 23].map(answer)));
     floors
 }
