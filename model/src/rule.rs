@@ -65,6 +65,7 @@ impl Rule {
 #[cfg(test)]
 mod tests {
     use super::Rule;
+    use crate::plan::practice::WRONG_RULES;
     use crate::record::Record;
 
     #[test]
@@ -80,18 +81,7 @@ mod tests {
             assert_eq!(Rule::read(bytes), Some(rule));
             assert_eq!(rule.write(), bytes);
         }
-        let refused = [
-            [0, 1, 0, 0],
-            [0, 0, 0, 1],
-            [0, 0, 1, 0],
-            [1, 16, 0, 0],
-            [1, 0, 0, 16],
-            [1, 0, 1, 0],
-            [2, 0, 0, 0],
-            [2, 1, 0, 1],
-            [3, 0, 0, 0],
-        ];
-        for bytes in refused {
+        for bytes in WRONG_RULES {
             assert_eq!(Rule::read(bytes), None);
         }
     }

@@ -2,6 +2,21 @@
 
 use super::Plan;
 use crate::random::Random;
+use crate::rule::Rule;
+
+/// Each wrong in one way.
+pub const WRONG_RULES: [[u8; Rule::LENGTH]; 10] = [
+    [0, 1, 0, 0],
+    [0, 0, 0, 1],
+    [0, 0, 1, 0],
+    [1, 16, 0, 0],
+    [1, 0, 0, 16],
+    [1, 0, 1, 0],
+    [2, 0, 0, 0],
+    [2, 1, 0, 1],
+    [3, 0, 0, 0],
+    [255, 0, 0, 0],
+];
 
 fn rule(random: &mut Random) -> [u8; 4] {
     match random.between(0, 2) {

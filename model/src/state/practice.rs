@@ -2,25 +2,31 @@
 //! damage to it.
 
 mod cases;
+mod change;
 pub mod conditions;
+mod features;
 mod fields;
 mod harmless;
 mod pick;
 mod places;
 mod runs;
+mod scrambles;
 mod slots;
 pub mod staged;
 
+pub use change::Change;
 pub use conditions::CLAUSES;
+pub use features::FEATURES;
 pub use harmless::HARMLESS;
 pub use places::{places, Place};
-pub use runs::lines;
+pub use runs::{last_lines, lines};
+pub use scrambles::SCRAMBLES;
 pub use slots::SHUFFLES;
 
 use super::line_bytes;
 use crate::line::Line;
 use crate::random::Random;
-use cases::{disturbed, made_of, unused_case};
+use cases::{disturbed, made_of, undamaged, unused_case};
 
 #[derive(Clone, Copy, Debug, PartialEq, Eq, PartialOrd, Ord)]
 pub enum Kind {
@@ -38,6 +44,8 @@ pub enum Kind {
     Bit,
     /// Slots, lists or blocks moved.
     Shuffled,
+    /// All bytes, those behind the plan or those of a part drawn at random.
+    Scrambled,
     /// One unused byte set.
     Unused,
     Length,
@@ -55,35 +63,29 @@ pub struct Case<'a> {
 
 pub type Visit<'a> = &'a mut dyn FnMut(&Case);
 
-/// How many cases of a kind are made of each line.
-#[derive(Clone, Copy, Debug)]
-pub struct Effort {
-    pub conditions: usize,
-    pub disturbed: usize,
-    pub fields: usize,
-    pub bytes: usize,
-    pub shuffles: usize,
-    pub unused: usize,
+/// The line as it is: frames lead to it.
+pub fn reached(line: &Line, visit: Visit) {
+    undamaged(line, Kind::Reached, visit);
 }
 
-/// The lines of a run, disturbed lines, and what is made of them.
-pub fn run(seed: u64, effort: Effort, visit: Visit) {
-    let mut random = Random::new(seed);
-    for line in lines(&mut random) {
-        made_of(&mut random, &line, effort, Kind::Reached, visit);
-        let disturbed = disturbed(&mut random, &line, effort.disturbed, visit);
-        made_of(&mut random, &disturbed, effort, Kind::Disturbed, visit);
+/// What is made of the lines, and of lines that those are disturbed to.
+pub fn damaged(random: &mut Random, lines: &[Line], visit: Visit) {
+    for line in lines {
+        made_of(random, line, visit);
+        let disturbed = disturbed(random, line, visit);
+        undamaged(&disturbed, Kind::Disturbed, visit);
+        made_of(random, &disturbed, visit);
     }
 }
 
-/// Every field of the staged lines by one more and one less, for the smaller ones
-/// also set to its edges, and what else is made of them.
-pub fn staged(seed: u64, effort: Effort, visit: Visit) {
-    let mut random = Random::new(seed);
+/// The staged lines and what is made of them; every field by one more and one
+/// less, for the smaller ones also set to its edges.
+pub fn staged(random: &mut Random, visit: Visit) {
     let small = [staged::fresh(), staged::mixed()].map(|line| (line, true));
     let large = [staged::full(), staged::replaying()].map(|line| (line, false));
     for (line, is_small) in small.into_iter().chain(large) {
-        made_of(&mut random, &line, effort, Kind::Reached, visit);
+        reached(&line, visit);
+        made_of(random, &line, visit);
         let mut state = line_bytes(&line);
         for place in places(&line).into_iter().filter(|place| place.is_used) {
             fields::neighbours(&mut state, place, visit);
@@ -96,8 +98,7 @@ pub fn staged(seed: u64, effort: Effort, visit: Visit) {
 
 /// Every byte that is unused in any state is unused in the smallest one: each of
 /// them set, one at a time.
-pub fn unused(seed: u64, line: &Line, visit: Visit) {
-    let mut random = Random::new(seed);
+pub fn unused(random: &mut Random, line: &Line, visit: Visit) {
     let mut state = line_bytes(line);
     for place in places(line).into_iter().filter(|place| !place.is_used) {
         for at in place.range() {

@@ -4,3 +4,23 @@ mod bytes;
 mod calls;
 mod damage;
 mod round_trips;
+
+use std::sync::OnceLock;
+
+use super::practice::{last_lines, lines, staged};
+use crate::line::Line;
+use crate::random::Random;
+
+const RUNS: u64 = 300;
+const LAST_RUNS: u64 = 20;
+
+/// The lines of each run, made once for all tests.
+fn runs() -> &'static [Vec<Line>] {
+    static LINES: OnceLock<Vec<Vec<Line>>> = OnceLock::new();
+    LINES.get_or_init(|| {
+        let worn = staged::worn();
+        let runs = (0..RUNS).map(|seed| lines(&mut Random::new(seed)));
+        let last = (0..LAST_RUNS).map(|seed| last_lines(&mut Random::new(seed), &worn));
+        runs.chain(last).collect()
+    })
+}

@@ -1,79 +1,91 @@
-// How often each kind of call was made, and each condition of the paper met.
+// How often each kind of call was made, each condition of the paper met, and
+// what the states had in them.
 
-use std::collections::BTreeMap;
+use std::collections::{BTreeMap, HashSet};
+use std::hash::{DefaultHasher, Hash, Hasher};
 
-use model::state::practice::{Case, Kind, CLAUSES, HARMLESS};
+use model::state::practice::{Case, Kind, FEATURES};
+use model::state::read_line;
 
-const LEAST: usize = 20;
+use crate::floors::{self, Floor};
+use crate::section;
+
+type Row = (&'static str, String);
 
 #[derive(Default)]
 pub struct Counts {
-    /// Accepted and refused.
-    kinds: BTreeMap<Kind, [usize; 2]>,
-    names: BTreeMap<(Kind, &'static str, &'static str), usize>,
-    /// By answer.
-    loads: BTreeMap<u32, usize>,
-    writes: BTreeMap<u32, usize>,
+    rows: BTreeMap<Row, usize>,
+    reached: HashSet<u64>,
 }
 
 impl Counts {
+    pub fn add(&mut self, section: &'static str, name: impl Into<String>) {
+        *self.rows.entry((section, name.into())).or_default() += 1;
+    }
+
+    pub fn answered(&mut self, section: &'static str, answer: u32) {
+        self.add(section, floors::answer(answer));
+    }
+
     pub fn checked(&mut self, case: &Case, answer: u32) {
-        let is_refused = usize::from(answer != 0);
-        self.kinds.entry(case.kind).or_default()[is_refused] += 1;
-        let name = (case.kind, case.clause, case.name);
-        *self.names.entry(name).or_default() += 1;
-    }
-
-    pub fn loaded(&mut self, answer: u32) {
-        *self.loads.entry(answer).or_default() += 1;
-    }
-
-    pub fn written(&mut self, answer: u32) {
-        *self.writes.entry(answer).or_default() += 1;
-    }
-
-    pub fn print(&self) {
-        println!("{:<12}{:>10}{:>10}", "states", "accepted", "damaged");
-        for (kind, [accepted, refused]) in &self.kinds {
-            println!("{:<12}{accepted:>10}{refused:>10}", format!("{kind:?}"));
+        self.add(section::STATES, floors::outcome(case.kind, answer == 0));
+        match case.kind {
+            Kind::Reached => self.reached(case.state),
+            Kind::Condition => self.add(case.clause, case.name),
+            Kind::Harmless => self.add(section::HARMLESS, case.name),
+            Kind::Field => self.add(section::FIELDS, case.name),
+            Kind::Shuffled => self.add(section::SHUFFLES, case.name),
+            Kind::Scrambled => self.add(section::SCRAMBLES, case.name),
+            Kind::Disturbed | Kind::Byte | Kind::Bit | Kind::Unused | Kind::Length => {}
         }
-        println!("\nconditions");
-        for clause in CLAUSES {
-            println!("{}", clause.words);
-            for condition in clause.conditions {
-                let count = self.named(Kind::Condition, clause.words, condition.name);
-                println!("{count:>10}  {}", condition.name);
+    }
+
+    /// Each state once, however often it is reached.
+    fn reached(&mut self, state: &[u8]) {
+        let mut hasher = DefaultHasher::new();
+        state.hash(&mut hasher);
+        if !self.reached.insert(hasher.finish()) {
+            return;
+        }
+        self.add(section::REACHED, floors::DIFFERENT);
+        let line = read_line(state).expect("a reached line");
+        for feature in FEATURES {
+            if (feature.is_in)(&line) {
+                self.add(section::REACHED, feature.name);
             }
         }
-        println!("no damage");
-        for harmless in HARMLESS {
-            let count = self.named(Kind::Harmless, "", harmless.name);
-            println!("{count:>10}  {}", harmless.name);
-        }
-        println!("\nLoad by answer: {:?}", self.loads);
-        println!("Write by answer: {:?}", self.writes);
     }
 
-    fn named(&self, kind: Kind, clause: &'static str, name: &'static str) -> usize {
-        self.names.get(&(kind, clause, name)).copied().unwrap_or(0)
+    /// Every row with the count that it must have at least.
+    pub fn print(&self) {
+        let mut section = "";
+        println!("{:>10}{:>10}", "count", "at least");
+        for floor in floors::all() {
+            if floor.section != section {
+                section = floor.section;
+                println!("\n{section}");
+            }
+            let count = self.count(&floor);
+            println!("{count:>10}{:>10}  {}", floor.least, floor.name);
+        }
+    }
+
+    fn count(&self, floor: &Floor) -> usize {
+        let row = (floor.section, floor.name.clone());
+        self.rows.get(&row).copied().unwrap_or(0)
     }
 
     pub fn assert_enough(&self) {
-        for clause in CLAUSES {
-            for condition in clause.conditions {
-                let count = self.named(Kind::Condition, clause.words, condition.name);
-                assert!(count >= LEAST, "too few of {}", condition.name);
-            }
+        let floors = floors::all();
+        for floor in &floors {
+            let is_enough = self.count(floor) >= floor.least;
+            assert!(is_enough, "too few: {}: {}", floor.section, floor.name);
         }
-        for harmless in HARMLESS {
-            let count = self.named(Kind::Harmless, "", harmless.name);
-            assert!(count >= LEAST, "too few of {}", harmless.name);
-        }
-        for answer in 0..=8 {
-            assert!(self.loads.get(&answer) >= Some(&LEAST), "too few loads");
-        }
-        for answer in [0, 8, 23] {
-            assert!(self.writes.get(&answer) >= Some(&LEAST), "too few writes");
-        }
+        let has_floor = |(section, name): &Row| {
+            let mut floors = floors.iter();
+            floors.any(|floor| floor.section == *section && floor.name == *name)
+        };
+        let without = self.rows.keys().find(|row| !has_floor(row));
+        assert_eq!(without, None, "counted, but with no least number");
     }
 }

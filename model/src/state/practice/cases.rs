@@ -1,57 +1,54 @@
 //! What is made of one undamaged line.
 
+use super::change::Change;
 use super::fields::{self, Fields};
-use super::{places, Case, Effort, Kind, Place, Visit, CLAUSES, HARMLESS, SHUFFLES};
+use super::{places, Case, Kind, Place, Visit, CLAUSES, HARMLESS, SCRAMBLES, SHUFFLES};
 use crate::answer::{ACCEPTED, STATE};
 use crate::line::practice::{disturb, retarget};
 use crate::line::Line;
 use crate::random::Random;
 use crate::state::{check, line_bytes, LENGTH};
 
-pub fn made_of(random: &mut Random, line: &Line, effort: Effort, kind: Kind, visit: Visit) {
-    let mut state = line_bytes(line);
+/// How many cases of a kind are made of each line.
+const DISTURBED: usize = 10;
+const FIELDS: usize = 20;
+const BYTES: usize = 10;
+const SHUFFLED: usize = 10;
+const UNUSED: usize = 10;
+
+pub fn undamaged(line: &Line, kind: Kind, visit: Visit) {
     visit(&Case {
         kind,
         clause: "",
         name: "undamaged",
-        state: &state,
+        state: &line_bytes(line),
         expected: Some(ACCEPTED),
     });
-    for _ in 0..effort.conditions {
-        by_name(random, line, visit);
-    }
+}
+
+pub fn made_of(random: &mut Random, line: &Line, visit: Visit) {
+    by_name(random, line, visit);
+    let mut state = line_bytes(line);
     let (used, unused): (Vec<Place>, Vec<Place>) =
         places(line).into_iter().partition(|place| place.is_used);
     let fields = Fields::new(&used);
-    for _ in 0..effort.fields {
+    for _ in 0..FIELDS {
         let place = fields.any(random);
         fields::neighbours(&mut state, place, visit);
         fields::edge(random, &mut state, place, line.steps, visit);
     }
-    for _ in 0..effort.bytes {
+    for _ in 0..BYTES {
         noise(random, &mut state, &used, visit);
     }
-    for _ in 0..effort.shuffles {
+    for _ in 0..SHUFFLED {
         let shuffle = &SHUFFLES[random.index(SHUFFLES.len())];
-        let mut shuffled = state.clone();
-        if (shuffle.change)(random, line, &mut shuffled).is_some() {
-            visit(&Case {
-                kind: Kind::Shuffled,
-                clause: "",
-                name: shuffle.name,
-                state: &shuffled,
-                expected: None,
-            });
-        }
+        changed(random, line, &state, Kind::Shuffled, shuffle, visit);
     }
-    for _ in 0..effort.unused {
-        let place = random.pick(&unused);
-        if place.width > 0 {
-            let at = place.at + random.index(place.width);
-            state[at] = random.between(1, 255) as u8;
-            visit(&unused_case(place, &state));
-            state[at] = 0;
-        }
+    for scramble in SCRAMBLES {
+        changed(random, line, &state, Kind::Scrambled, scramble, visit);
+    }
+    for _ in 0..UNUSED {
+        one_unused(random, &mut state, &unused, visit);
     }
     lengths(random, &state, visit);
 }
@@ -110,6 +107,36 @@ fn noise(random: &mut Random, state: &mut [u8], used: &[Place], visit: Visit) {
     state[at] = kept;
 }
 
+fn changed(
+    random: &mut Random,
+    line: &Line,
+    state: &[u8],
+    kind: Kind,
+    change: &Change,
+    visit: Visit,
+) {
+    let mut changed = state.to_vec();
+    if (change.apply)(random, line, &mut changed).is_some() {
+        visit(&Case {
+            kind,
+            clause: "",
+            name: change.name,
+            state: &changed,
+            expected: None,
+        });
+    }
+}
+
+fn one_unused(random: &mut Random, state: &mut [u8], unused: &[Place], visit: Visit) {
+    let place = random.pick(unused);
+    if place.width > 0 {
+        let at = place.at + random.index(place.width);
+        state[at] = random.between(1, 255) as u8;
+        visit(&unused_case(place, state));
+        state[at] = 0;
+    }
+}
+
 pub fn unused_case(place: Place, state: &[u8]) -> Case<'_> {
     Case {
         kind: Kind::Unused,
@@ -137,10 +164,10 @@ fn lengths(random: &mut Random, state: &[u8], visit: Visit) {
 
 /// Disturbs the line time and again and goes on from there for as long as it is
 /// undamaged. The last undamaged line.
-pub fn disturbed(random: &mut Random, line: &Line, times: usize, visit: Visit) -> Line {
+pub fn disturbed(random: &mut Random, line: &Line, visit: Visit) -> Line {
     let mut last = line.clone();
     last.steps = (last.steps + 20).min(Line::MOST_STEPS);
-    for _ in 0..times {
+    for _ in 0..DISTURBED {
         let mut next = last.clone();
         for _ in 0..random.between(1, 4) {
             disturb(random, &mut next);

@@ -55,15 +55,13 @@ pub fn entry(
     line: &Line,
     will_do: impl Fn(usize, &Entry) -> bool,
 ) -> Option<(usize, usize)> {
-    let number = node(random, line, |number, node| {
-        node.log.iter().any(|entry| will_do(number, entry))
-    })?;
-    let log = &line.nodes[number].log;
-    let index = any(
+    let log = |number: usize| &line.nodes[number].log;
+    place(
         random,
-        (0..log.len()).filter(|&index| will_do(number, &log[index])),
-    )?;
-    Some((number, index))
+        line.nodes.len(),
+        |number| log(number).len(),
+        |number, index| will_do(number, &log(number)[index]),
+    )
 }
 
 /// A node and the index of a record that it holds.
@@ -72,15 +70,8 @@ pub fn held(
     line: &Line,
     will_do: impl Fn(usize, usize) -> bool,
 ) -> Option<(usize, usize)> {
-    let indices = |number: usize| 0..line.nodes[number].buffered.len();
-    let number = node(random, line, |number, _| {
-        indices(number).any(|index| will_do(number, index))
-    })?;
-    let index = any(
-        random,
-        indices(number).filter(|&index| will_do(number, index)),
-    )?;
-    Some((number, index))
+    let length = |number: usize| line.nodes[number].buffered.len();
+    place(random, line.nodes.len(), length, will_do)
 }
 
 /// A channel and the index of a message on it.
@@ -89,15 +80,22 @@ pub fn message(
     line: &Line,
     will_do: impl Fn(usize, usize) -> bool,
 ) -> Option<(usize, usize)> {
-    let indices = |number: usize| 0..line.queues[number].messages.len();
-    let number = channel(random, line, |number| {
-        indices(number).any(|index| will_do(number, index))
-    })?;
-    let index = any(
-        random,
-        indices(number).filter(|&index| will_do(number, index)),
-    )?;
-    Some((number, index))
+    let length = |number: usize| line.queues[number].messages.len();
+    place(random, line.queues.len(), length, will_do)
+}
+
+/// One of the lists and an index in it. A long list is drawn no more often than
+/// a short one.
+fn place(
+    random: &mut Random,
+    lists: usize,
+    length: impl Fn(usize) -> usize,
+    will_do: impl Fn(usize, usize) -> bool,
+) -> Option<(usize, usize)> {
+    let has_any = |list: usize| (0..length(list)).any(|index| will_do(list, index));
+    let list = any(random, (0..lists).filter(|&list| has_any(list)))?;
+    let indices = (0..length(list)).filter(|&index| will_do(list, index));
+    Some((list, any(random, indices)?))
 }
 
 /// The channel from a parent to the node.

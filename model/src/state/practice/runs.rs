@@ -2,6 +2,7 @@
 
 use std::cmp::Reverse;
 
+use crate::answer::ACCEPTED;
 use crate::line::practice::{any_plan, tear, Practice};
 use crate::line::{step, Frame, Line, Status};
 use crate::plan::{Channel, Plan};
@@ -16,6 +17,21 @@ pub fn lines(random: &mut Random) -> Vec<Line> {
     } else {
         practised(random)
     }
+}
+
+/// Lines on the way of the given one to the end of all steps, and the last.
+pub fn last_lines(random: &mut Random, first: &Line) -> Vec<Line> {
+    let mut line = first.clone();
+    let mut practice = Practice::new(random);
+    let mut lines = Vec::new();
+    while line.steps < Line::MOST_STEPS {
+        let frame = practice.frame(random, &line);
+        if step(&mut line, &frame) == ACCEPTED && random.one_in(16) {
+            lines.push(line.clone());
+        }
+    }
+    lines.push(line);
+    lines
 }
 
 fn drawn_plan(random: &mut Random) -> Plan {

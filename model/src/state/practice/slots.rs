@@ -1,36 +1,24 @@
 //! Slots of a list that change places, are lost or doubled; blocks likewise.
 
+use super::change::{change, Change};
 use crate::line::Line;
 use crate::random::Random;
 use crate::state::layout::*;
 
-pub struct Shuffle {
-    pub name: &'static str,
-    /// None where the line has no place for it.
-    pub change: fn(&mut Random, &Line, &mut [u8]) -> Option<()>,
-}
-
-const fn shuffle(
-    name: &'static str,
-    change: fn(&mut Random, &Line, &mut [u8]) -> Option<()>,
-) -> Shuffle {
-    Shuffle { name, change }
-}
-
-pub const SHUFFLES: &[Shuffle] = &[
-    shuffle("two slots swapped", |random, line, state| {
+pub const SHUFFLES: &[Change] = &[
+    change("two slots swapped", |random, line, state| {
         let list = any_list(random, line, state, 2)?;
         let (first, second) = (random.index(list.count), random.index(list.count));
         list.swap(state, first, second);
         Some(())
     }),
-    shuffle("neighbouring slots swapped", |random, line, state| {
+    change("neighbouring slots swapped", |random, line, state| {
         let list = any_list(random, line, state, 2)?;
         let first = random.index(list.count - 1);
         list.swap(state, first, first + 1);
         Some(())
     }),
-    shuffle("a slot swapped with a free one", |random, line, state| {
+    change("a slot swapped with a free one", |random, line, state| {
         let list = any_list(random, line, state, 1)?;
         if list.count == list.slots.most {
             return None;
@@ -39,44 +27,44 @@ pub const SHUFFLES: &[Shuffle] = &[
         list.swap(state, random.index(list.count), free);
         Some(())
     }),
-    shuffle("all slots one later", |random, line, state| {
+    change("all slots one later", |random, line, state| {
         let list = any_list(random, line, state, 1)?;
         state[list.range(0, list.slots.most)].rotate_right(list.slots.length);
         Some(())
     }),
-    shuffle("all slots one earlier", |random, line, state| {
+    change("all slots one earlier", |random, line, state| {
         let list = any_list(random, line, state, 1)?;
         state[list.range(0, list.slots.most)].rotate_left(list.slots.length);
         Some(())
     }),
-    shuffle("all slots one byte later", |random, line, state| {
+    change("all slots one byte later", |random, line, state| {
         let list = any_list(random, line, state, 1)?;
         state[list.range(0, list.slots.most)].rotate_right(1);
         Some(())
     }),
-    shuffle("all slots one byte earlier", |random, line, state| {
+    change("all slots one byte earlier", |random, line, state| {
         let list = any_list(random, line, state, 1)?;
         state[list.range(0, list.slots.most)].rotate_left(1);
         Some(())
     }),
-    shuffle("a slot over the next one", |random, line, state| {
+    change("a slot over the next one", |random, line, state| {
         let list = any_list(random, line, state, 2)?;
         let first = random.index(list.count - 1);
         state.copy_within(list.range(first, first + 1), list.at(first + 1));
         Some(())
     }),
-    shuffle("a slot taken out, the count kept", |random, line, state| {
+    change("a slot taken out, the count kept", |random, line, state| {
         let list = any_list(random, line, state, 1)?;
         list.take_out(random, state);
         Some(())
     }),
-    shuffle("a slot taken out", |random, line, state| {
+    change("a slot taken out", |random, line, state| {
         let list = any_list(random, line, state, 1)?;
         list.take_out(random, state);
         list.recount(state, list.count - 1);
         Some(())
     }),
-    shuffle("the last slot doubled", |random, line, state| {
+    change("the last slot doubled", |random, line, state| {
         let list = any_list(random, line, state, 1)?;
         if list.count == list.slots.most {
             return None;
@@ -85,65 +73,65 @@ pub const SHUFFLES: &[Shuffle] = &[
         list.recount(state, list.count + 1);
         Some(())
     }),
-    shuffle("one more counted", |random, line, state| {
+    change("one more counted", |random, line, state| {
         let list = any_list(random, line, state, 0)?;
         list.recount(state, list.count + 1);
         Some(())
     }),
-    shuffle("one less counted", |random, line, state| {
+    change("one less counted", |random, line, state| {
         let list = any_list(random, line, state, 1)?;
         list.recount(state, list.count - 1);
         Some(())
     }),
-    shuffle("list emptied, the count kept", |random, line, state| {
+    change("list emptied, the count kept", |random, line, state| {
         let list = any_list(random, line, state, 1)?;
         state[list.range(0, list.count)].fill(0);
         Some(())
     }),
-    shuffle("list emptied", |random, line, state| {
+    change("list emptied", |random, line, state| {
         let list = any_list(random, line, state, 1)?;
         state[list.range(0, list.count)].fill(0);
         list.recount(state, 0);
         Some(())
     }),
-    shuffle("a node's lists one byte later", |random, line, state| {
+    change("a node's lists one byte later", |random, line, state| {
         let at = node(random.index(line.nodes.len()));
         state[at..at + NODE_LENGTH].rotate_right(1);
         Some(())
     }),
-    shuffle("two nodes swapped", |random, line, state| {
+    change("two nodes swapped", |random, line, state| {
         let (first, second) = (random.index(line.nodes.len()), random.index(12));
         swap(state, node(first), node(second), NODE_LENGTH);
         Some(())
     }),
-    shuffle("two channels swapped", |random, line, state| {
+    change("two channels swapped", |random, line, state| {
         let (first, second) = (random.index(line.queues.len()), random.index(24));
         swap(state, channel(first), channel(second), CHANNEL_LENGTH);
         Some(())
     }),
-    shuffle("all nodes one later", |_, _, state| {
+    change("all nodes one later", |_, _, state| {
         state[node(0)..node(12)].rotate_right(NODE_LENGTH);
         Some(())
     }),
-    shuffle("all channels one later", |_, _, state| {
+    change("all channels one later", |_, _, state| {
         state[channel(0)..channel(24)].rotate_right(CHANNEL_LENGTH);
         Some(())
     }),
-    shuffle("all bytes one later", |_, _, state| {
+    change("all bytes one later", |_, _, state| {
         state.rotate_right(1);
         Some(())
     }),
 ];
 
 /// A list in the state, with the place of its count.
-struct List {
+pub struct List {
     block: usize,
-    slots: Slots,
-    count: usize,
+    pub slots: Slots,
+    pub count: usize,
 }
 
 /// With at least so many slots used.
-fn any_list(random: &mut Random, line: &Line, state: &[u8], least: usize) -> Option<List> {
+pub fn any_list(random: &mut Random, line: &Line, state: &[u8], least: usize) -> Option<List> {
     let nodes = (0..line.nodes.len())
         .flat_map(|number| [LOG, BUFFERED, TARGETS].map(|slots| (node(number), slots)));
     let channels = (0..line.queues.len()).map(|number| (channel(number), QUEUE));
@@ -167,7 +155,7 @@ impl List {
         self.block + self.slots.slot(index)
     }
 
-    fn range(&self, first: usize, end: usize) -> std::ops::Range<usize> {
+    pub fn range(&self, first: usize, end: usize) -> std::ops::Range<usize> {
         self.at(first)..self.at(end)
     }
 

@@ -97,6 +97,23 @@ pub fn replaying() -> Line {
     line
 }
 
+/// All steps but fifty are used up: a router between a source and two sinks has
+/// crashed and recovered time and again.
+pub fn worn() -> Line {
+    let mut line = Line::of(plan_of(4, vec![(0, 1), (1, 2), (1, 3)]));
+    for piece in 0..3 {
+        feed(&mut line, 0, piece);
+        for channel in 0..3 {
+            pass(&mut line, channel);
+        }
+    }
+    while line.steps < Line::MOST_STEPS - 50 {
+        accept(&mut line, Frame::Crash { node: 1 });
+        accept(&mut line, Frame::Recover { node: 1 });
+    }
+    line
+}
+
 /// Rules keep, channels take all.
 pub fn plan_of(node_count: usize, mut ends: Vec<(usize, usize)>) -> Plan {
     ends.sort_unstable();

@@ -5,12 +5,9 @@ use crate::line::Line;
 use crate::plan::practice::{mutate, plan};
 use crate::plan::Plan;
 use crate::random::Random;
-use crate::state::practice::{lines, staged};
+use crate::state::practice::staged;
+use crate::state::tests::runs;
 use crate::state::{line_bytes, load, read_line, write, LENGTH};
-
-fn noise(random: &mut Random, length: usize) -> Vec<u8> {
-    (0..length).map(|_| random.draw() as u8).collect()
-}
 
 #[test]
 fn loaded_plans() {
@@ -50,29 +47,27 @@ fn refused_plan_before_a_short_state() {
 fn written_plans() {
     let mut random = Random::new(4);
     let mut answers = [0; 24];
-    for seed in 0..200 {
-        for line in lines(&mut Random::new(seed)) {
-            let mut state = line_bytes(&line);
-            let is_damaged = random.one_in(4);
-            if is_damaged {
-                state[LENGTH - 1] = 1;
-            }
-            let loaded = line.plan.write();
-            let needed = loaded.len();
-            let length = random.pick(&[0, needed - 1, needed, needed + 1, 512]);
-            let before = noise(&mut random, length);
-            let mut written = before.clone();
-            let answer = write(&state, &mut written);
-            answers[answer as usize] += 1;
-            if is_damaged {
-                assert_eq!((answer, written), (8, before));
-            } else if length < needed {
-                assert_eq!((answer, written), (23, before));
-            } else {
-                assert_eq!(answer, 0);
-                assert_eq!(written[..needed], loaded);
-                assert_eq!(written[needed..], before[needed..]);
-            }
+    for line in runs().iter().flatten() {
+        let mut state = line_bytes(line);
+        let is_damaged = random.one_in(4);
+        if is_damaged {
+            state[LENGTH - 1] = 1;
+        }
+        let loaded = line.plan.write();
+        let needed = loaded.len();
+        let length = random.pick(&[0, needed - 1, needed, needed + 1, 512]);
+        let before = random.bytes(length);
+        let mut written = before.clone();
+        let answer = write(&state, &mut written);
+        answers[answer as usize] += 1;
+        if is_damaged {
+            assert_eq!((answer, written), (8, before));
+        } else if length < needed {
+            assert_eq!((answer, written), (23, before));
+        } else {
+            assert_eq!(answer, 0);
+            assert_eq!(written[..needed], loaded);
+            assert_eq!(written[needed..], before[needed..]);
         }
     }
     assert!([0, 8, 23].iter().all(|&answer| answers[answer] > 100));

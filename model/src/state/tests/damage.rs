@@ -4,18 +4,12 @@
 use std::collections::BTreeMap;
 
 use crate::line::Line;
-use crate::state::practice::{self, staged, Case, Effort, Kind, CLAUSES, HARMLESS, SHUFFLES};
+use crate::random::Random;
+use crate::state::practice::{self, staged, Case, Kind, CLAUSES, HARMLESS, SHUFFLES};
+use crate::state::tests::runs;
 use crate::state::{check, direct, LENGTH};
 
-const RUNS: u64 = 120;
-const EFFORT: Effort = Effort {
-    conditions: 1,
-    disturbed: 20,
-    fields: 20,
-    bytes: 10,
-    shuffles: 10,
-    unused: 10,
-};
+const RUNS: usize = 120;
 
 /// The number of cases, and of those accepted.
 type Counts = BTreeMap<(Kind, &'static str, &'static str), (usize, usize)>;
@@ -39,10 +33,11 @@ fn compare(case: &Case, counts: &mut Counts) {
 #[test]
 fn practised_states() {
     let mut counts = Counts::new();
-    for seed in 0..RUNS {
-        practice::run(seed, EFFORT, &mut |case| compare(case, &mut counts));
+    let mut random = Random::new(2);
+    for lines in &runs()[..RUNS] {
+        practice::damaged(&mut random, lines, &mut |case| compare(case, &mut counts));
     }
-    practice::staged(0, EFFORT, &mut |case| compare(case, &mut counts));
+    practice::staged(&mut random, &mut |case| compare(case, &mut counts));
     let conditions = CLAUSES.iter().flat_map(|clause| {
         let names = clause.conditions.iter().map(|condition| condition.name);
         names.map(|name| (Kind::Condition, clause.words, name))
@@ -78,7 +73,9 @@ fn practised_states() {
 fn every_unused_byte() {
     let mut counts = Counts::new();
     let fresh = staged::fresh();
-    practice::unused(1, &fresh, &mut |case| compare(case, &mut counts));
+    practice::unused(&mut Random::new(1), &fresh, &mut |case| {
+        compare(case, &mut counts)
+    });
     let cases: usize = counts.values().map(|(cases, _)| cases).sum();
     assert_eq!(cases, LENGTH - 19 - 4 - 2 * 18 - 12);
 }

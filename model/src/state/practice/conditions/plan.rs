@@ -1,4 +1,5 @@
 use super::*;
+use crate::plan::practice::WRONG_RULES;
 use crate::plan::{Channel, Plan};
 use crate::rule::Rule;
 use crate::state::layout::put;
@@ -38,18 +39,7 @@ pub const REFUSED: Clause = Clause {
         ),
         bytes("rule", |random, line, state| {
             let node = random.index(line.plan.node_count());
-            let rule: [u8; Rule::LENGTH] = random.pick(&[
-                [0, 0, 0, 1],
-                [0, 0, 1, 0],
-                [0, 1, 0, 0],
-                [1, 16, 0, 0],
-                [1, 0, 0, 16],
-                [1, 0, 1, 0],
-                [2, 0, 0, 0],
-                [2, 1, 0, 1],
-                [3, 0, 0, 0],
-                [255, 0, 0, 0],
-            ]);
+            let rule = random.pick(&WRONG_RULES);
             put(state, rule_at(node), &rule);
             Some(())
         }),

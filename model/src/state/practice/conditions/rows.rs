@@ -1,5 +1,6 @@
 use super::*;
 use crate::line::Status;
+use crate::record::Record;
 
 pub const NOT_RISING: Clause = Clause {
     words: "held times of a row don't rise strictly",
@@ -44,16 +45,17 @@ pub const NOT_TAKEN: Clause = Clause {
             Some(())
         }),
         line("by its piece number", |random, line| {
-            let (node, index) = pick::held(random, line, |_, _| true)?;
-            let mut record = line.nodes[node].buffered[index].record;
-            for _ in 0..8 {
-                record.piece = random.draw() as u32;
-                if !line.plan.passes_on(node, &record) {
-                    line.nodes[node].buffered[index].record = record;
-                    return Some(());
-                }
-            }
-            None
+            let pieces = [(); 8].map(|()| random.draw() as u32);
+            let untaken = |node: usize, index: usize| {
+                let held = line.nodes[node].buffered[index].record;
+                let is_taken = |piece| line.plan.passes_on(node, &Record { piece, ..held });
+                pieces.into_iter().find(|&piece| !is_taken(piece))
+            };
+            let (node, index) =
+                pick::held(random, line, |node, index| untaken(node, index).is_some())?;
+            let piece = untaken(node, index)?;
+            line.nodes[node].buffered[index].record.piece = piece;
+            Some(())
         }),
         line("by the channels' masks", |random, line| {
             let node = pick::node_that_is(random, line, Status::Replaying)?;

@@ -1,0 +1,113 @@
+// The least count of each row.
+
+use std::collections::BTreeSet;
+
+use model::state::practice::{
+    places, staged, Kind, CLAUSES, FEATURES, HARMLESS, SCRAMBLES, SHUFFLES,
+};
+
+use crate::section;
+
+pub struct Floor {
+    pub section: &'static str,
+    pub name: String,
+    pub least: usize,
+}
+
+pub const DIFFERENT: &str = "different ones";
+
+/// Accepted and damaged.
+const KINDS: &[(Kind, [usize; 2])] = &[
+    (Kind::Reached, [10_000, 0]),
+    (Kind::Condition, [0, 150_000]),
+    (Kind::Harmless, [30_000, 0]),
+    (Kind::Disturbed, [5_000, 5_000]),
+    (Kind::Field, [50_000, 100_000]),
+    (Kind::Byte, [2_000, 15_000]),
+    (Kind::Bit, [2_000, 15_000]),
+    (Kind::Shuffled, [2_000, 15_000]),
+    (Kind::Scrambled, [0, 20_000]),
+    (Kind::Unused, [0, 100_000]),
+    (Kind::Length, [0, 15_000]),
+];
+
+pub fn all() -> Vec<Floor> {
+    let mut floors = kinds();
+    floors.extend(reached());
+    for clause in CLAUSES {
+        let names = clause.conditions.iter().map(|condition| condition.name);
+        floors.extend(under(clause.words, 20, names));
+    }
+    let harmless = HARMLESS.iter().map(|harmless| harmless.name);
+    floors.extend(under(section::HARMLESS, 100, harmless));
+    floors.extend(under(section::FIELDS, 100, field_names()));
+    let shuffles = SHUFFLES.iter().map(|shuffle| shuffle.name);
+    floors.extend(under(section::SHUFFLES, 500, shuffles));
+    let scrambles = SCRAMBLES.iter().map(|scramble| scramble.name);
+    floors.extend(under(section::SCRAMBLES, 1_000, scrambles));
+    floors.extend(calls());
+    floors
+}
+
+fn kinds() -> Vec<Floor> {
+    let mut floors = Vec::new();
+    for &(kind, [accepted, damaged]) in KINDS {
+        for (is_accepted, least) in [(true, accepted), (false, damaged)] {
+            let names = [outcome(kind, is_accepted)];
+            floors.extend(under(section::STATES, least, names));
+        }
+    }
+    floors
+}
+
+fn reached() -> Vec<Floor> {
+    let mut floors = under(section::REACHED, 10_000, [DIFFERENT]);
+    let features = FEATURES.iter().map(|feature| feature.name);
+    floors.extend(under(section::REACHED, 400, features));
+    floors
+}
+
+/// One of the staged lines has every field.
+fn field_names() -> BTreeSet<&'static str> {
+    let places = places(&staged::mixed()).into_iter();
+    let used = places.filter(|place| place.is_used);
+    used.map(|place| place.name).collect()
+}
+
+fn calls() -> Vec<Floor> {
+    let mut floors = under(section::LOAD, 500, (0..=8).map(answer));
+    floors.extend(under(section::LOAD, 5_000, PLANS));
+    floors.extend(under(section::LOAD, 5_000, LENGTHS));
+    floors.extend(under(section::WRITE, 2_000, [0, 8, 23].map(answer)));
+    floors.extend(under(section::WRITE, 2_000, LENGTHS));
+    floors.extend(under(section::WRITE_AGAIN, 1_000, [0, 23].map(answer)));
+    floors
+}
+
+fn under<Name: Into<String>>(
+    section: &'static str,
+    least: usize,
+    names: impl IntoIterator<Item = Name>,
+) -> Vec<Floor> {
+    let floor = |name: Name| Floor {
+        section,
+        name: name.into(),
+        least,
+    };
+    names.into_iter().map(floor).collect()
+}
+
+pub fn answer(answer: u32) -> String {
+    format!("answer {answer}")
+}
+
+pub fn outcome(kind: Kind, is_accepted: bool) -> String {
+    let outcome = if is_accepted { "accepted" } else { "damaged" };
+    format!("{kind:?}, {outcome}")
+}
+
+/// How the plan of a Load is made.
+pub const PLANS: [&str; 3] = ["sound but for its degrees", "mutated plan", "random plan"];
+
+/// The second buffer of a call beside what is needed.
+pub const LENGTHS: [&str; 3] = ["shorter buffer", "buffer as needed", "longer buffer"];

@@ -1,0 +1,12 @@
+// What the rows of the counts stand under; conditions stand under the paper's
+// words.
+
+pub const STATES: &str = "states, by kind";
+pub const REACHED: &str = "states that frames lead to";
+pub const HARMLESS: &str = "no damage";
+pub const FIELDS: &str = "one field changed";
+pub const SHUFFLES: &str = "slots and blocks moved";
+pub const SCRAMBLES: &str = "random bytes";
+pub const LOAD: &str = "Load";
+pub const WRITE: &str = "Write";
+pub const WRITE_AGAIN: &str = "Write of what the engine has loaded";
