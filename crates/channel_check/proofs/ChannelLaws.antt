@@ -13,7 +13,6 @@ use lib.ListN.{length, getD, take, drop, drop-of-length-le}
 use lib.Seq.{drop-cons, drop-drop, take-add}
 use Rattle.rules.specs.Lists.{isEmpty, allOf, anyOf, greatestOf}
 use Rattle.plan.specs.Layout.{spelled}
-use Rattle.plan.specs.Plan.{planOf, channelAt}
 use Rattle.rules.specs.Line.{queueLimit, Lane, Line, nodeAt, laneAt}
 use Rattle.rules.specs.Step.{nodeDown, endDown, replaying}
 use Rattle.rules.specs.Damaged.{marksJoined, channelHolds}

@@ -13,7 +13,7 @@ use lib.Seq.{take-take}
 use Rattle.plan.specs.Layout.{spelled}
 use Rattle.plan.specs.Record.{recordLayout}
 use Rattle.plan.specs.Plan.{planOf, entering, isSource}
-use Rattle.rules.specs.Line.{fed, made, Message}
+use Rattle.rules.specs.Line.{Message}
 use Rattle.state.specs.Pieces.{originFrom, originLayout}
 use Rattle.state.specs.Right.{wordAt}
 use Rattle.state.specs.State.{lineOf}
