@@ -1,7 +1,7 @@
 -- Bytes of a buffer: four of them as a number, bytes that are all 0, and bytes written one by one.
 use Prim.Native.Nat.{ℕ, zero, suc, _+_, _*_, _-_, _≤_, _<_}
 use mathlib.Core.Path.{_≡_, refl, sym, ap, _∙_}
-use mathlib.Core.Bool.{Bool, true, false, _&&_, and-assoc}
+use mathlib.Core.Bool.{Bool, true, false, _&&_, and-assoc, and-true}
 use mathlib.Core.List.{List, [], _∷_, _++_}
 use native.Mathlib.Nat.{add-zero}
 use native.Mathlib.Omega.{arith}
@@ -15,6 +15,7 @@ use Rattle.plan.specs.Lawful.{Zeros}
 use Rattle.state.specs.State.{sameBytes}
 use Rattle.basics.specs.Bools.{both-true}
 use Rattle.buffer.specs.Zero.{zeroBytes}
+use Rattle.buffer.specs.Exact.{zeroAt}
 
 -- ---- numbers
 
@@ -56,6 +57,17 @@ zero-turn s from i seen l m e =
 pub zero-test : (n : ℕ) → eqb n 0 ≡ eqb 0 n
 zero-test zero = refl
 zero-test (suc n) = eqb·suc-zero n ∙ sym (eqb·zero-suc n)
+
+-- Three bytes, or-ed and tested once.
+first-three : (s : List ℕ) → 3 ≤ length s → zeroBytes (take 3 s) ≡ eqb (bitOr (bitOr (getD s 0 0) (getD s 1 0)) (getD s 2 0)) 0
+first-three [] h = let no : ⊥ = omega arith in absurd no
+first-three (a ∷ []) h = let no : ⊥ = omega arith in absurd no
+first-three (a ∷ b ∷ []) h = let no : ⊥ = omega arith in absurd no
+first-three (a ∷ b ∷ c ∷ s) h =
+    ap (λ (t : Bool). eqb 0 a && (eqb 0 b && t)) (and-true (eqb 0 c)) ∙ sym (and-assoc (eqb 0 a) (eqb 0 b) (eqb 0 c)) ∙ sym (zero-test (bitOr (bitOr a b) c) ∙ or-zero (bitOr a b) c ∙ ap (λ (t : Bool). t && eqb 0 c) (or-zero a b))
+
+pub three-zero : (a : ℕ) (s : List ℕ) → a + 3 ≤ length s → zeroAt a 3 s ≡ eqb (bitOr (bitOr (getD s a 0) (getD s (a + 1) 0)) (getD s (a + 2) 0)) 0
+three-zero a s h = first-three (drop a s) (simp length-drop (omega arith)) ∙ simp (getD-drop, add-zero)
 
 -- What the test finds, and what it stands for: the bytes are so many zeros.
 pub zero-bytes : (s : List ℕ) → zeroBytes s ≡ true → Zeros s

@@ -3,7 +3,6 @@ ghost use mathlib.Core.Path.{_≡_};
 ghost use mathlib.Core.Bool.{not, _&&_, _||_};
 ghost use mathlib.Core.List.{_∷_};
 ghost use Prim.Native.Nat.{_+_, _-_, _*_, _≤_, _<_, max};
-ghost use lib.Dec.{eqb};
 ghost use lib.ListN.{length};
 ghost use Rattle.plan.specs.Plan.{planOf, planNodes, planChannels, channelAt};
 ghost use Rattle.rules.specs.Lists.{greatestOf};
@@ -16,7 +15,7 @@ ghost use Rattle.state.specs.Lane.{heardCount};
 ghost use Rattle.state.specs.State.{lineOf};
 ghost use Rattle.state.specs.Pieces.{originFrom};
 ghost use Rattle.items.specs.Items.{namedRight, queueRight, channelRight};
-ghost use Rattle.buffer.specs.Exact.{zeroAt, messageExact, slotsExact, blockExact};
+ghost use Rattle.buffer.specs.Exact.{zeroAt, timeNamed, messageExact, slotsExact, blockExact};
 ghost use Rattle.buffer.specs.Ready.{Ready, OnChannel};
 ghost use Rattle.buffer.specs.Check.{Counted};
 ghost use Rattle.channel_check.specs.Channel.{Ends, QueueFits, messageOk};
@@ -139,7 +138,7 @@ fn ends_ok(
 // What node n made something from: nothing, or a parent's message. A time stands with a name only.
 fn named_ok(s: &[u8], t: &[u8; 156], steps: u32, n: usize, from: usize, time: u32) -> bool
     requires { ⌜ Counted (now s) (now t) steps ⌝ }
-    ensures { λ r. ⌜ r ≡ ((not (eqb from 0) || eqb time 0) && namedRight (lineOf (now (s .entry))) n (originFrom from time)) ⌝ }
+    ensures { λ r. ⌜ r ≡ (timeNamed from time && namedRight (lineOf (now (s .entry))) n (originFrom from time)) ⌝ }
 {
     if from == 0 {
         return (time == 0) & table::source_in(s, t, n);
