@@ -1,11 +1,10 @@
 -- What stands in a slot, byte by byte.
-use Prim.Native.Nat.{ℕ, _+_, _-_, suc, _≤_, _<_}
+use Prim.Native.Nat.{ℕ, _+_, _-_, _≤_}
 use mathlib.Core.Path.{_≡_, refl, sym, ap, _∙_}
-use mathlib.Core.Bool.{Bool, true, false, not, _&&_, _||_, and-true, and-false, and-assoc, or-false}
+use mathlib.Core.Bool.{Bool, true, false, not, _&&_, and-true, and-false, and-assoc}
 use mathlib.Core.List.{List, [], _∷_}
 use native.Mathlib.Nat.{add-zero}
 use native.Mathlib.Omega.{arith}
-use borrow.Author.Tests.{eq-eqb, ne-eqb}
 use lib.Dec.{lit≤, lit<, leb, eqb}
 use lib.Bits.{bitOr}
 use lib.ListN.{length, getD, take, drop, length-drop}
@@ -13,11 +12,9 @@ use lib.Seq.{take-take, getD-drop}
 use Rattle.plan.specs.Layout.{spelled}
 use Rattle.plan.specs.declared.Record.{Record}
 use Rattle.plan.specs.Record.{recordLayout}
-use Rattle.plan.specs.Plan.{Plan, planOf, planChannels, channelAt, keepIf, entering}
-use Rattle.plan.specs.declared.Channel.{Channel}
-use Rattle.plan.specs.Channel.{takes}
-use Rattle.plan.specs.Mask.{taking}
-use Rattle.plan.proofs.PlanLaws.{channel-count}
+use Rattle.plan.specs.Plan.{planOf, planChannels, isNone, entering, leaving}
+use Rattle.plan.specs.Mask.{taking, planMask, TakingOf}
+use Rattle.plan.proofs.TakingLaws.{taking-none}
 use Rattle.rules.specs.Lists.{isEmpty}
 use Rattle.rules.specs.Line.{Entry, Held, Line, made}
 use Rattle.rules.specs.Replay.{passedOn}
@@ -28,8 +25,6 @@ use Rattle.state.proofs.ReadLaws.{part-part, byte-part, origin-read, entry-read
 use Rattle.items.specs.Items.{ifFound, fromSender, recordRight, originRight, entryRight, heldRight, targetRight}
 use Rattle.buffer.specs.Exact.{zeroAt, recordExact, timeNamed, originExact, entryExact, heldExact, targetExact}
 use Rattle.buffer.specs.Zero.{zeroBytes}
-use Rattle.buffer.specs.Look.{channelFrom}
-use Rattle.buffer.proofs.LookLaws.{numbersOn, numbers-turn, numbers-end, sender-byte}
 use Rattle.buffer.specs.Check.{recordIn, entryIn, heldIn, targetIn}
 use Rattle.buffer.proofs.BytesLaws.{or-zero, zero-test}
 use Rattle.node_check.specs.NodeCheck.{entryPlain, entryMade, heldPlain, heldMade}
@@ -151,37 +146,14 @@ held-ordered n a s rises =
     ap (λ (x : Record). ((recordExact a s && originExact (a + 13) s && zeroAt (a + 18) 2 s) && ((recordRight x && originRight (lineOf s) n (made (heldIn a s .sender) (heldIn a s .time)) (heldIn a s .before) && passedOn (lineOf s .plan) n x) && rises))) (ap (λ (x : Held). x .what) (held-in a s))
     ∙ held-parts (recordExact a s) (originExact (a + 13) s) (zeroAt (a + 18) 2 s) (recordRight (recordIn a s)) (originRight (lineOf s) n (made (heldIn a s .sender) (heldIn a s .time)) (heldIn a s .before)) (passedOn (lineOf s .plan) n (recordIn a s)) rises
 
--- Whether a channel takes a record, one channel at a time: of those from b on.
-abbrev pub takesOn : Plan → ℕ → Record → ℕ → Bool
-takesOn p n r b = not (isEmpty (numbersOn p (λ (c : Channel). eqb (c .sender) n && takes c r) b))
-
-pub takes-whole : (p : Plan) (n : ℕ) (r : Record) → takesOn p n r 0 ≡ passedOn p n r
-unfolding passedOn taking
-takes-whole p n r = refl
-
-some-kept : (found t : Bool) (b : ℕ) (bs : List ℕ) → (found || not (isEmpty (keepIf t b bs))) ≡ ((found || t) || not (isEmpty bs))
-some-kept true t b bs = refl
-some-kept false true b bs = refl
-some-kept false false b bs = refl
-
-module _ (s : List ℕ) (n : ℕ) (r : Record) (found : Bool) (b : ℕ) where
-  takes-turn : b < planChannels s → (found || takesOn (planOf s) n r b) ≡ ((found || (eqb (channelAt (planOf s) b .sender) n && takes (channelAt (planOf s) b) r)) || takesOn (planOf s) n r (suc b))
-  takes-turn h =
-      let f : Channel → Bool = λ c. eqb (c .sender) n && takes c r in
-      ap (λ (bs : List ℕ). found || not (isEmpty bs)) (numbers-turn (planOf s) f b (rw channel-count h)) ∙ some-kept found (f (channelAt (planOf s) b)) b (numbersOn (planOf s) f (suc b))
-
-  module _ (at sender : ℕ) (h : b < planChannels s) (there : at ≡ channelFrom s b) (e : sender ≡ getD s at 0) where
-    named : sender ≡ channelAt (planOf s) b .sender
-    named = e ∙ rw there (sender-byte s b h)
-
-    pub takes-here : (now : Bool) → sender ≡ n → now ≡ takes (channelAt (planOf s) b) r → (found || takesOn (planOf s) n r b) ≡ ((found || now) || takesOn (planOf s) n r (suc b))
-    takes-here now same g = takes-turn h ∙ rw (eq-eqb (channelAt (planOf s) b .sender) n (sym named ∙ same), g) refl
-
-    pub takes-past : (sender ≡ n → ⊥) → (found || takesOn (planOf s) n r b) ≡ (found || takesOn (planOf s) n r (suc b))
-    takes-past other = takes-turn h ∙ rw (ne-eqb (channelAt (planOf s) b .sender) n (λ z. other (named ∙ z)), or-false found) refl
-
-  pub takes-end : planChannels s ≤ b → (found || takesOn (planOf s) n r b) ≡ found
-  takes-end h = ap (λ (bs : List ℕ). found || not (isEmpty bs)) (numbers-end (planOf s) (λ (c : Channel). eqb (c .sender) n && takes c r) b (rw channel-count h)) ∙ or-false found
+-- Whether some channel takes a record, by the mask of those that do.
+pub passed-mask : (s : List ℕ) (n : ℕ) (r : Record) (mask m : ℕ) → planChannels s ≤ 24 → mask ≡ planMask s (leaving (planOf s) n) → TakingOf s r mask m → not (eqb m 0) ≡ passedOn (planOf s) n r
+unfolding passedOn
+passed-mask s n r mask m few e t = ap not (taking-none s n r mask m t e few ∙ one (taking (planOf s) n r))
+  where
+    one : (bs : List ℕ) → isNone bs ≡ isEmpty bs
+    one [] = refl
+    one (b ∷ bs) = refl
 
 -- ---- a target
 

@@ -4,7 +4,8 @@ ghost use mathlib.Core.Bool.{_&&_};
 ghost use Prim.Native.Nat.{_+_, _≤_, _<_};
 ghost use lib.ListN.{length, getD, set};
 ghost use lib.Dec.{leb};
-ghost use Rattle.plan.specs.Plan.{planOf, planNodes};
+ghost use Rattle.plan.specs.Plan.{planOf, planNodes, leaving};
+ghost use Rattle.plan.specs.Mask.{planMask};
 ghost use Rattle.rules.specs.Lists.{allOf};
 ghost use Rattle.rules.specs.Line.{nodeAt, logLimit, heldLimit, targetLimit};
 ghost use Rattle.rules.specs.Replay.{passedOn};
@@ -95,25 +96,13 @@ fn record_at(s: &[u8], at: usize) -> plan::Record
     }
 }
 
-// Whether a channel that leaves a node takes the record.
-fn passed_on(s: &[u8], n: usize, at: usize) -> bool
-    requires { ⌜ Ready (now s) × (at + 8 ≤ length (now s)) ⌝ }
+// Whether one of the channels that leave a node, as a mask, takes the record.
+fn passed_on(s: &[u8], n: usize, mask: u32, at: usize) -> bool
+    requires { ⌜ Ready (now s) × (mask ≡ planMask (now s) (leaving (planOf (now s)) n)) × (at + 8 ≤ length (now s)) ⌝ }
     ensures { λ r. ⌜ r ≡ passedOn (planOf (now (s .entry))) n (recordIn at (now (s .entry))) ⌝ }
 {
     let what = record_at(s, at);
-    let m = look::channel_count(s);
-    let mut from = look::channels_at(s);
-    let mut found = false;
-    let mut b: usize = 0;
-    while b < m {
-        let sender = look::index(s[from]);
-        if sender == n {
-            found = found | plan::channel_takes(plan::channel_at(s, b), what);
-        }
-        from += 6;
-        b += 1;
-    }
-    found
+    plan::taking_among(s, mask, what) != 0
 }
 
 // A held record's record and its two unused bytes.
@@ -159,6 +148,10 @@ fn held_each_ok(s: &[u8], t: &[u8; 156], steps: u32, n: usize, at: usize, count:
     requires { ⌜ PageOf (now s) (now t) steps n at × (count ≡ wordAt (pageAt n + heldAt) (now s)) × (count ≤ heldLimit) ⌝ }
     ensures { λ r. ⌜ r ≡ (slotsExact heldExact heldSize (pageAt n + heldAt + countSize) count (now (s .entry)) && heldAllRight (lineOf (now (s .entry))) n (nodeAt (lineOf (now (s .entry))) n .held)) ⌝ }
 {
+    if count == 0 {
+        return true;
+    }
+    let mask = plan::leaving_mask(s, n);
     let mut last: [u32; 12] = [0; 12];
     let mut slot = at + 1552;
     let mut left = count;
@@ -171,7 +164,7 @@ fn held_each_ok(s: &[u8], t: &[u8; 156], steps: u32, n: usize, at: usize, count:
             return false;
         }
         let made = held_made(s, t, steps, n, slot);
-        let passed = passed_on(s, n, slot);
+        let passed = passed_on(s, n, mask, slot);
         if !(made & passed) {
             return false;
         }

@@ -11,20 +11,26 @@ use Rattle.node_check.proofs.held_each_ok.Statement.{statement}
 use Rattle.node_check.proofs.held_each_ok.Tie as tie
 
 abbrev Inv-loop : tie.InvT-loop
-Inv-loop s t steps n at count last₀ slot₀ left₀ last slot left =
+Inv-loop s t steps n at count mask last₀ slot₀ left₀ last slot left =
     (length last ≡ 12) × Going (length s) heldSize (pageAt n + heldAt + countSize) slot count left (heldPass s n noneHeld (pageAt n + heldAt + countSize) count) (heldPass s n last slot left)
 
 abbrev μ-loop : tie.MeasureT-loop
-μ-loop s t steps n at count last₀ slot₀ left₀ last slot left = left
+μ-loop s t steps n at count mask last₀ slot₀ left₀ last slot left = left
+
+returns : tie.Need-returns Inv-loop μ-loop
+returns c =
+    let start = c .before .before in
+    let a = start .args in
+    ap (λ (k : ℕ). heldPass (a .s .now) (a .n) noneHeld (pageAt (a .n) + heldAt + countSize) k) (sym (c .if1 .taken)) ∙ held-whole (a .s .now) (a .t .now) (a .steps) (a .n) (a .at) (start .pre .0) (a .count) (start .pre .1) (start .pre .2)
 
 add-slot : tie.Need-add-slot Inv-loop μ-loop
-add-slot c = omega (arith, page-room (c .before .pre .0))
+add-slot c = omega (arith, page-room (c .before .before .before .pre .0))
 
 loop-holds : tie.Need-loop-holds Inv-loop μ-loop
 unfolding noneHeld
 loop-holds c =
-    let a = c .before .args in
-    let k = c .before .pre in
+    let a = c .before .before .before .args in
+    let k = c .before .before .before .pre in
     let start : a .at + 1552 ≡ pageAt (a .n) + heldAt + countSize = omega (arith, k .0 .start) in
     (refl, record { within = omega arith; there = omega (arith, start); fits = omega (arith, page-room (k .0), start, k .2); same = rw start refl })
 
@@ -34,14 +40,14 @@ get32-requires c κs = let v = c .before .before .before .loop .inv .1 in omega 
 held-plain-requires : tie.Need-held-plain-requires Inv-loop μ-loop
 held-plain-requires c κs = let v = c .before .before .before .before .loop .inv .1 in omega (arith, v .there, v .fits, v .within)
 
-returns : tie.Need-returns Inv-loop μ-loop
-returns c =
+returns-2 : tie.Need-returns-2 Inv-loop μ-loop
+returns-2 c =
     let row = c .before in
     let plain = row .before .before in
     let time = plain .before in
     let sender = time .before in
     let v = sender .before .before .before .loop in
-    let start = sender .before .before .before .before .before in
+    let start = sender .before .before .before .before .before .before .before in
     let a = start .args in
     let s = a .s .now in
     let page = start .pre .0 in
@@ -50,22 +56,22 @@ returns c =
     (sym (held-whole s (a .t .now) (a .steps) (a .n) (a .at) page (a .count) (start .pre .1) (start .pre .2))
     ∙ v .inv .1 .same
     ∙ ap (λ (k : ℕ). heldPass s (a .n) (v .last) (v .slot) k) (sym more)
-    ∙ held-bare s (a .t .now) (a .steps) (a .n) (a .at) page (v .last) (v .slot) (v .left - 1) (sender .index .result) (time .get32 .result) (row .row-last .result) (sender .index .ensures .0) (time .get32 .ensures) (row .row-last .ensures) (plain .held-plain .result) (plain .held-plain .ensures) (not-true _ (c .if1 .taken)))
+    ∙ held-bare s (a .t .now) (a .steps) (a .n) (a .at) page (v .last) (v .slot) (v .left - 1) (sender .index .result) (time .get32 .result) (row .row-last .result) (sender .index .ensures .0) (time .get32 .ensures) (row .row-last .ensures) (plain .held-plain .result) (plain .held-plain .ensures) (not-true _ (c .if2 .taken)))
 
 held-made-requires : tie.Need-held-made-requires Inv-loop μ-loop
 held-made-requires c κs =
     let loop = c .before .before .before .before .before .before .before .before in
     let v = loop .loop .inv .1 in
-    (loop .before .before .pre .0 .counted, omega (arith, v .there, v .fits, v .within))
+    (loop .before .before .before .before .pre .0 .counted, omega (arith, v .there, v .fits, v .within))
 
 passed-on-requires : tie.Need-passed-on-requires Inv-loop μ-loop
 passed-on-requires c κs =
     let loop = c .before .before .before .before .before .before .before .before .before in
     let v = loop .loop .inv .1 in
-    (loop .before .before .pre .0 .counted .ready, omega (arith, v .there, v .fits, v .within))
+    (loop .before .before .before .before .pre .0 .counted .ready, loop .before .leaving-mask .ensures, omega (arith, v .there, v .fits, v .within))
 
-returns-2 : tie.Need-returns-2 Inv-loop μ-loop
-returns-2 c =
+returns-3 : tie.Need-returns-3 Inv-loop μ-loop
+returns-3 c =
     let passed = c .before in
     let made = passed .before in
     let row = made .before .before in
@@ -73,7 +79,7 @@ returns-2 c =
     let time = plain .before in
     let sender = time .before in
     let v = sender .before .before .before .loop in
-    let start = sender .before .before .before .before .before in
+    let start = sender .before .before .before .before .before .before .before in
     let a = start .args in
     let s = a .s .now in
     let page = start .pre .0 in
@@ -82,7 +88,7 @@ returns-2 c =
     (sym (held-whole s (a .t .now) (a .steps) (a .n) (a .at) page (a .count) (start .pre .1) (start .pre .2))
     ∙ v .inv .1 .same
     ∙ ap (λ (k : ℕ). heldPass s (a .n) (v .last) (v .slot) k) (sym more)
-    ∙ held-unmade s (a .t .now) (a .steps) (a .n) (a .at) page (v .last) (v .slot) (v .left - 1) (sender .index .result) (time .get32 .result) (row .row-last .result) (sender .index .ensures .0) (time .get32 .ensures) (row .row-last .ensures) (plain .held-plain .result) (made .held-made .result) (passed .passed-on .result) (plain .held-plain .ensures) (not-false _ (made .before .if1 .left)) (made .held-made .ensures) (passed .passed-on .ensures) (not-true _ (c .if2 .taken)))
+    ∙ held-unmade s (a .t .now) (a .steps) (a .n) (a .at) page (v .last) (v .slot) (v .left - 1) (sender .index .result) (time .get32 .result) (row .row-last .result) (sender .index .ensures .0) (time .get32 .ensures) (row .row-last .ensures) (plain .held-plain .result) (made .held-made .result) (passed .passed-on .result) (plain .held-plain .ensures) (not-false _ (made .before .if2 .left)) (made .held-made .ensures) (passed .passed-on .ensures) (not-true _ (c .if3 .taken)))
 
 loop-again : tie.Need-loop-again Inv-loop μ-loop
 loop-again c =
@@ -93,7 +99,7 @@ loop-again c =
     let time = plain .before in
     let sender = time .before in
     let v = sender .before .before .before .loop in
-    let start = sender .before .before .before .before .before in
+    let start = sender .before .before .before .before .before .before .before in
     let a = start .args in
     let s = a .s .now in
     let page = start .pre .0 in
@@ -106,13 +112,13 @@ loop-again c =
         same =
             v .inv .1 .same
             ∙ ap (λ (k : ℕ). heldPass s (a .n) (v .last) (v .slot) k) (sym more)
-            ∙ held-more s (a .t .now) (a .steps) (a .n) (a .at) page (v .last) (v .slot) (v .left - 1) (sender .index .result) (time .get32 .result) (row .row-last .result) (sender .index .ensures .0) (time .get32 .ensures) (row .row-last .ensures) (plain .held-plain .result) (made .held-made .result) (passed .passed-on .result) (plain .held-plain .ensures) (not-false _ (made .before .if1 .left)) (made .held-made .ensures) (passed .passed-on .ensures) (c .row-set .last .0) (c .row-set .ensures) (not-false _ (c .before .before .if2 .left));
+            ∙ held-more s (a .t .now) (a .steps) (a .n) (a .at) page (v .last) (v .slot) (v .left - 1) (sender .index .result) (time .get32 .result) (row .row-last .result) (sender .index .ensures .0) (time .get32 .ensures) (row .row-last .ensures) (plain .held-plain .result) (made .held-made .result) (passed .passed-on .result) (plain .held-plain .ensures) (not-false _ (made .before .if2 .left)) (made .held-made .ensures) (passed .passed-on .ensures) (c .row-set .last .0) (c .row-set .ensures) (not-false _ (c .before .before .if3 .left));
       },
     )
 
-returns-3 : tie.Need-returns-3 Inv-loop μ-loop
-returns-3 c =
-    let start = c .before .before .before in
+returns-4 : tie.Need-returns-4 Inv-loop μ-loop
+returns-4 c =
+    let start = c .before .before .before .before .before in
     let a = start .args in
     let v = c .before .loop in
     let none : v .left ≡ 0 = omega arith in
@@ -126,6 +132,8 @@ held-each-ok-spec =
     (tie.spec
     Inv-loop
     μ-loop
+    returns
+    (λ c κs. tt)
     add-slot
     loop-holds
     (λ c. omega arith)
@@ -135,13 +143,13 @@ held-each-ok-spec =
     get32-requires
     held-plain-requires
     (λ c κs. search needs)
-    returns
+    returns-2
     held-made-requires
     passed-on-requires
-    returns-2
+    returns-3
     (λ c κs. search needs)
     (λ c. omega arith)
     (λ c. omega arith)
     (λ c. omega arith)
     loop-again
-    returns-3)
+    returns-4)
