@@ -2,7 +2,6 @@ use Prim.Native.Nat.{ℕ, suc, _+_, _-_}
 use mathlib.Core.Path.{_≡_, refl, sym, ap, _∙_}
 use native.Mathlib.Omega.{arith}
 use borrow.Author.Tests.{not-true, not-false}
-use borrow.Author.Needs.{needs}
 use lib.ListN.{length}
 use Rattle.state.specs.Sizes.{pageAt, logAt, countSize, entrySize}
 use Rattle.node_check.proofs.NodeLaws.{Going, page-room, logPass, time-in, entry-bare, entry-unmade, entry-more, log-whole}
