@@ -13,7 +13,6 @@ use Rattle.state.specs.Right.{wordAt}
 use Rattle.state.specs.State.{lineOf}
 use Rattle.items.specs.Items.{clockRight, queueRight, channelRight}
 use Rattle.buffer.specs.Exact.{zeroAt, slotsExact, listExact, messageExact, blockExact}
-use Rattle.buffer.specs.Check.{Counted}
 use Rattle.channel_check.specs.Channel.{QueueFits}
 use Rattle.channel_check.proofs.ChannelLaws.{mark-word, greatest-within}
 
@@ -49,7 +48,7 @@ none-pass : (h e u r x : Bool) → false ≡ (((h && ((false && e) && u)) && r) 
 none-pass true e u r x = refl
 none-pass false e u r x = refl
 
-module _ (s table : List ℕ) (b heard used : ℕ) where
+module _ (s : List ℕ) (b heard used : ℕ) where
   abbrev line : Line
   line = lineOf s
 
@@ -71,10 +70,10 @@ module _ (s table : List ℕ) (b heard used : ℕ) where
   pub too-many : used ≡ wordAt (blockAt b + queueAt) s → queueLimit < used → false ≡ (blockExact heard (blockAt b) s && channelRight line b)
   too-many e h = none-pass heardZero slots behind rest (channelRight line b) ∙ sym (rw (block-is heard (blockAt b) used s e, lt-leb used queueLimit h) refl)
 
-  pub block-tested : (steps mark most : ℕ) (zeros queue ends : Bool) → Counted s table steps → QueueFits s b used → mark ≡ wordAt (blockAt b) s → most ≡ greatestOf (laneAt line b .taken ∷ laneAt line b .heard)
+  pub block-tested : (steps mark most : ℕ) (zeros queue ends : Bool) → steps ≡ line .steps → QueueFits s b used → mark ≡ wordAt (blockAt b) s → most ≡ greatestOf (laneAt line b .taken ∷ laneAt line b .heard)
       → zeros ≡ (heardZero && (behind && rest)) → queue ≡ (slots && queueRight line b (laneAt line b .queue)) → ends ≡ endsFree
       → (((zeros && (leb mark steps && leb most steps)) && queue) && ends) ≡ (blockExact heard (blockAt b) s && channelRight line b)
-  block-tested steps mark most zeros queue ends counted fits e f g h i =
+  block-tested steps mark most zeros queue ends same fits e f g h i =
       let marked : mark ≡ laneAt line b .mark = e ∙ sym (mark-word s b (fits .on)) in
-      rw (g, h, i, marked, f, clock-is steps (laneAt line b), counted .same, block-is heard (blockAt b) used s (fits .same), le-leb used queueLimit (fits .few), channel-is line b)
+      rw (g, h, i, marked, f, clock-is steps (laneAt line b), same, block-is heard (blockAt b) used s (fits .same), le-leb used queueLimit (fits .few), channel-is line b)
       (parts heardZero behind rest (clockRight (line .steps) (laneAt line b)) slots (queueRight line b (laneAt line b .queue)) endsFree)

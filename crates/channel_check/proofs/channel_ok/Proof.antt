@@ -17,7 +17,7 @@ use Rattle.channel_check.proofs.channel_ok.Tie as tie
 returns : tie.Need-returns
 returns c =
     let a = c .before .before .before .args in
-    too-many (a .s .now) (a .t .now) (a .b) (heardCount (planOf (a .s .now)) (channelAt (planOf (a .s .now)) (a .b))) (c .before .get32 .result) (c .before .get32 .ensures) (omega arith)
+    too-many (a .s .now) (a .b) (heardCount (planOf (a .s .now)) (channelAt (planOf (a .s .now)) (a .b))) (c .before .get32 .result) (c .before .get32 .ensures) (omega arith)
 
 -- So many are heard as channels enter the sender.
 parents-heard : (s : List ℕ) (b sender heard : ℕ) → OnChannel s b → sender ≡ channelAt (planOf s) b .sender → heard ≡ length (entering (planOf s) sender) → heard ≡ heardCount (planOf s) (channelAt (planOf s) b)
@@ -70,8 +70,8 @@ returns-2 c =
     let on : OnChannel (a .s .now) (a .b) = record { ready = start .pre .0 .ready; below = start .pre .1 } in
     let fits : QueueFits (a .s .now) (a .b) (count .get32 .result) = record { on = on; same = count .get32 .ensures; few = omega (arith, test .if1 .left) } in
     rw (← parents-heard (a .s .now) (a .b) (sender .sender-of .result) (heard .parents-in .result) on (sender .sender-of .ensures .0) (heard .parents-in .ensures))
-    (block-tested (a .s .now) (a .t .now) (a .b) (heard .parents-in .result) (count .get32 .result) (a .steps) (mark .get322 .result) (most .most-heard .result) (zeros .zeros-ok .result) (c .before .queue-ok .result) (c .ends-ok .result)
-    (start .pre .0) fits (mark .get322 .ensures) (most .most-heard .ensures) (zeros .zeros-ok .ensures) (c .before .queue-ok .ensures) (c .ends-ok .ensures))
+    (block-tested (a .s .now) (a .b) (heard .parents-in .result) (count .get32 .result) (a .steps) (mark .get322 .result) (most .most-heard .result) (zeros .zeros-ok .result) (c .before .queue-ok .result) (c .ends-ok .result)
+    (start .pre .0 .same) fits (mark .get322 .ensures) (most .most-heard .ensures) (zeros .zeros-ok .ensures) (c .before .queue-ok .ensures) (c .ends-ok .ensures))
 
 pub channel-ok-spec : {M : Type 1} → statement M
 channel-ok-spec =
