@@ -58,13 +58,24 @@ pub zero-test : (n : ℕ) → eqb n 0 ≡ eqb 0 n
 zero-test zero = refl
 zero-test (suc n) = eqb·suc-zero n ∙ sym (eqb·zero-suc n)
 
--- Three bytes, or-ed and tested once.
+-- Two bytes and three, or-ed and tested once.
+or-test : (a b : ℕ) → eqb (bitOr a b) 0 ≡ (eqb 0 a && eqb 0 b)
+or-test a b = zero-test (bitOr a b) ∙ or-zero a b
+
+first-two : (s : List ℕ) → 2 ≤ length s → zeroBytes (take 2 s) ≡ eqb (bitOr (getD s 0 0) (getD s 1 0)) 0
+first-two [] h = let no : ⊥ = omega arith in absurd no
+first-two (a ∷ []) h = let no : ⊥ = omega arith in absurd no
+first-two (a ∷ b ∷ s) h = ap (λ (t : Bool). eqb 0 a && t) (and-true (eqb 0 b)) ∙ sym (or-test a b)
+
+pub two-zero : (a : ℕ) (s : List ℕ) → a + 2 ≤ length s → zeroAt a 2 s ≡ eqb (bitOr (getD s a 0) (getD s (a + 1) 0)) 0
+two-zero a s h = first-two (drop a s) (simp length-drop (omega arith)) ∙ simp (getD-drop, add-zero)
+
 first-three : (s : List ℕ) → 3 ≤ length s → zeroBytes (take 3 s) ≡ eqb (bitOr (bitOr (getD s 0 0) (getD s 1 0)) (getD s 2 0)) 0
 first-three [] h = let no : ⊥ = omega arith in absurd no
 first-three (a ∷ []) h = let no : ⊥ = omega arith in absurd no
 first-three (a ∷ b ∷ []) h = let no : ⊥ = omega arith in absurd no
 first-three (a ∷ b ∷ c ∷ s) h =
-    ap (λ (t : Bool). eqb 0 a && (eqb 0 b && t)) (and-true (eqb 0 c)) ∙ sym (and-assoc (eqb 0 a) (eqb 0 b) (eqb 0 c)) ∙ sym (zero-test (bitOr (bitOr a b) c) ∙ or-zero (bitOr a b) c ∙ ap (λ (t : Bool). t && eqb 0 c) (or-zero a b))
+    ap (λ (t : Bool). eqb 0 a && (eqb 0 b && t)) (and-true (eqb 0 c)) ∙ sym (and-assoc (eqb 0 a) (eqb 0 b) (eqb 0 c)) ∙ sym (or-test (bitOr a b) c ∙ ap (λ (t : Bool). t && eqb 0 c) (or-zero a b))
 
 pub three-zero : (a : ℕ) (s : List ℕ) → a + 3 ≤ length s → zeroAt a 3 s ≡ eqb (bitOr (bitOr (getD s a 0) (getD s (a + 1) 0)) (getD s (a + 2) 0)) 0
 three-zero a s h = first-three (drop a s) (simp length-drop (omega arith)) ∙ simp (getD-drop, add-zero)

@@ -1,27 +1,25 @@
 -- What a state that can be read gives: its counts, its channels' ends, and its nodes' status by their bytes.
-use Prim.Native.Nat.{ℕ, zero, suc, _+_, _≤_, _<_}
+use Prim.Native.Nat.{ℕ, zero, suc, _+_, _<_}
 use mathlib.Core.Path.{_≡_, refl, sym, ap, _∙_}
 use mathlib.Core.List.{List}
 use native.Mathlib.Nat.{add-zero}
 use native.Mathlib.Omega.{arith}
 use borrow.Author.Tests.{ne-eqb, lt-ltb}
 use lib.Dec.{ltb, eqb}
-use lib.ListN.{length, getD, take, drop, length-take, length-map}
+use lib.ListN.{length, getD, take, drop, length-map}
 use Rattle.plan.specs.Layout.{spelled}
 use Rattle.plan.specs.Plan.{planOf, planNodes, channelCount, channelAt, entering}
 use Rattle.plan.proofs.FitsLaws.{fitting}
 use Rattle.plan.proofs.PlanLaws.{node-count, channel-count}
 use Rattle.plan.proofs.ReadLaws.{byte-field}
-use Rattle.rules.specs.Line.{Lane, nodeAt, laneAt, isDown, isReplay, parents}
+use Rattle.rules.specs.Line.{nodeAt, isDown, isReplay, parents}
 use Rattle.rules.specs.Step.{nodeDown, replaying}
 use Rattle.rules.proofs.PlanOrder.{ordered-channels}
-use Rattle.state.specs.Sizes.{pageAt, parentLimit}
+use Rattle.state.specs.Sizes.{pageAt}
 use Rattle.state.specs.Node.{statusOf, crashOf}
-use Rattle.state.specs.Lane.{heardCount, cutHeard, laneLayout}
+use Rattle.state.specs.Lane.{heardCount}
 use Rattle.state.specs.State.{lineOf}
-use Rattle.state.proofs.HeardLaws.{heard-few}
-use Rattle.state.proofs.FieldLaws.{heard-four}
-use Rattle.state.proofs.InPlace.{Counted, blockOf, lane-in}
+use Rattle.state.proofs.InPlace.{Counted}
 use Rattle.state.proofs.OffsetLaws.{line-status, line-crashed}
 use Rattle.buffer.specs.Ready.{Ready, OnChannel}
 
@@ -68,17 +66,6 @@ module _ (s : List ℕ) (b : ℕ) (on : OnChannel s b) where
 
   pub sender-inside : channelAt (planOf s) b .sender < planNodes s
   sender-inside = let o = ordered-channels (planOf s) (fitting (planOf s) (on .ready .fits) .channels) in omega (arith, o .forward b below-count, receiver-inside)
-
-  pub few-heard : heardCount (planOf s) (channelAt (planOf s) b) ≤ parentLimit
-  few-heard = heard-few (planOf s) (on .ready .fits) b below-count
-
-  pub heard-long : length (laneAt (lineOf s) b .heard) ≡ heardCount (planOf s) (channelAt (planOf s) b)
-  unfolding cutHeard
-  heard-long =
-      let count : ℕ = heardCount (planOf s) (channelAt (planOf s) b) in
-      ap (λ (x : Lane). length (x .heard)) (lane-in s (counted (on .ready)) b (on .below))
-      ∙ length-take count (laneLayout .read (blockOf b s) .heard)
-      ∙ omega (arith, heard-four (blockOf b s), few-heard)
 
   -- The sender's parents: one for each channel that enters it.
   pub heard-entering : length (entering (planOf s) (channelAt (planOf s) b .sender)) ≡ heardCount (planOf s) (channelAt (planOf s) b)

@@ -3,11 +3,10 @@ use Prim.Native.Nat.{ℕ, _+_, _-_, _≤_}
 use mathlib.Core.Path.{_≡_, refl, sym, ap, _∙_}
 use mathlib.Core.Bool.{Bool, true, false, not, _&&_, and-true}
 use mathlib.Core.List.{List}
-use native.Mathlib.Nat.{add-zero}
 use native.Mathlib.Omega.{arith}
 use borrow.Author.Tests.{eq-eqb, ne-eqb}
 use lib.Bits.{bitOr}
-use lib.Dec.{lit≤, lit<, eqb}
+use lib.Dec.{lit≤, eqb}
 use lib.ListN.{length, getD, take, drop}
 use lib.Seq.{take-take}
 use Rattle.plan.specs.Layout.{spelled}
@@ -17,13 +16,14 @@ use Rattle.rules.specs.Line.{Message}
 use Rattle.state.specs.Pieces.{originFrom, originLayout}
 use Rattle.state.specs.Right.{wordAt}
 use Rattle.state.specs.State.{lineOf}
-use Rattle.state.proofs.ReadLaws.{part-part, byte-part, origin-read, message-read}
+use Rattle.state.proofs.ReadLaws.{part-part, message-read}
 use Rattle.state.proofs.InPlace.{line-plan}
 use Rattle.items.specs.Items.{fromSender, timeRight, recordRight, namedRight}
 use Rattle.buffer.specs.Exact.{zeroAt, recordExact, timeNamed, originExact, messageExact}
 use Rattle.buffer.specs.Table.{codeOr}
 use Rattle.buffer.specs.Check.{Counted, recordIn}
 use Rattle.buffer.proofs.BytesLaws.{three-zero}
+use Rattle.buffer.proofs.PieceReads.{origin-in}
 use Rattle.buffer.proofs.OriginLaws.{origin-none, origin-some, parent-coded}
 use Rattle.channel_check.specs.Channel.{messageAt, messageOk}
 
@@ -42,19 +42,13 @@ module _ (s table : List ℕ) (steps : ℕ) (counted : Counted s table steps) (n
 -- ---- a message
 
 module _ (a : ℕ) (s : List ℕ) where
-  origin-at : originLayout .read (take 5 (drop a s)) ≡ originFrom (getD s a 0) (wordAt (a + 1) s)
-  origin-at =
-      origin-read (take 5 (drop a s))
-      ∙ (λ i. originFrom ((byte-part 0 5 a s (lit< tt) ∙ ap (λ (x : ℕ). getD s x 0) (add-zero a)) i) (spelled 0 (part-part 4 1 5 a s (lit≤ tt) i)))
-
-module _ (a : ℕ) (s : List ℕ) where
   message-in : messageAt s a ≡ record { what = recordIn a s; time = wordAt (a + 8) s; origin = originFrom (getD s (a + 12) 0) (wordAt (a + 12 + 1) s) }
   message-in =
       message-read (take 20 (drop a s))
       ∙ (λ i. record {
         what = recordLayout .read (take-take 8 20 (drop a s) (lit≤ tt) i);
         time = spelled 0 (part-part 4 8 20 a s (lit≤ tt) i);
-        origin = (ap (originLayout .read) (part-part 5 12 20 a s (lit≤ tt)) ∙ origin-at (a + 12) s) i;
+        origin = (ap (originLayout .read) (part-part 5 12 20 a s (lit≤ tt)) ∙ origin-in (a + 12) s) i;
       })
 
   pub message-time : wordAt (a + 8) s ≡ messageAt s a .time

@@ -15,21 +15,21 @@ use Rattle.rules.specs.Lists.{allOf, isEmpty}
 use Rattle.rules.specs.Line.{logLimit, heldLimit, targetLimit, Entry, Held, Target, Node, Line, nodeAt, fed, isUp}
 use Rattle.rules.specs.Damaged.{markMissing, markOnEnd, nodeHolds, holdsByStatus}
 use Rattle.rules.specs.Replay.{passedOn}
-use Rattle.rules.specs.Step.{replaying}
 use Rattle.state.specs.Sizes.{stepsAt, pageAt, countSize, timeAt, logAt, entrySize, heldAt, heldSize, targetsAt, targetSize, nodeRestAt, nodeRest}
 use Rattle.state.specs.Node.{statusOf, crashOf}
 use Rattle.state.specs.State.{lineOf}
 use Rattle.state.specs.Right.{wordAt}
 use Rattle.state.proofs.InPlace.{Counted as Few, line-plan, line-steps}
 use Rattle.state.proofs.OffsetLaws.{line-status, line-crashed, line-time, line-log-count, line-log-at, line-held-count, line-held-at, line-targets-count, line-target-at}
-use Rattle.items.specs.Items.{timesRise, entryRight, logRight, heldRise, noneHeld, heldRight, heldAllRight, targetRight, countsRight, statusRight, replayRight, nodeRight}
+use Rattle.items.specs.Items.{timesRise, entryRight, logRight, heldRise, noneHeld, heldRight, heldAllRight, targetRight, countsRight, statusRight}
 use Rattle.buffer.specs.Exact.{zeroAt, entryExact, heldExact, targetExact, slotsExact, listExact, pageExact}
 use Rattle.node_check.specs.NodeCheck.{headExact, entryPlain, entryMade, heldPlain, heldMade, holdsNothing, nodePlain}
 use Rattle.buffer.specs.Ready.{Ready}
 use Rattle.buffer.specs.Table.{Table}
 use Rattle.buffer.specs.Check.{Counted, PageOf, recordIn, entryIn, heldIn, targetIn}
 use Rattle.node_check.proofs.SlotLaws.{swap-middle, slotsIn, passes, length-slots, slots-at, slotsPass, slots-pass, pass-more}
-use Rattle.node_check.proofs.PieceBytes.{entry-in, held-in, entry-ordered, held-ordered, two-zero}
+use Rattle.buffer.proofs.BytesLaws.{two-zero}
+use Rattle.node_check.proofs.PieceBytes.{entry-in, held-in, entry-ordered, held-ordered}
 
 pub few-of : {s table : List ℕ} {steps : ℕ} → Counted s table steps → Few s
 few-of h = record { nodes = h .ready .nodes; channels = h .ready .channels }
@@ -276,16 +276,16 @@ module _ (s table : List ℕ) (steps n at : ℕ) (page : PageOf s table steps n 
       let next : at + 3 ≡ at + 2 + 1 = omega arith in
       rw (next, ← two-zero (at + 2) s (omega (arith, page-room page)), ← same, ← page .counted .same, ← page .start, add-zero) refl
 
-  pub status-tested : (status mark time log held targets : ℕ) (source sink nothing : Bool)
+  pub status-tested : (status mark time log held targets : ℕ) (end nothing : Bool)
       → status ≡ getD s at 0 → mark ≡ getD s (at + 1) 0 → time ≡ wordAt (at + timeAt) s → log ≡ wordAt (at + logAt) s → held ≡ wordAt (at + heldAt) s → targets ≡ wordAt (at + targetsAt) s
-      → source ≡ isSource (planOf s) n → sink ≡ isSink (planOf s) n → nothing ≡ holdsNothing status time log held targets
-      → ((eqb status 0 || not (eqb mark 0)) && not (not (eqb mark 0) && (source || sink)) && nothing) ≡ statusRight (lineOf s .plan) n x
+      → end ≡ (not (eqb mark 0) && (isSource (planOf s) n || isSink (planOf s) n)) → nothing ≡ holdsNothing status time log held targets
+      → ((eqb status 0 || not (eqb mark 0)) && not end && nothing) ≡ statusRight (lineOf s .plan) n x
   unfolding statusRight markMissing markOnEnd nodeHolds
-  status-tested status mark time log held targets source sink nothing a b c d e f g h i =
+  status-tested status mark time log held targets end nothing a b c d e f g h =
       let is : x .status ≡ statusOf status = line-status s few n (page .within) ∙ ap statusOf (rw (page .start, ← add-zero (pageAt n)) at (sym a)) in
       let marked : x .crashed ≡ not (eqb mark 0) = line-crashed s few n (page .within) ∙ ap crashOf (rw (page .start) at (sym b)) ∙ sym (crash-mark mark) in
       let empty = holds-not x status time log held targets (time-in s table steps n at page time c) (empty-count (x .log) log (line-log-count s few n (page .within) ∙ rw (at-page logAt log d) refl)) (empty-count (x .held) held (line-held-count s few n (page .within) ∙ rw (at-page heldAt held e) refl)) (empty-count (x .targets) targets (line-targets-count s few n (page .within) ∙ rw (at-page targetsAt targets f) refl)) in
-      rw (is, marked, line-plan s, i, empty, g, h, not-missing status (not (eqb mark 0))) refl
+      rw (is, marked, line-plan s, h, empty, g, not-missing status (not (eqb mark 0))) refl
 
   counts-right : countsRight x ≡ true
   unfolding countsRight
@@ -329,8 +329,3 @@ module _ (s table : List ℕ) (steps n at : ℕ) (page : PageOf s table steps n 
 pub page-of : (s table : List ℕ) (steps n at : ℕ) → Ready s → Table s table → n < planNodes s → steps ≡ wordAt stepsAt s → at ≡ pageAt n → PageOf s table steps n at
 page-of s table steps n at ready tabled within e start =
     record { counted = record { ready = ready; tabled = tabled; same = e ∙ sym (line-steps s (record { nodes = ready .nodes; channels = ready .channels })) }; within = within; start = start }
-
--- A right node is one that is right but for what a replay asks, and what a replay asks.
-pub node-plain : (l : Line) (n : ℕ) → nodeRight l n ≡ (nodePlain l n && (not (replaying l n) || replayRight l n))
-unfolding nodeRight nodePlain
-node-plain l n = refl

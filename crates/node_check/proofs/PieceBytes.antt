@@ -3,12 +3,11 @@ use Prim.Native.Nat.{ℕ, _+_, _-_, _≤_}
 use mathlib.Core.Path.{_≡_, refl, sym, ap, _∙_}
 use mathlib.Core.Bool.{Bool, true, false, not, _&&_, and-true, and-false, and-assoc}
 use mathlib.Core.List.{List, [], _∷_}
-use native.Mathlib.Nat.{add-zero}
 use native.Mathlib.Omega.{arith}
 use lib.Dec.{lit≤, lit<, leb, eqb}
 use lib.Bits.{bitOr}
-use lib.ListN.{length, getD, take, drop, length-drop}
-use lib.Seq.{take-take, getD-drop}
+use lib.ListN.{length, getD, take, drop}
+use lib.Seq.{take-take}
 use Rattle.plan.specs.Layout.{spelled}
 use Rattle.plan.specs.declared.Record.{Record}
 use Rattle.plan.specs.Record.{recordLayout}
@@ -21,49 +20,22 @@ use Rattle.rules.specs.Replay.{passedOn}
 use Rattle.state.specs.Pieces.{originFrom, originLayout}
 use Rattle.state.specs.State.{lineOf}
 use Rattle.state.specs.Right.{wordAt}
-use Rattle.state.proofs.ReadLaws.{part-part, byte-part, origin-read, entry-read, held-read, target-read}
+use Rattle.state.proofs.ReadLaws.{part-part, byte-part, entry-read, held-read, target-read}
 use Rattle.items.specs.Items.{ifFound, fromSender, recordRight, originRight, entryRight, heldRight, targetRight}
 use Rattle.buffer.specs.Exact.{zeroAt, recordExact, timeNamed, originExact, entryExact, heldExact, targetExact}
 use Rattle.buffer.specs.Zero.{zeroBytes}
 use Rattle.buffer.specs.Check.{recordIn, entryIn, heldIn, targetIn}
-use Rattle.buffer.proofs.BytesLaws.{or-zero, zero-test}
+use Rattle.buffer.proofs.BytesLaws.{two-zero, three-zero}
+use Rattle.buffer.proofs.PieceReads.{origin-in}
 use Rattle.node_check.specs.NodeCheck.{entryPlain, entryMade, heldPlain, heldMade}
 
 -- ---- zero bytes
-
--- An or is tested once.
-or-test : (a b : ℕ) → eqb (bitOr a b) 0 ≡ (eqb 0 a && eqb 0 b)
-or-test a b = zero-test (bitOr a b) ∙ or-zero a b
-
-first-two : (s : List ℕ) → 2 ≤ length s → zeroBytes (take 2 s) ≡ eqb (bitOr (getD s 0 0) (getD s 1 0)) 0
-first-two [] h = let no : ⊥ = omega arith in absurd no
-first-two (a ∷ []) h = let no : ⊥ = omega arith in absurd no
-first-two (a ∷ b ∷ s) h = ap (λ (t : Bool). eqb 0 a && t) (and-true (eqb 0 b)) ∙ sym (or-test a b)
-
-pub two-zero : (a : ℕ) (s : List ℕ) → a + 2 ≤ length s → zeroAt a 2 s ≡ eqb (bitOr (getD s a 0) (getD s (a + 1) 0)) 0
-two-zero a s h = first-two (drop a s) (simp length-drop (omega arith)) ∙ simp (getD-drop, add-zero)
-
-first-three : (s : List ℕ) → 3 ≤ length s → zeroBytes (take 3 s) ≡ eqb (bitOr (bitOr (getD s 0 0) (getD s 1 0)) (getD s 2 0)) 0
-first-three [] h = let no : ⊥ = omega arith in absurd no
-first-three (a ∷ []) h = let no : ⊥ = omega arith in absurd no
-first-three (a ∷ b ∷ []) h = let no : ⊥ = omega arith in absurd no
-first-three (a ∷ b ∷ c ∷ s) h =
-    ap (λ (t : Bool). eqb 0 a && (eqb 0 b && t)) (and-true (eqb 0 c)) ∙ sym (and-assoc (eqb 0 a) (eqb 0 b) (eqb 0 c)) ∙ sym (or-test (bitOr a b) c ∙ ap (λ (t : Bool). t && eqb 0 c) (or-zero a b))
-
-pub three-zero : (a : ℕ) (s : List ℕ) → a + 3 ≤ length s → zeroAt a 3 s ≡ eqb (bitOr (bitOr (getD s a 0) (getD s (a + 1) 0)) (getD s (a + 2) 0)) 0
-three-zero a s h = first-three (drop a s) (simp length-drop (omega arith)) ∙ simp (getD-drop, add-zero)
 
 -- Bytes from a place up to another.
 pub zero-part : (from to at k : ℕ) (s : List ℕ) → from ≡ at → to - from ≡ k → zeroBytes (take (to - from) (drop from s)) ≡ zeroAt at k s
 zero-part from to at k s e f = λ i. zeroBytes (take (f i) (drop (e i) s))
 
 -- ---- what is read
-
-module _ (a : ℕ) (s : List ℕ) where
-  origin-in : originLayout .read (take 5 (drop a s)) ≡ originFrom (getD s a 0) (wordAt (a + 1) s)
-  origin-in =
-      origin-read (take 5 (drop a s))
-      ∙ (λ i. originFrom ((byte-part 0 5 a s (lit< tt) ∙ ap (λ (x : ℕ). getD s x 0) (add-zero a)) i) (spelled 0 (part-part 4 1 5 a s (lit≤ tt) i)))
 
 module _ (a : ℕ) (s : List ℕ) where
   pub entry-in : entryIn a s

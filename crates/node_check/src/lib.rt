@@ -1,10 +1,10 @@
 // The check of a node's page.
 ghost use mathlib.Core.Path.{_≡_};
-ghost use mathlib.Core.Bool.{_&&_};
+ghost use mathlib.Core.Bool.{_&&_, _||_};
 ghost use Prim.Native.Nat.{_+_, _≤_, _<_};
 ghost use lib.ListN.{length, getD, set};
 ghost use lib.Dec.{leb};
-ghost use Rattle.plan.specs.Plan.{planOf, planNodes, leaving};
+ghost use Rattle.plan.specs.Plan.{planOf, planNodes, leaving, isSource, isSink};
 ghost use Rattle.plan.specs.Mask.{planMask};
 ghost use Rattle.rules.specs.Lists.{allOf};
 ghost use Rattle.rules.specs.Line.{nodeAt, logLimit, heldLimit, targetLimit};
@@ -255,6 +255,17 @@ fn holds_nothing(status: u8, time: u32, log: u32, held: u32, targets: u32) -> bo
     log == 0
 }
 
+// Whether a crash mark is on a source or a sink.
+fn marks_an_end(s: &[u8], t: &[u8; 156], n: usize, crashed: bool) -> bool
+    requires { ⌜ Ready (now s) × Table (now s) (now t) ⌝ }
+    ensures { λ r. ⌜ r ≡ (crashed && (isSource (planOf (now (s .entry))) n || isSink (planOf (now (s .entry))) n)) ⌝ }
+{
+    if crashed {
+        return table::source_in(s, t, n) | look::is_sink(s, n);
+    }
+    false
+}
+
 // Status and crash mark, by what the node holds and where it stands in the plan.
 fn status_ok(s: &[u8], t: &[u8; 156], steps: u32, n: usize, at: usize) -> bool
     requires { ⌜ PageOf (now s) (now t) steps n at ⌝ }
@@ -266,10 +277,9 @@ fn status_ok(s: &[u8], t: &[u8; 156], steps: u32, n: usize, at: usize) -> bool
     let log = bytes::get32(s, at + 8);
     let held = bytes::get32(s, at + 1548);
     let targets = bytes::get32(s, at + 2832);
-    let source = table::source_in(s, t, n);
-    let sink = look::is_sink(s, n);
+    let end = marks_an_end(s, t, n, crashed);
     let nothing = holds_nothing(status, time, log, held, targets);
-    ((status == 0) | crashed) & !(crashed & (source | sink)) & nothing
+    ((status == 0) | crashed) & !end & nothing
 }
 
 // A node's page: right bytes, and a right node but for what a replay asks.

@@ -7,7 +7,8 @@ use lib.ListN.{length}
 use Rattle.plan.specs.Plan.{planOf, channelAt, entering}
 use Rattle.state.specs.Lane.{heardCount}
 use Rattle.buffer.specs.Ready.{OnChannel}
-use Rattle.buffer.proofs.ReadyLaws.{few-heard, heard-entering}
+use Rattle.state.proofs.PlanFitting.{few-heard}
+use Rattle.buffer.proofs.ReadyLaws.{heard-entering}
 use Rattle.channel_check.specs.Channel.{Ends, QueueFits}
 use Rattle.channel_check.proofs.ChannelLaws.{down-ends}
 use Rattle.channel_check.proofs.BlockCheck.{too-many, block-tested}
@@ -36,7 +37,7 @@ zeros-ok-requires c κs =
     let sender = heard .before .before .before in
     let a = sender .before .before .before .before .args in
     let on : OnChannel (a .s .now) (a .b) = search needs in
-    (search needs, rw (parents-heard (a .s .now) (a .b) (sender .sender-of .result) (heard .parents-in .result) on (sender .sender-of .ensures .0) (heard .parents-in .ensures)) (few-heard (a .s .now) (a .b) on))
+    (search needs, rw (parents-heard (a .s .now) (a .b) (sender .sender-of .result) (heard .parents-in .result) on (sender .sender-of .ensures .0) (heard .parents-in .ensures)) (few-heard (a .s .now) (on .ready .fits) (a .b) (on .below)))
 
 queue-ok-requires : tie.Need-queue-ok-requires
 queue-ok-requires c κs =

@@ -7,7 +7,8 @@ use Rattle.rules.specs.Lists.{greatestOf}
 use Rattle.rules.specs.Line.{laneAt}
 use Rattle.state.specs.State.{lineOf}
 use Rattle.state.proofs.OffsetLaws.{line-taken, line-heard-at}
-use Rattle.buffer.proofs.ReadyLaws.{counted, few-heard, heard-long}
+use Rattle.state.proofs.PlanFitting.{few-heard, heard-long}
+use Rattle.buffer.proofs.ReadyLaws.{counted}
 use Rattle.channel_check.proofs.ChannelLaws.{greatest-more, greatest-end}
 use Rattle.channel_check.proofs.most_heard.Statement.{statement}
 use Rattle.channel_check.proofs.most_heard.Tie as tie
@@ -27,7 +28,7 @@ abbrev μ-loop : tie.MeasureT-loop
 loop-holds : tie.Need-loop-holds Inv-loop μ-loop
 loop-holds c =
     let a = c .before .before .args in
-    record { within = omega arith; few = omega (arith, few-heard (a .s .now) (a .b) (c .before .before .pre .0)); now = ap (λ (t : ℕ). max t (greatestOf (laneAt (lineOf (a .s .now)) (a .b) .heard))) (line-taken (a .s .now) (counted (c .before .before .pre .0 .ready)) (a .b) (c .before .before .pre .0 .below) ∙ sym (c .get32 .ensures)) }
+    record { within = omega arith; few = omega (arith, few-heard (a .s .now) (c .before .before .pre .0 .ready .fits) (a .b) (c .before .before .pre .0 .below)); now = ap (λ (t : ℕ). max t (greatestOf (laneAt (lineOf (a .s .now)) (a .b) .heard))) (line-taken (a .s .now) (counted (c .before .before .pre .0 .ready)) (a .b) (c .before .before .pre .0 .below) ∙ sym (c .get32 .ensures)) }
 
 larger-requires : tie.Need-larger-requires Inv-loop μ-loop
 larger-requires c κs = tt
@@ -37,9 +38,9 @@ loop-again c =
     let a = c .before .before .before .before .before .before .args in
     let p = c .before .before .before .before .before .before .pre in
     let t = c .before .before .before .loop in
-    let few = few-heard (a .s .now) (a .b) (p .0) in
+    let few = few-heard (a .s .now) (p .0 .ready .fits) (a .b) (p .0 .below) in
     let word = line-heard-at (a .s .now) (counted (p .0 .ready)) (a .b) (p .0 .below) (t .i) (omega arith) (omega arith) in
-    let long : t .i < length (laneAt (lineOf (a .s .now)) (a .b) .heard) = rw (heard-long (a .s .now) (a .b) (p .0)) (omega arith) in
+    let long : t .i < length (laneAt (lineOf (a .s .now)) (a .b) .heard) = rw (heard-long (a .s .now) (p .0 .ready .fits) (a .b) (p .0 .below)) (omega arith) in
     record {
       within = omega arith;
       few = t .inv .few;
@@ -51,7 +52,7 @@ returns c =
     let a = c .before .before .before .before .args in
     let p = c .before .before .before .before .pre in
     let t = c .before .loop in
-    sym (t .inv .now ∙ greatest-end (laneAt (lineOf (a .s .now)) (a .b) .heard) (t .most) (t .i) (rw (heard-long (a .s .now) (a .b) (p .0)) (omega arith)))
+    sym (t .inv .now ∙ greatest-end (laneAt (lineOf (a .s .now)) (a .b) .heard) (t .most) (t .i) (rw (heard-long (a .s .now) (p .0 .ready .fits) (a .b) (p .0 .below)) (omega arith)))
 
 pub most-heard-spec : {M : Type 1} → statement M
 most-heard-spec =
