@@ -143,6 +143,13 @@ follows last t = ltb (t .parent) rowsLong && ltb (getD last (t .parent) 0) (t .p
 abbrev pub noted : List ℕ → Target → List ℕ
 noted last t = set last (t .parent) (t .parentTime)
 
+-- ---- what some triples tell
+
+-- Those above low, added to the targets, and those up to low, in their parents' rows.
+pub record Told (low : ℕ) (ts : List Target) (xs : List ℕ) (count : ℕ) (rows ys : List ℕ) (r : ℕ) (next : List ℕ) : Type 0 where
+  pub changed : Changed (addAbove low ts) xs count ys r
+  pub raised : Rows next (raisedBy rows (λ q. restoredOver low q ts))
+
 -- ---- rows
 
 -- Whether a parent's row is complete by all goals and all entries.

@@ -14,34 +14,29 @@ use Rattle.recover.proofs.rows_restored.Statement.{statement}
 use Rattle.recover.proofs.rows_restored.Tie as tie
 
 abbrev Inv-loop : tie.InvT-loop
-Inv-loop s n low xs count goals entries m ok₀ b₀ ok b = RowsBefore s n (targetsIn xs count) ok b
+Inv-loop s n xs count entries goals m ok₀ b₀ ok b = RowsBefore s n (targetsIn xs count) ok b
 
 abbrev μ-loop : tie.MeasureT-loop
-μ-loop s n low xs count goals entries m ok₀ b₀ ok b = m - b
+μ-loop s n xs count entries goals m ok₀ b₀ ok b = m - b
 
 row-goals-requires : tie.Need-row-goals-requires Inv-loop μ-loop
-row-goals-requires c κs = let p = c .before .before .before .pre in (p .4, p .5, rows-none)
-
-restored-entries-requires : tie.Need-restored-entries-requires Inv-loop μ-loop
-restored-entries-requires c κs = let p = c .before .before .before .before .before .pre in (p .0, p .1, p .2, p .3, rows-none)
+row-goals-requires c κs = let p = c .before .before .before .pre in (p .1, p .2, rows-none)
 
 loop-holds : tie.Need-loop-holds Inv-loop μ-loop
 loop-holds c = record { within = omega arith; now = refl }
 
 row-restored-requires : tie.Need-row-restored-requires Inv-loop μ-loop
 row-restored-requires c κs =
-    let counted = c .before .before .before .before in
-    let entries = counted .before in
-    let goals = entries .before .before in
+    let counted = c .before .before .before in
+    let goals = counted .before in
     let p = goals .before .before .before .before .pre in
-    (record { ready = p .0; below = omega (arith, counted .channel-count .ensures .0) }, goals .row-goals .ensures .long, entries .restored-entries .ensures .long)
+    (record { ready = p .0; below = omega (arith, counted .channel-count .ensures .0) }, goals .row-goals .ensures .long, p .3 .long)
 
 loop-again : tie.Need-loop-again Inv-loop μ-loop
 loop-again c =
-    let t = c .before .before .before .before .loop in
-    let counted = c .before .before .before .before .before in
-    let entries = counted .before in
-    let goals = entries .before .before in
+    let t = c .before .before .before .loop in
+    let counted = c .before .before .before .before in
+    let goals = counted .before in
     let first = goals .before .before .before .before in
     let a = first .args in
     let s = a .s .now in
@@ -51,14 +46,14 @@ loop-again c =
     let inside : channelAt (planOf s) (t .b) .sender < rowsLong = omega (arith, sender-inside s (t .b) on, on .ready .nodes) in
     let row : c .row-restored .result ≡ (not (eqb (channelAt (planOf s) (t .b) .receiver) (a .n)) || rowIn (lineOf s) (a .n) ts (channelAt (planOf s) (t .b) .sender)) =
     c .row-restored .ensures
-    ∙ ap (λ (r : Bool). not (eqb (channelAt (planOf s) (t .b) .receiver) (a .n)) || r) (row-same (lineOf s) (a .n) ts (goals .row-goals .last .1 .1 .0) (entries .restored-entries .last .1 .1 .1 .0) (channelAt (planOf s) (t .b) .sender) (goals .row-goals .ensures) (entries .restored-entries .ensures) inside) in
+    ∙ ap (λ (r : Bool). not (eqb (channelAt (planOf s) (t .b) .receiver) (a .n)) || r) (row-same (lineOf s) (a .n) ts (goals .row-goals .last .1 .1 .0) (a .entries .now) (channelAt (planOf s) (t .b) .sender) (goals .row-goals .ensures) (first .pre .3) inside) in
     record { within = omega arith; now = ap₂ _&&_ (t .inv .now) row ∙ sym (rows-turn s (a .n) ts (t .b) h) }
 
 returns : tie.Need-returns Inv-loop μ-loop
 returns c =
     let t = c .before .loop in
     let counted = c .before .before in
-    let a = counted .before .before .before .before .before .before .before .args in
+    let a = counted .before .before .before .before .before .args in
     t .inv .now ∙ rows-whole (a .s .now) (a .n) (targetsIn (a .xs .now) (a .count)) (t .b) (omega (arith, counted .channel-count .ensures .0))
 
 pub rows-restored-spec : {M : Type 1} → statement M
@@ -68,8 +63,7 @@ rows-restored-spec =
     Inv-loop
     μ-loop
     row-goals-requires
-    restored-entries-requires
-    (λ c κs. c .before .before .before .before .before .before .pre .0)
+    (λ c κs. c .before .before .before .before .pre .0)
     loop-holds
     row-restored-requires
     (λ c. omega arith)
