@@ -4,7 +4,7 @@ use mathlib.Core.Path.{_≡_, refl, sym, ap, _∙_}
 use mathlib.Core.Bool.{Bool, true, false, cond, _&&_, and-true, and-false}
 use mathlib.Core.List.{List, [], _++_}
 use native.Mathlib.Omega.{arith}
-use borrow.Author.Tests.{eqb-true, eqb-false, ne-eqb}
+use borrow.Author.Tests.{eqb-true, eqb-false}
 use lib.Dec.{leb, eqb}
 use lib.ListN.{length, getD, set, replicate, length-set}
 use lib.Seq.{getD-set-same, getD-set-other}
@@ -22,18 +22,25 @@ pub rows-none : Rows (replicate rowsLong 0) (λ q. 0)
 rows-none = record { long = refl; each = λ q h. replicate-default rowsLong q 0 }
 
 module _ (rows : List ℕ) (long : length rows ≡ rowsLong) where
-  -- A parent's row raised, and a parent that has none.
-  pub raised-here : (parent at time best : ℕ) → at ≡ parent → at < rowsLong → best ≡ max (getD rows at 0) time → Rows (set rows at best) (raisedAt rows parent time)
-  raised-here parent at time best e h is = record { long = length-set rows at best ∙ long; each = λ q l. one q (eqb parent q) refl }
+  -- A parent's row raised to a time, and one left as it is: the time is not above it, or the parent has none.
+  pub raised-here : (parent time : ℕ) → parent < rowsLong → getD rows parent 0 < time → Rows (set rows parent time) (raisedAt rows parent time)
+  raised-here parent time h less = record { long = length-set rows parent time ∙ long; each = λ q l. one q (eqb parent q) refl }
     where
-      one : (q : ℕ) (t : Bool) → eqb parent q ≡ t → getD (set rows at best) q 0 ≡ cond t (max (getD rows q 0) time) (getD rows q 0)
+      one : (q : ℕ) (t : Bool) → eqb parent q ≡ t → getD (set rows parent time) q 0 ≡ cond t (max (getD rows q 0) time) (getD rows q 0)
       one q true w =
-          let same : at ≡ q = e ∙ eqb-true parent q w in
-          ap (λ (k : ℕ). getD (set rows at best) k 0) (sym same) ∙ getD-set-same rows at best 0 (omega (arith, long)) ∙ is ∙ ap (λ (k : ℕ). max (getD rows k 0) time) same
-      one q false w = getD-set-other rows at q best 0 (λ r. eqb-false parent q w (sym (r ∙ e)))
+          let greater : time ≡ max (getD rows parent 0) time = omega arith in
+          let same : parent ≡ q = eqb-true parent q w in
+          ap (λ (k : ℕ). getD (set rows parent time) k 0) (sym same) ∙ getD-set-same rows parent time 0 (omega (arith, long)) ∙ greater ∙ ap (λ (k : ℕ). max (getD rows k 0) time) same
+      one q false w = getD-set-other rows parent q time 0 (λ r. eqb-false parent q w (sym r))
 
-  pub raised-none : (parent time : ℕ) → rowsLong ≤ parent → Rows rows (raisedAt rows parent time)
-  raised-none parent time h = record { long = long; each = λ q l. (rw (ne-eqb parent q (λ e. (let no : ⊥ = omega arith in no))) refl) }
+  pub raised-not : (parent time : ℕ) → (parent < rowsLong → time ≤ getD rows parent 0) → Rows rows (raisedAt rows parent time)
+  raised-not parent time h = record { long = long; each = λ q l. one q l (eqb parent q) refl }
+    where
+      one : (q : ℕ) → q < rowsLong → (t : Bool) → eqb parent q ≡ t → getD rows q 0 ≡ cond t (max (getD rows q 0) time) (getD rows q 0)
+      one q l true w =
+          let same : parent ≡ q = eqb-true parent q w in
+          omega (arith, h (omega arith), ap (λ (k : ℕ). getD rows k 0) same)
+      one q l false w = refl
 
   -- An entry's triple is up to low, or there is nothing to raise.
   pub found-none : (low : ℕ) (f : Triple) → (f .is && leb (f .time) low) ≡ false → Rows rows (raisedBy rows (λ q. restoredOver low q (tripleList f)))
