@@ -17,12 +17,8 @@ use Rattle.rules.specs.Line.{laneAt}
 use Rattle.rules.specs.Recover.{childTimes, lowOf, highOf}
 use Rattle.rules.proofs.ListLaws.{nil-right, map-more}
 use Rattle.state.specs.State.{lineOf}
-use Rattle.state.proofs.InPlace.{Counted, line-plan}
-use Rattle.buffer.specs.Ready.{Ready}
+use Rattle.state.proofs.InPlace.{line-plan}
 use Rattle.recover.specs.Found.{lowWith}
-
-pub ready-counted : {s : List ℕ} → Ready s → Counted s
-ready-counted r = record { nodes = r .nodes; channels = r .channels }
 
 -- ---- the plan's channels, one by one
 

@@ -5,6 +5,7 @@ pub mod OrderLaws
 pub mod TargetLaws
 pub mod FoundLaws
 pub mod RestoredLaws
+pub mod ToldLaws
 pub mod RisingLaws
 pub mod RowLaws
 pub mod ReplayLaws

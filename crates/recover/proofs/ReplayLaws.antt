@@ -27,14 +27,14 @@ use Rattle.state.proofs.ReadLaws.{part-part, byte-part, target-read}
 use Rattle.state.proofs.OffsetLaws.{line-targets-count, line-target-at}
 use Rattle.items.specs.Items.{replayRight}
 use Rattle.buffer.specs.Ready.{Ready}
+use Rattle.buffer.proofs.ReadyLaws.{counted}
 use Rattle.recover.specs.Found.{target, targetsIn, Found, rowsIn, noTarget, replayFound}
-use Rattle.recover.proofs.ChildLaws.{ready-counted}
 
 -- ---- a node's own targets
 
 module _ (s : List ℕ) (ready : Ready s) (n : ℕ) (inside : n < planNodes s) where
   stored-length : wordAt (pageAt n + targetsAt) s ≤ targetLimit → length (nodeAt (lineOf s) n .targets) ≡ wordAt (pageAt n + targetsAt) s
-  stored-length few = omega (arith, line-targets-count s (ready-counted ready) n inside, few)
+  stored-length few = omega (arith, line-targets-count s (counted ready) n inside, few)
 
   -- The count, as the code reads it.
   pub stored-count : wordAt (pageAt n + targetsAt) s ≤ targetLimit → (at r : ℕ) → at ≡ pageAt n + targetsAt → r ≡ wordAt at s → r ≡ length (nodeAt (lineOf s) n .targets)
@@ -50,7 +50,7 @@ module _ (s : List ℕ) (ready : Ready s) (n : ℕ) (inside : n < planNodes s) w
       (λ j. target ((e ∙ same) j) ((f ∙ byte) j) ((g ∙ later) j))
       ∙ sym (target-read b)
       ∙ ap (λ (a : ℕ). targetLayout .read (take targetSize (drop a s))) place
-      ∙ sym (line-target-at s (ready-counted ready) n inside i noTarget k h)
+      ∙ sym (line-target-at s (counted ready) n inside i noTarget k h)
 
 -- ---- two lists of targets
 

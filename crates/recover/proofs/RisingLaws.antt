@@ -1,111 +1,102 @@
--- Targets whose times rise, all of them and each parent's: no two of them clash.
-use Prim.Native.Nat.{ℕ, suc, _+_, _≤_, _<_}
-use mathlib.Core.Path.{_≡_, refl, sym, ap, ap₂, _∙_}
-use mathlib.Core.Bool.{Bool, true, false, _&&_, _||_, and-assoc, and-true}
-use mathlib.Core.List.{List, [], _∷_}
+-- Targets one by one: the goal of each row, and no two that clash if times rise, all of them and each parent's.
+use Prim.Native.Nat.{ℕ, _+_, _≤_, _<_, max}
+use mathlib.Core.Path.{_≡_, refl, sym, ap, ap₂, subst, _∙_}
+use mathlib.Core.Bool.{Bool, true, false, cond, _&&_, _||_}
+use mathlib.Core.List.{List, [], _∷_, _++_, map}
 use native.Mathlib.Numerals.{add-one}
 use native.Mathlib.Omega.{arith}
-use borrow.Author.Tests.{ltb-true, eqb-true, eqb-false, ne-eqb}
+use borrow.Author.Tests.{ltb-true, ne-eqb}
 use lib.Dec.{ltb, eqb}
-use lib.ListN.{length, getD, drop, length-set, drop-of-length-le}
-use lib.Seq.{drop-cons, getD-set-same, getD-set-other}
-use Rattle.basics.specs.Bools.{both-true}
-use Rattle.rules.specs.Lists.{anyOf}
+use lib.ListN.{getD, take}
+use lib.Seq.{take-suc, take-all}
+use Rattle.basics.specs.Bools.{both-true, neither-true}
+use Rattle.rules.specs.Lists.{keep, keepOne, anyOf, greatestOf}
 use Rattle.rules.specs.Line.{Target}
-use Rattle.rules.specs.Recover.{clash, conflict}
-use Rattle.recover.specs.Found.{targetAt, targetsIn, rowsLong, follows, noted}
+use Rattle.rules.specs.Recover.{clash, conflict, rowGoal}
+use Rattle.rules.proofs.ListLaws.{keep-append, map-append, map-more}
+use Rattle.items.proofs.Tests.{any-append}
+use Rattle.recover.specs.Found.{targetAt, targetsIn, rowsLong, Rows, raisedAt, isAbove}
+use Rattle.recover.proofs.ChildLaws.{greatest-append, high-snoc}
 use Rattle.recover.proofs.TargetLaws.{targets-length, targets-at}
 
--- From a time and each parent's last time on.
-abbrev pub rising : ℕ → List ℕ → List Target → Bool
-rising time last [] = true
-rising time last (t ∷ ts) = (ltb time (t .time) && follows last t) && rising (t .time) (noted last t) ts
+abbrev sentOf : Target → ℕ
+sentOf t = t .parentTime
 
--- A target that is not past them.
-record Passed (time : ℕ) (last : List ℕ) (u : Target) : Type 0 where
-  pub early : u .time ≤ time
-  pub sent : u .parentTime ≤ getD last (u .parent) 0
+-- The latest of some targets' times.
+abbrev pub latest : List Target → ℕ
+latest ts = greatestOf (map (λ (t : Target). t .time) ts)
 
-module _ (time : ℕ) (last : List ℕ) (t : Target) (long : length last ≡ rowsLong) (above : (ltb time (t .time) && follows last t) ≡ true) where
-  later : time < t .time
-  later = ltb-true time (t .time) (both-true (ltb time (t .time)) (follows last t) above .0)
+latest-more : (ts : List Target) (t : Target) → latest (ts ++ t ∷ []) ≡ max (latest ts) (t .time)
+latest-more ts t =
+    let h = greatest-append (map (λ (u : Target). u .time) ts) (t .time ∷ []) in
+    ap greatestOf (map-append (λ (u : Target). u .time) ts (t ∷ [])) ∙ omega (arith, h)
 
-  inside : (t .parent < rowsLong) × (getD last (t .parent) 0 < t .parentTime)
-  inside =
-      let b = both-true (ltb (t .parent) rowsLong) (ltb (getD last (t .parent) 0) (t .parentTime)) (both-true (ltb time (t .time)) (follows last t) above .1) in
-      (ltb-true (t .parent) rowsLong (b .0), ltb-true (getD last (t .parent) 0) (t .parentTime) (b .1))
+module _ (parent : ℕ) where
+  abbrev named : Target → Bool
+  named t = eqb (t .parent) parent
 
-  noted-here : getD (noted last t) (t .parent) 0 ≡ t .parentTime
-  noted-here = getD-set-same last (t .parent) (t .parentTime) 0 (omega (arith, long, inside .0))
+  goal-more : (ts : List Target) (t : Target) → rowGoal (ts ++ t ∷ []) parent ≡ cond (eqb (t .parent) parent) (max (rowGoal ts parent) (t .parentTime)) (rowGoal ts parent)
+  goal-more ts t =
+      ap (λ (us : List Target). greatestOf (map sentOf us)) (keep-append named ts (t ∷ []))
+      ∙ ap greatestOf (map-more sentOf (named t) t (keep named ts))
+      ∙ high-snoc (map sentOf (keep named ts)) (named t) (t .parentTime)
 
-  passed-self : Passed (t .time) (noted last t) t
-  passed-self = record { early = omega arith; sent = omega (arith, noted-here) }
+-- ---- a target above all before it, and above its parent's
 
-  module _ (u : Target) (p : Passed time last u) where
-    no-clash : clash u t ≡ false
-    no-clash =
-        let times : eqb (u .time) (t .time) ≡ false = ne-eqb (u .time) (t .time) (λ e. (let no : ⊥ = omega (arith, later, p .early) in no)) in
-        rw times (one (eqb (u .parent) (t .parent)) refl)
-      where
-        one : (b : Bool) → eqb (u .parent) (t .parent) ≡ b → (b && eqb (u .parentTime) (t .parentTime)) ≡ false
-        one true e =
-            let same : getD last (u .parent) 0 ≡ getD last (t .parent) 0 = ap (λ (q : ℕ). getD last q 0) (eqb-true (u .parent) (t .parent) e) in
-            ne-eqb (u .parentTime) (t .parentTime) (λ q. (let no : ⊥ = omega (arith, p .sent, same, inside .1) in no))
-        one false e = refl
-
-    passed-on : Passed (t .time) (noted last t) u
-    passed-on = record { early = omega (arith, later, p .early); sent = one (eqb (u .parent) (t .parent)) refl }
-      where
-        one : (b : Bool) → eqb (u .parent) (t .parent) ≡ b → u .parentTime ≤ getD (noted last t) (u .parent) 0
-        one true e =
-            let is : u .parent ≡ t .parent = eqb-true (u .parent) (t .parent) e in
-            let old : getD last (u .parent) 0 ≡ getD last (t .parent) 0 = ap (λ (q : ℕ). getD last q 0) is in
-            let new : getD (noted last t) (u .parent) 0 ≡ t .parentTime = ap (λ (q : ℕ). getD (noted last t) q 0) is ∙ noted-here in
-            omega (arith, p .sent, old, new, inside .1)
-        one false e =
-            let is : getD (noted last t) (u .parent) 0 ≡ getD last (u .parent) 0 = getD-set-other last (t .parent) (u .parent) (t .parentTime) 0 (eqb-false (u .parent) (t .parent) e) in
-            omega (arith, p .sent, is)
-
-none-clashes : (u : Target) (time : ℕ) (last : List ℕ) (ts : List Target) → length last ≡ rowsLong → Passed time last u → rising time last ts ≡ true → anyOf (clash u) ts ≡ false
-none-clashes u time last [] long p e = refl
-none-clashes u time last (t ∷ ts) long p e =
-    let b = both-true (ltb time (t .time) && follows last t) (rising (t .time) (noted last t) ts) e in
-    let rest : anyOf (clash u) ts ≡ false = none-clashes u (t .time) (noted last t) ts (length-set last (t .parent) (t .parentTime) ∙ long) (passed-on time last t long (b .0) u p) (b .1) in
-    ap₂ _||_ (no-clash time last t long (b .0) u p) rest
-
-pub rising-clear : (time : ℕ) (last : List ℕ) (ts : List Target) → length last ≡ rowsLong → rising time last ts ≡ true → conflict ts ≡ false
-rising-clear time last [] long e = refl
-rising-clear time last (t ∷ ts) long e =
-    let b = both-true (ltb time (t .time) && follows last t) (rising (t .time) (noted last t) ts) e in
-    let next : length (noted last t) ≡ rowsLong = length-set last (t .parent) (t .parentTime) ∙ long in
-    ap₂ _||_ (none-clashes t (t .time) (noted last t) ts next (passed-self time last t long (b .0)) (b .1)) (rising-clear (t .time) (noted last t) ts next (b .1))
+clear-more : (ts : List Target) (t : Target) → latest ts < t .time → rowGoal ts (t .parent) < t .parentTime → conflict ts ≡ false → conflict (ts ++ t ∷ []) ≡ false
+clear-more [] t l g c = refl
+clear-more (u ∷ ts) t l g c =
+    let b = neither-true (anyOf (clash u) ts) (conflict ts) c in
+    let times : eqb (u .time) (t .time) ≡ false = ne-eqb (u .time) (t .time) (λ e. (let no : ⊥ = omega arith in no)) in
+    let inputs = one (named (t .parent) u) g in
+    ap₂ _||_ (any-append (clash u) ts (t ∷ []) ∙ (λ j. b .0 j || ((times j || inputs .1 j) || false))) (clear-more ts t (omega arith) (inputs .0) (b .1))
+  where
+    one : (same : Bool) → greatestOf (map sentOf (keepOne same u (keep (named (t .parent)) ts))) < t .parentTime → (rowGoal ts (t .parent) < t .parentTime) × ((same && eqb (u .parentTime) (t .parentTime)) ≡ false)
+    one true h = (omega arith, ne-eqb (u .parentTime) (t .parentTime) (λ e. (let no : ⊥ = omega arith in no)))
+    one false h = (h, refl)
 
 -- ---- target by target
 
-pub record RisingTo (xs : List ℕ) (count : ℕ) (last : List ℕ) (time : ℕ) (ok : Bool) (i : ℕ) : Type 0 where
+pub record Rising (ts : List Target) (rows : List ℕ) (time : ℕ) (ok : Bool) : Type 0 where
+  pub goals : Rows rows (rowGoal ts)
+  pub early : ok ≡ true → latest ts ≤ time
+  pub clear : ok ≡ true → conflict ts ≡ false
+
+rising-more : (ts : List Target) (t : Target) (rows : List ℕ) (time : ℕ) (ok r : Bool) (next : List ℕ) → r ≡ isAbove rows (t .parent) (t .parentTime) → Rows next (raisedAt rows (t .parent) (t .parentTime))
+    → Rising ts rows time ok → Rising (ts ++ t ∷ []) next (t .time) (ok && ltb time (t .time) && r)
+rising-more ts t rows time ok r next e raised k =
+    record {
+      goals = record { long = raised .long; each = λ q h. raised .each q h ∙ ap (λ (x : ℕ). cond (eqb (t .parent) q) (max x (t .parentTime)) x) (k .goals .each q h) ∙ sym (goal-more q ts t) };
+      early = λ w. omega (arith, latest-more ts t, k .early (was w), later w);
+      clear = λ w. (let above = both-true (ltb (t .parent) rowsLong) (ltb (getD rows (t .parent) 0) (t .parentTime)) (sym e ∙ both-true (ok && ltb time (t .time)) r w .1) in
+          clear-more ts t (omega (arith, k .early (was w), later w)) (omega (arith, k .goals .each (t .parent) (ltb-true (t .parent) rowsLong (above .0)), ltb-true (getD rows (t .parent) 0) (t .parentTime) (above .1))) (k .clear (was w)));
+    }
+  where
+    tests : (ok && ltb time (t .time) && r) ≡ true → (ok ≡ true) × (ltb time (t .time) ≡ true)
+    tests w = both-true ok (ltb time (t .time)) (both-true (ok && ltb time (t .time)) r w .0)
+
+    was : (ok && ltb time (t .time) && r) ≡ true → ok ≡ true
+    was w = tests w .0
+
+    later : (ok && ltb time (t .time) && r) ≡ true → time < t .time
+    later w = ltb-true time (t .time) (tests w .1)
+
+pub record RisingTo (xs : List ℕ) (count : ℕ) (rows : List ℕ) (time : ℕ) (ok : Bool) (i : ℕ) : Type 0 where
   pub within : i ≤ count
-  pub long : length last ≡ rowsLong
-  pub clear : (ok && rising time last (drop i (targetsIn xs count))) ≡ true → conflict (targetsIn xs count) ≡ false
+  pub rises : Rising (take i (targetsIn xs count)) rows time ok
 
-pub rising-start : (xs : List ℕ) (count : ℕ) (last : List ℕ) → length last ≡ rowsLong → RisingTo xs count last 0 true 0
-rising-start xs count last long = record { within = omega arith; long = long; clear = rising-clear 0 last (targetsIn xs count) long }
+pub rising-start : (xs : List ℕ) (count : ℕ) (rows : List ℕ) → Rows rows (λ q. 0) → RisingTo xs count rows 0 true 0
+rising-start xs count rows none = record { within = omega arith; rises = record { goals = none; early = λ w. omega arith; clear = λ w. refl } }
 
-pub rising-turn : (xs : List ℕ) (count : ℕ) (last : List ℕ) (time : ℕ) (ok : Bool) (i : ℕ) (g : Target) (r : Bool) (next : List ℕ) → i < count → g ≡ targetAt xs i → r ≡ follows last g → next ≡ noted last g
-    → RisingTo xs count last time ok i → RisingTo xs count next (g .time) (ok && ltb time (g .time) && r) (i + 1)
-rising-turn xs count last time ok i g r next h e f q k =
+pub rising-turn : (xs : List ℕ) (count : ℕ) (rows : List ℕ) (time : ℕ) (ok : Bool) (i : ℕ) (g : Target) (r : Bool) (next : List ℕ) → i < count → g ≡ targetAt xs i → r ≡ isAbove rows (g .parent) (g .parentTime)
+    → Rows next (raisedAt rows (g .parent) (g .parentTime)) → RisingTo xs count rows time ok i → RisingTo xs count next (g .time) (ok && ltb time (g .time) && r) (i + 1)
+rising-turn xs count rows time ok i g r next h e f raised k =
     let ts : List Target = targetsIn xs count in
-    let is : getD ts i g ≡ g = targets-at xs count i g h ∙ sym e in
-    let rest : List Target = drop (suc i) ts in
-    let split : drop i ts ≡ g ∷ rest = drop-cons ts i g (rw targets-length h) ∙ ap (λ (t : Target). t ∷ rest) is in
-    let tests : (ok && (ltb time (g .time) && follows last g)) ≡ (ok && ltb time (g .time) && follows last g) = sym (and-assoc ok (ltb time (g .time)) (follows last g)) in
-    let there : (ok && rising time last (drop i ts)) ≡ (ok && ltb time (g .time) && r && rising (g .time) next (drop (i + 1) ts)) =
-    ap (λ (us : List Target). ok && rising time last us) split
-    ∙ sym (and-assoc ok (ltb time (g .time) && follows last g) (rising (g .time) (noted last g) rest))
-    ∙ ap (λ (b : Bool). b && rising (g .time) (noted last g) rest) tests
-    ∙ (λ j. ok && ltb time (g .time) && sym f j && rising (g .time) (sym q j) (drop (sym (add-one i) j) ts)) in
-    record { within = omega arith; long = ap length q ∙ length-set last (g .parent) (g .parentTime) ∙ k .long; clear = λ w. k .clear (there ∙ w) }
+    let more : take i ts ++ g ∷ [] ≡ take (i + 1) ts = rw (add-one i, take-suc ts i g (rw targets-length h), targets-at xs count i g h) (ap (λ (t : Target). take i ts ++ t ∷ []) e) in
+    record { within = omega arith; rises = subst (λ (us : List Target). Rising us next (g .time) (ok && ltb time (g .time) && r)) more (rising-more (take i ts) g rows time ok r next f raised (k .rises)) }
 
-pub rising-end : (xs : List ℕ) (count : ℕ) (last : List ℕ) (time : ℕ) (ok : Bool) (i : ℕ) → count ≤ i → RisingTo xs count last time ok i → ok ≡ true → conflict (targetsIn xs count) ≡ false
-rising-end xs count last time ok i h k e =
-    let none : drop i (targetsIn xs count) ≡ [] = drop-of-length-le (targetsIn xs count) {i = i} (rw targets-length h) in
-    k .clear (ap (λ (us : List Target). ok && rising time last us) none ∙ and-true ok ∙ e)
+pub rising-end : (xs : List ℕ) (count : ℕ) (rows : List ℕ) (time : ℕ) (ok : Bool) (i : ℕ) → count ≤ i → RisingTo xs count rows time ok i
+    → (ok ≡ true → conflict (targetsIn xs count) ≡ false) × Rows rows (rowGoal (targetsIn xs count))
+rising-end xs count rows time ok i h k =
+    let all = subst (λ (us : List Target). Rising us rows time ok) (take-all i (targetsIn xs count) (rw targets-length h)) (k .rises) in
+    (all .clear, all .goals)

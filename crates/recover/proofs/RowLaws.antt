@@ -1,24 +1,23 @@
 -- Targets that conflict, and the rows that they leave, one by one.
-use Prim.Native.Nat.{ℕ, suc, _+_, _≤_, _<_, max}
+use Prim.Native.Nat.{ℕ, suc, _+_, _≤_, _<_}
 use mathlib.Core.Path.{_≡_, refl, sym, ap, ap₂, _∙_}
-use mathlib.Core.Bool.{Bool, true, false, not, cond, _&&_, _||_, or-assoc, or-false, and-assoc, and-true}
-use mathlib.Core.List.{List, [], _∷_, _++_, map}
+use mathlib.Core.Bool.{Bool, true, false, not, _&&_, _||_, or-assoc, or-false, and-assoc, and-true}
+use mathlib.Core.List.{List, [], _∷_, _++_}
 use native.Mathlib.Numerals.{add-one}
 use native.Mathlib.Omega.{arith}
 use lib.Dec.{leb, eqb}
-use lib.ListN.{length, getD, take, drop, drop-of-length-le}
-use lib.Seq.{take-suc, take-all, drop-cons}
+use lib.ListN.{length, getD, drop, drop-of-length-le}
+use lib.Seq.{drop-cons}
 use Rattle.plan.specs.declared.Channel.{Channel}
 use Rattle.plan.specs.Plan.{Plan, planOf, planChannels, channelAt, entering}
 use Rattle.plan.proofs.PlanLaws.{channel-count}
-use Rattle.rules.specs.Lists.{keep, keepOne, allOf, anyOf, greatestOf}
+use Rattle.rules.specs.Lists.{keepOne, allOf, anyOf}
 use Rattle.rules.specs.Line.{Target, Line}
 use Rattle.rules.specs.Recover.{clash, conflict, restored, rowGoal}
-use Rattle.rules.proofs.ListLaws.{keep-append, map-more}
 use Rattle.state.specs.State.{lineOf}
 use Rattle.state.proofs.InPlace.{line-plan}
-use Rattle.recover.specs.Found.{targetAt, targetsIn, rowsLong, Rows, raisedAt, rowReached, rowIn, rowsIn}
-use Rattle.recover.proofs.ChildLaws.{numbersTo, numbers-turn, numbers-whole, high-snoc}
+use Rattle.recover.specs.Found.{targetAt, targetsIn, rowsLong, Rows, rowReached, rowIn, rowsIn}
+use Rattle.recover.proofs.ChildLaws.{numbersTo, numbers-turn, numbers-whole}
 use Rattle.recover.proofs.TargetLaws.{targets-length, targets-at}
 
 -- ---- conflicts
@@ -34,26 +33,6 @@ conflict-turn ts d found i h = rw (add-one i, drop-cons ts i d h) (sym (or-assoc
 
 pub conflict-end : (ts : List Target) (found : Bool) (i : ℕ) → length ts ≤ i → (found || conflict (drop i ts)) ≡ found
 conflict-end ts found i h = rw (drop-of-length-le ts {i = i} h) (or-false found)
-
--- ---- the goal of a row
-
-module _ (parent : ℕ) where
-  abbrev named : Target → Bool
-  named t = eqb (t .parent) parent
-
-  goal-snoc : (ts : List Target) (t : Target) → rowGoal (ts ++ t ∷ []) parent ≡ cond (eqb (t .parent) parent) (max (rowGoal ts parent) (t .parentTime)) (rowGoal ts parent)
-  goal-snoc ts t =
-      let at : Target → ℕ = λ u. u .parentTime in
-      ap (λ (us : List Target). greatestOf (map at us)) (keep-append named ts (t ∷ []))
-      ∙ ap greatestOf (map-more at (named t) t (keep named ts))
-      ∙ high-snoc (map at (keep named ts)) (named t) (t .parentTime)
-
-  pub goal-turn : (ts : List Target) (d : Target) (i : ℕ) → i < length ts
-      → cond (eqb (getD ts i d .parent) parent) (max (rowGoal (take i ts) parent) (getD ts i d .parentTime)) (rowGoal (take i ts) parent) ≡ rowGoal (take (i + 1) ts) parent
-  goal-turn ts d i h = sym (rw (add-one i, take-suc ts i d h) (goal-snoc (take i ts) (getD ts i d)))
-
-  pub goal-end : (ts : List Target) (i : ℕ) → length ts ≤ i → rowGoal (take i ts) parent ≡ rowGoal ts parent
-  goal-end ts i h = ap (λ (us : List Target). rowGoal us parent) (take-all i ts h)
 
 -- ---- the rows
 
@@ -118,30 +97,10 @@ conflicting-turn xs count found i r l e k =
 pub conflicting-end : (xs : List ℕ) (count : ℕ) (found : Bool) (i : ℕ) → count ≤ i → Conflicting xs count found i → found ≡ conflict (targetsIn xs count)
 conflicting-end xs count found i h k = sym (k .now ∙ conflict-end (targetsIn xs count) found i (rw targets-length h))
 
-pub record GoalsTo (xs : List ℕ) (count i : ℕ) (rows : List ℕ) : Type 0 where
-  pub within : i ≤ count
-  pub now : Rows rows (rowGoal (take i (targetsIn xs count)))
-
-pub goals-turn : (xs : List ℕ) (count i : ℕ) (rows : List ℕ) (g : Target) (next : List ℕ) → i < count → g ≡ targetAt xs i → Rows next (raisedAt rows (g .parent) (g .parentTime)) → GoalsTo xs count i rows
-    → GoalsTo xs count (i + 1) next
-goals-turn xs count i rows g next l e r k =
-    let ts : List Target = targetsIn xs count in
-    let is : g ≡ getD ts i g = e ∙ sym (targets-at xs count i g l) in
-    record {
-      within = omega arith;
-      now = record {
-        long = r .long;
-        each = λ q h. r .each q h ∙ (λ j. cond (eqb (is j .parent) q) (max (k .now .each q h j) (is j .parentTime)) (k .now .each q h j)) ∙ goal-turn q ts g i (rw targets-length l);
-      };
-    }
-
-pub goals-end : (xs : List ℕ) (count i : ℕ) (rows : List ℕ) → count ≤ i → GoalsTo xs count i rows → Rows rows (rowGoal (targetsIn xs count))
-goals-end xs count i rows h k = record { long = k .now .long; each = λ q l. k .now .each q l ∙ goal-end q (targetsIn xs count) i (rw targets-length h) }
-
 -- A parent's row by what its goal and its restored entry are.
 pub row-same : (l : Line) (n : ℕ) (ts : List Target) (goals entries : List ℕ) (q : ℕ) → Rows goals (rowGoal ts) → Rows entries (restored l n) → q < rowsLong → rowReached goals entries q ≡ rowIn l n ts q
 row-same l n ts goals entries q a b h = ap₂ leb (a .each q h) (b .each q h)
 
-pub record RowsBefore (s : List ℕ) (n : ℕ) (ts : List Target) (ok : Bool) (b : ℕ) : Type 0 where
+pub record RowsBefore (s : List ℕ) (n : ℕ) (goals : List ℕ) (ok : Bool) (b : ℕ) : Type 0 where
   pub within : b ≤ planChannels s
-  pub now : ok ≡ rowsTo s n ts b
+  pub now : (ts : List Target) → Rows goals (rowGoal ts) → ok ≡ rowsTo s n ts b

@@ -16,7 +16,7 @@ use Rattle.plan.specs.Plan.{planOf, planNodes, planChannels, channelAt}
 use Rattle.plan.proofs.PlanLaws.{channel-count}
 use Rattle.plan.proofs.ReadLaws.{byte-field}
 use Rattle.rules.specs.Lists.{keep, keepOne, joined, greatestOf}
-use Rattle.rules.specs.Line.{Entry, Target, nodeAt}
+use Rattle.rules.specs.Line.{Entry, Target, Line, nodeAt}
 use Rattle.rules.specs.Recover.{lowOf, triple, triples, childTriples, restored}
 use Rattle.rules.proofs.ListLaws.{nil-right, keep-append, map-append, map-more}
 use Rattle.state.specs.Sizes.{countSize, entrySize, pageAt, logAt}
@@ -28,8 +28,9 @@ use Rattle.state.proofs.InPlace.{line-plan}
 use Rattle.state.proofs.OffsetLaws.{line-log-count, line-log-at}
 use Rattle.recover.specs.declared.Triple.{Triple}
 use Rattle.buffer.specs.Ready.{Ready}
+use Rattle.buffer.proofs.ReadyLaws.{counted}
 use Rattle.recover.specs.Found.{LogsCounted, entryAt, noEntry, tripleOf, tripleList, childLog, triplesOn, restoredOver}
-use Rattle.recover.proofs.ChildLaws.{ready-counted, leavingTo, numbers-turn, leaving-whole, greatest-append}
+use Rattle.recover.proofs.ChildLaws.{leavingTo, numbers-turn, leaving-whole, greatest-append}
 
 -- ---- an entry's bytes
 
@@ -40,14 +41,14 @@ origin-at a s =
 
 module _ (s : List ℕ) (ready : Ready s) (logs : LogsCounted s) (k : ℕ) (inside : k < planNodes s) where
   pub log-length : length (nodeAt (lineOf s) k .log) ≡ wordAt (pageAt k + logAt) s
-  log-length = omega (arith, line-log-count s (ready-counted ready) k inside, logs k inside)
+  log-length = omega (arith, line-log-count s (counted ready) k inside, logs k inside)
 
   module _ (i : ℕ) (within : i < length (nodeAt (lineOf s) k .log)) where
     abbrev at : ℕ
     at = pageAt k + (logAt + countSize + entrySize * i)
 
     entry-bytes : entryAt (lineOf s) k i ≡ entryLayout .read (take entrySize (drop at s))
-    entry-bytes = line-log-at s (ready-counted ready) k inside i noEntry (omega (arith, log-length)) (omega (arith, log-length, logs k inside))
+    entry-bytes = line-log-at s (counted ready) k inside i noEntry (omega (arith, log-length)) (omega (arith, log-length, logs k inside))
 
     pub entry-origin : entryAt (lineOf s) k i .origin ≡ originFrom (getD s (at + 12) 0) (wordAt (at + 12 + 1) s)
     entry-origin = ap (λ (e : Entry). e .origin) (entry-bytes ∙ entry-read (take entrySize (drop at s))) ∙ ap (originLayout .read) (part-part 5 12 entrySize at s (lit≤ tt)) ∙ origin-at (at + 12) s
@@ -163,6 +164,6 @@ module _ (low parent : ℕ) where
       one true = two (eqb (f .parent) parent && leb (f .time) low)
       one false = omega arith
 
-pub restored-whole : (s : List ℕ) (n parent low b : ℕ) → planChannels s ≤ b → low ≡ lowOf (lineOf s) n → restoredOver low parent (triplesTo s n b) ≡ restored (lineOf s) n parent
+pub restored-is : (l : Line) (n parent low : ℕ) → low ≡ lowOf l n → restoredOver low parent (childTriples l n) ≡ restored l n parent
 unfolding restored
-restored-whole s n parent low b h e = rw e (ap (restoredOver (lowOf (lineOf s) n) parent) (child-whole s n b h))
+restored-is l n parent low e = ap (λ (k : ℕ). restoredOver k parent (childTriples l n)) e

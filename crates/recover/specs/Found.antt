@@ -136,12 +136,16 @@ raisedAt rows parent time q = cond (eqb parent q) (max (getD rows q 0) time) (ge
 abbrev pub raisedBy : List ℕ → (ℕ → ℕ) → ℕ → ℕ
 raisedBy rows f q = max (getD rows q 0) (f q)
 
--- Whether a target's parent has its time above its last one, and the times when it is the last.
-abbrev pub follows : List ℕ → Target → Bool
-follows last t = ltb (t .parent) rowsLong && ltb (getD last (t .parent) 0) (t .parentTime)
+-- Whether a time is above what stands for a parent, if it has a row.
+abbrev pub isAbove : List ℕ → ℕ → ℕ → Bool
+isAbove rows parent time = ltb parent rowsLong && ltb (getD rows parent 0) time
 
-abbrev pub noted : List ℕ → Target → List ℕ
-noted last t = set last (t .parent) (t .parentTime)
+-- ---- what some triples tell
+
+-- Those above low, added to the targets, and those up to low, in their parents' rows.
+pub record Told (low : ℕ) (ts : List Target) (xs : List ℕ) (count : ℕ) (rows ys : List ℕ) (r : ℕ) (next : List ℕ) : Type 0 where
+  pub changed : Changed (addAbove low ts) xs count ys r
+  pub raised : Rows next (raisedBy rows (λ q. restoredOver low q ts))
 
 -- ---- rows
 

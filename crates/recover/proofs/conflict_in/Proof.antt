@@ -6,31 +6,32 @@ use Rattle.recover.proofs.conflict_in.Statement.{statement}
 use Rattle.recover.proofs.conflict_in.Tie as tie
 
 abbrev Inv-loop : tie.InvT-loop
-Inv-loop xs count found₀ i₀ found i = Conflicting xs count found i
+Inv-loop xs count rows found₀ i₀ found i = Conflicting xs count found i
 
 abbrev μ-loop : tie.MeasureT-loop
-μ-loop xs count found₀ i₀ found i = count - i
+μ-loop xs count rows found₀ i₀ found i = count - i
 
 returns : tie.Need-returns Inv-loop μ-loop
-returns c = sym (c .before .rising .ensures (c .if1 .taken))
+returns c = let e = c .before .rising .ensures in (sym (e .0 (c .if1 .taken)), e .1)
 
 loop-holds : tie.Need-loop-holds Inv-loop μ-loop
 loop-holds c = record { within = omega arith; now = refl }
 
 clashes-requires : tie.Need-clashes-requires Inv-loop μ-loop
-clashes-requires c κs = let p = c .before .before .before .before .before .pre in (p .0, p .1, omega arith)
+clashes-requires c κs = let p = c .before .before .before .before .before .before .pre in (p .0, p .1, omega arith)
 
 loop-again : tie.Need-loop-again Inv-loop μ-loop
 loop-again c =
     let t = c .before .before .loop in
-    let a = c .before .before .before .before .before .before .args in
+    let a = c .before .before .before .before .before .before .before .args in
     conflicting-turn (a .xs .now) (a .count) (t .found) (t .i) (c .clashes .result) (omega arith) (c .clashes .ensures) (t .inv)
 
 returns-2 : tie.Need-returns-2 Inv-loop μ-loop
 returns-2 c =
     let t = c .before .loop in
-    let a = c .before .before .before .before .before .args in
-    conflicting-end (a .xs .now) (a .count) (t .found) (t .i) (omega arith) (t .inv)
+    let rose = c .before .before .before in
+    let a = rose .before .before .before .args in
+    (conflicting-end (a .xs .now) (a .count) (t .found) (t .i) (omega arith) (t .inv), rose .rising .ensures .1)
 
 pub conflict-in-spec : {M : Type 1} → statement M
 conflict-in-spec =
@@ -38,7 +39,7 @@ conflict-in-spec =
     (tie.spec
     Inv-loop
     μ-loop
-    (λ c κs. c .before .pre)
+    (λ c κs. c .before .before .pre)
     returns
     loop-holds
     clashes-requires

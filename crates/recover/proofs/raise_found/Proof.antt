@@ -3,7 +3,7 @@ use Rattle.recover.proofs.raise_found.Statement.{statement}
 use Rattle.recover.proofs.raise_found.Tie as tie
 
 returns : tie.Need-returns
-returns c = let a = c .before .before .before .before .before .args in found-raised (a .rows .now) (a .low) (a .f) (c .raise .last .0) (c .before .before .if1 .taken) (c .raise .ensures)
+returns c = let a = c .before .before .before .before .before .args in found-raised (a .rows .now) (a .low) (a .f) (c .raise .last .0) (c .before .before .if1 .taken) (c .raise .ensures .1)
 
 returns-2 : tie.Need-returns-2
 returns-2 c =

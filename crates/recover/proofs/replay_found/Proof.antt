@@ -9,30 +9,38 @@ use Rattle.state.specs.Sizes.{pageAt, timeAt}
 use Rattle.state.specs.Right.{wordAt}
 use Rattle.state.specs.State.{lineOf}
 use Rattle.state.proofs.OffsetLaws.{line-time}
-use Rattle.recover.proofs.ChildLaws.{ready-counted}
+use Rattle.buffer.proofs.ReadyLaws.{counted}
+use Rattle.recover.specs.Found.{targetsIn}
+use Rattle.recover.proofs.RestoredLaws.{rows-none}
 use Rattle.recover.proofs.replay_found.Statement.{statement}
 use Rattle.recover.proofs.replay_found.Tie as tie
 
+conflict-in-requires : tie.Need-conflict-in-requires
+conflict-in-requires c κs = let p = c .before .before .before .pre in (p .3, p .4, rows-none)
+
 rows-restored-requires : tie.Need-rows-restored-requires
-rows-restored-requires c κs = let p = c .before .before .before .pre in (p .0, p .1, p .2, p .3, p .5, p .6)
+rows-restored-requires c κs = let p = c .before .before .before .before .before .pre in (p .0, c .before .conflict-in .ensures .1 .long, p .5)
 
 same-targets-requires : tie.Need-same-targets-requires
-same-targets-requires c κs = let p = c .before .before .before .before .pre in (p .0, p .2, p .4, p .5, p .6)
+same-targets-requires c κs = let p = c .before .before .before .before .before .before .pre in (p .0, p .1, p .2, p .3, p .4)
 
 returns : tie.Need-returns
 returns c =
-    let first = c .before .before .before .before .before .before in
+    let judged = c .before .before .before .before in
+    let first = judged .before .before .before .before in
     let a = first .args in
     let s = a .s .now in
+    let clash = judged .conflict-in .ensures in
+    let done = c .before .before .rows-restored .ensures (targetsIn (a .xs .now) (a .count)) (clash .1) in
     let place : 4100 + 4096 * a .n ≡ pageAt (a .n) + timeAt = omega arith in
-    let time : c .get32 .result ≡ nodeAt (lineOf s) (a .n) .time = c .get32 .ensures ∙ ap (λ (x : ℕ). wordAt x s) place ∙ sym (line-time s (ready-counted (first .pre .0)) (a .n) (first .pre .2)) in
-    λ j. not (c .before .before .before .conflict-in .ensures j) && not (c .before .before .rows-restored .ensures j) && eqb (time j) (a .low) && c .before .same-targets .ensures j
+    let time : c .get32 .result ≡ nodeAt (lineOf s) (a .n) .time = c .get32 .ensures ∙ ap (λ (x : ℕ). wordAt x s) place ∙ sym (line-time s (counted (first .pre .0)) (a .n) (first .pre .1)) in
+    λ j. not (clash .0 j) && not (done j) && eqb (time j) (a .low) && c .before .same-targets .ensures j
 
 pub replay-found-spec : {M : Type 1} → statement M
 replay-found-spec =
     tie.close
     (tie.spec
-    (λ c κs. let p = c .before .before .pre in (p .5, p .6))
+    conflict-in-requires
     rows-restored-requires
     same-targets-requires
     (λ c. search needs)

@@ -1,0 +1,62 @@
+-- What the children tell of a node, entry by entry and channel by channel.
+use Prim.Native.Nat.{ℕ, _+_, _≤_, _<_}
+use mathlib.Core.Path.{_≡_, refl, sym, ap, subst, _∙_}
+use mathlib.Core.List.{List, [], _++_}
+use native.Mathlib.Omega.{arith}
+use lib.ListN.{length, getD, take}
+use Rattle.plan.specs.Plan.{planChannels}
+use Rattle.rules.specs.Line.{Entry, Target}
+use Rattle.rules.specs.Recover.{lowOf, triples, restored, targetsOf}
+use Rattle.state.specs.State.{lineOf}
+use Rattle.recover.specs.declared.Triple.{Triple}
+use Rattle.recover.specs.Found.{noEntry, tripleOf, tripleList, triplesOn, slotsLong, Kept, Changed, addAbove, restoredOver, Found, rowsLong, Rows, raisedBy, Told}
+use Rattle.recover.proofs.TripleLaws.{triples-turn, triples-whole, triplesTo, child-turn, child-whole}
+use Rattle.recover.proofs.FoundLaws.{no-change, changed-more, found-whole}
+use Rattle.recover.proofs.RestoredLaws.{raised-nothing, raised-more, restored-whole}
+
+pub told-nothing : (low : ℕ) (xs : List ℕ) (count : ℕ) (rows : List ℕ) → Kept xs count → length rows ≡ rowsLong → Told low [] xs count rows xs count rows
+told-nothing low xs count rows k long = record { changed = no-change xs count k; raised = raised-nothing low rows long }
+
+pub told-over : (low : ℕ) {us vs : List Target} {xs : List ℕ} {count : ℕ} {rows ys : List ℕ} {r : ℕ} {next : List ℕ} → us ≡ vs → Told low us xs count rows ys r next → Told low vs xs count rows ys r next
+told-over low {xs = xs} {count} {rows} {ys} {r} {next} e t = subst (λ (ts : List Target). Told low ts xs count rows ys r next) e t
+
+told-more : (low : ℕ) (us vs : List Target) {xs : List ℕ} {count : ℕ} {rows ys : List ℕ} {d : ℕ} {mid zs : List ℕ} {r : ℕ} {next : List ℕ} → Told low us xs count rows ys d mid → Told low vs ys d mid zs r next
+    → Told low (us ++ vs) xs count rows zs r next
+told-more low us vs {rows = rows} a b = record { changed = changed-more low us vs (a .changed) (b .changed); raised = raised-more low us vs rows (a .raised) (b .raised) }
+
+-- ---- entry by entry
+
+module _ (n low : ℕ) (log : List Entry) (xs : List ℕ) (start : ℕ) (rows : List ℕ) where
+  pub record LogTold (i : ℕ) (ys : List ℕ) (count : ℕ) (now : List ℕ) : Type 0 where
+    pub within : i ≤ length log
+    pub told : Told low (triples n (take i log)) xs start rows ys count now
+
+  pub log-turn : (i : ℕ) (ys : List ℕ) (count : ℕ) (now : List ℕ) (f : Triple) (zs : List ℕ) (r : ℕ) (next : List ℕ) → i < length log → tripleList f ≡ tripleOf n (getD log i noEntry)
+      → Changed (addAbove low (tripleList f)) ys count zs r → Rows next (raisedBy now (λ q. restoredOver low q (tripleList f))) → LogTold i ys count now → LogTold (i + 1) zs r next
+  log-turn i ys count now f zs r next h e a b k =
+      let before : List Target = triples n (take i log) in
+      let more : before ++ tripleList f ≡ triples n (take (i + 1) log) = ap (λ (ts : List Target). before ++ ts) e ∙ sym (triples-turn n log i h) in
+      record { within = omega arith; told = told-over low more (told-more low before (tripleList f) (k .told) (record { changed = a; raised = b })) }
+
+  pub log-end : (i : ℕ) (ys : List ℕ) (count : ℕ) (now : List ℕ) → length log ≤ i → LogTold i ys count now → Told low (triples n log) xs start rows ys count now
+  log-end i ys count now h k = told-over low (triples-whole n log i h) (k .told)
+
+-- ---- channel by channel
+
+module _ (s : List ℕ) (n low : ℕ) (xs rows : List ℕ) where
+  pub record ChannelsTold (b : ℕ) (ys : List ℕ) (count : ℕ) (now : List ℕ) : Type 0 where
+    pub within : b ≤ planChannels s
+    pub told : Told low (triplesTo s n b) xs 0 rows ys count now
+
+  pub channels-start : length xs ≡ slotsLong → length rows ≡ rowsLong → ChannelsTold 0 xs 0 rows
+  channels-start e long = record { within = omega arith; told = told-nothing low xs 0 rows (record { long = e; few = omega arith; ordered = λ h. refl }) long }
+
+  pub channels-turn : (b : ℕ) (ys : List ℕ) (count : ℕ) (now zs : List ℕ) (r : ℕ) (next : List ℕ) → b < planChannels s → Told low (triplesOn s n b) ys count now zs r next → ChannelsTold b ys count now
+      → ChannelsTold (b + 1) zs r next
+  channels-turn b ys count now zs r next h t k = record { within = omega arith; told = told-over low (sym (child-turn s n b h)) (told-more low (triplesTo s n b) (triplesOn s n b) (k .told) t) }
+
+  pub channels-end : (b : ℕ) (ys : List ℕ) (count : ℕ) (now : List ℕ) → planChannels s ≤ b → low ≡ lowOf (lineOf s) n → Rows rows (λ q. 0) → ChannelsTold b ys count now
+      → Found ys count (targetsOf (lineOf s) n) × Rows now (restored (lineOf s) n)
+  channels-end b ys count now h e none k =
+      let all = told-over low (child-whole s n b h) (k .told) in
+      (found-whole (lineOf s) n low e (all .changed), restored-whole (lineOf s) n low e none (all .raised))
