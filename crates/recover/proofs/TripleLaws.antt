@@ -3,7 +3,6 @@ use Prim.Native.Nat.{ℕ, zero, suc, _+_, _*_, _-_, _≤_, _<_, max}
 use mathlib.Core.Path.{_≡_, refl, sym, ap, ap₂, _∙_}
 use mathlib.Core.Bool.{Bool, true, false, not, cond, _&&_, and-false}
 use mathlib.Core.List.{List, [], _∷_, _++_, map, append-assoc}
-use native.Mathlib.Nat.{add-zero}
 use native.Mathlib.Numerals.{add-one}
 use native.Mathlib.Omega.{arith}
 use borrow.Author.Tests.{eq-eqb, ne-eqb}
@@ -23,21 +22,17 @@ use Rattle.state.specs.Sizes.{countSize, entrySize, pageAt, logAt}
 use Rattle.state.specs.Pieces.{originFrom, originLayout, entryLayout}
 use Rattle.state.specs.Right.{wordAt}
 use Rattle.state.specs.State.{lineOf}
-use Rattle.state.proofs.ReadLaws.{part-part, byte-part, origin-read, entry-read}
+use Rattle.state.proofs.ReadLaws.{part-part, entry-read}
 use Rattle.state.proofs.InPlace.{line-plan}
 use Rattle.state.proofs.OffsetLaws.{line-log-count, line-log-at}
 use Rattle.recover.specs.declared.Triple.{Triple}
 use Rattle.buffer.specs.Ready.{Ready}
 use Rattle.buffer.proofs.ReadyLaws.{counted}
 use Rattle.recover.specs.Found.{LogsCounted, entryAt, noEntry, tripleOf, tripleList, childLog, triplesOn, restoredOver}
+use Rattle.buffer.proofs.PieceReads.{origin-in}
 use Rattle.recover.proofs.ChildLaws.{leavingTo, numbers-turn, leaving-whole, greatest-append}
 
 -- ---- an entry's bytes
-
-pub origin-at : (a : ℕ) (s : List ℕ) → originLayout .read (take 5 (drop a s)) ≡ originFrom (getD s a 0) (wordAt (a + 1) s)
-origin-at a s =
-    origin-read (take 5 (drop a s))
-    ∙ ap₂ originFrom (byte-part 0 5 a s (omega arith) ∙ ap (λ (i : ℕ). getD s i 0) (add-zero a)) (ap (spelled 0) (part-part 4 1 5 a s (lit≤ tt)))
 
 module _ (s : List ℕ) (ready : Ready s) (logs : LogsCounted s) (k : ℕ) (inside : k < planNodes s) where
   pub log-length : length (nodeAt (lineOf s) k .log) ≡ wordAt (pageAt k + logAt) s
@@ -51,10 +46,10 @@ module _ (s : List ℕ) (ready : Ready s) (logs : LogsCounted s) (k : ℕ) (insi
     entry-bytes = line-log-at s (counted ready) k inside i noEntry (omega (arith, log-length)) (omega (arith, log-length, logs k inside))
 
     pub entry-origin : entryAt (lineOf s) k i .origin ≡ originFrom (getD s (at + 12) 0) (wordAt (at + 12 + 1) s)
-    entry-origin = ap (λ (e : Entry). e .origin) (entry-bytes ∙ entry-read (take entrySize (drop at s))) ∙ ap (originLayout .read) (part-part 5 12 entrySize at s (lit≤ tt)) ∙ origin-at (at + 12) s
+    entry-origin = ap (λ (e : Entry). e .origin) (entry-bytes ∙ entry-read (take entrySize (drop at s))) ∙ ap (originLayout .read) (part-part 5 12 entrySize at s (lit≤ tt)) ∙ origin-in (at + 12) s
 
     pub entry-before : entryAt (lineOf s) k i .before ≡ originFrom (getD s (at + 17) 0) (wordAt (at + 17 + 1) s)
-    entry-before = ap (λ (e : Entry). e .before) (entry-bytes ∙ entry-read (take entrySize (drop at s))) ∙ ap (originLayout .read) (part-part 5 17 entrySize at s (lit≤ tt)) ∙ origin-at (at + 17) s
+    entry-before = ap (λ (e : Entry). e .before) (entry-bytes ∙ entry-read (take entrySize (drop at s))) ∙ ap (originLayout .read) (part-part 5 17 entrySize at s (lit≤ tt)) ∙ origin-in (at + 17) s
 
 -- ---- a triple
 
