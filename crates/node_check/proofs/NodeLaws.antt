@@ -193,8 +193,8 @@ targetPass s n a k = slotsPass targetIn targetSize s targetExact (targetPasses (
 
 module _ (s table : List ℕ) (steps n at : ℕ) (page : PageOf s table steps n at) where
   -- One target more.
-  pub target-more : (ok one : Bool) (a k : ℕ) → one ≡ (targetExact a s && targetRight (lineOf s) n (targetIn a s)) → (ok && targetPass s n a (suc k)) ≡ ((ok && one) && targetPass s n (a + targetSize) k)
-  target-more ok one a k g = pass-more targetIn targetSize s targetExact (targetPasses (lineOf s) n) (targetNext (lineOf s) n) ok 0 a k ∙ rw g refl
+  pub target-more : (one : Bool) (a k : ℕ) → one ≡ (targetExact a s && targetRight (lineOf s) n (targetIn a s)) → targetPass s n a (suc k) ≡ (one && targetPass s n (a + targetSize) k)
+  target-more one a k g = pass-more targetIn targetSize s targetExact (targetPasses (lineOf s) n) (targetNext (lineOf s) n) true 0 a k ∙ rw g refl
 
   module _ (count : ℕ) (is : count ≡ wordAt (pageAt n + targetsAt) s) (small : count ≤ targetLimit) where
     target-slots : nodeAt (lineOf s) n .targets ≡ slotsIn targetIn targetSize (pageAt n + targetsAt + countSize) count s

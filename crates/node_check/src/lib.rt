@@ -207,15 +207,16 @@ fn target_each_ok(s: &[u8], t: &[u8; 156], steps: u32, n: usize, at: usize, coun
     requires { ⌜ PageOf (now s) (now t) steps n at × (count ≡ wordAt (pageAt n + targetsAt) (now s)) × (count ≤ targetLimit) ⌝ }
     ensures { λ r. ⌜ r ≡ (slotsExact targetExact targetSize (pageAt n + targetsAt + countSize) count (now (s .entry)) && allOf (targetRight (lineOf (now (s .entry))) n) (nodeAt (lineOf (now (s .entry))) n .targets)) ⌝ }
 {
-    let mut ok = true;
     let mut slot = at + 2836;
     let mut left = count;
     while 0 < left {
-        ok = ok & target_ok(s, t, steps, n, slot);
+        if !target_ok(s, t, steps, n, slot) {
+            return false;
+        }
         slot += 12;
         left -= 1;
     }
-    ok
+    true
 }
 
 // The list of targets: its count, the targets, and zero bytes behind them.

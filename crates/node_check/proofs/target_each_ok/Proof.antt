@@ -1,7 +1,8 @@
 use Prim.Native.Nat.{ℕ, suc, _+_, _-_}
 use mathlib.Core.Path.{_≡_, refl, sym, ap, _∙_}
-use mathlib.Core.Bool.{_&&_, and-true}
+use mathlib.Core.Bool.{Bool, _&&_}
 use native.Mathlib.Omega.{arith}
+use borrow.Author.Tests.{not-true, not-false}
 use lib.ListN.{length}
 use Rattle.state.specs.Sizes.{pageAt, targetsAt, countSize, targetSize}
 use Rattle.node_check.proofs.NodeLaws.{Going, page-room, targetPass, target-more, target-whole}
@@ -9,11 +10,11 @@ use Rattle.node_check.proofs.target_each_ok.Statement.{statement}
 use Rattle.node_check.proofs.target_each_ok.Tie as tie
 
 abbrev Inv-loop : tie.InvT-loop
-Inv-loop s t steps n at count ok₀ slot₀ left₀ ok slot left =
-    Going (length s) targetSize (pageAt n + targetsAt + countSize) slot count left (targetPass s n (pageAt n + targetsAt + countSize) count) (ok && targetPass s n slot left)
+Inv-loop s t steps n at count slot₀ left₀ slot left =
+    Going (length s) targetSize (pageAt n + targetsAt + countSize) slot count left (targetPass s n (pageAt n + targetsAt + countSize) count) (targetPass s n slot left)
 
 abbrev μ-loop : tie.MeasureT-loop
-μ-loop s t steps n at count ok₀ slot₀ left₀ ok slot left = left
+μ-loop s t steps n at count slot₀ left₀ slot left = left
 
 add-slot : tie.Need-add-slot Inv-loop μ-loop
 add-slot c = omega (arith, page-room (c .before .pre .0))
@@ -28,31 +29,46 @@ loop-holds c =
 target-ok-requires : tie.Need-target-ok-requires Inv-loop μ-loop
 target-ok-requires c κs = let v = c .before .loop .inv in (c .before .before .before .pre .0 .counted, omega (arith, v .there, v .fits, v .within))
 
-loop-again : tie.Need-loop-again Inv-loop μ-loop
-loop-again c =
-    let t = c .before .before .loop in
-    let start = c .before .before .before .before in
-    let a = start .args in
-    let more : suc (t .left - 1) ≡ t .left = omega arith in
-    record {
-      within = omega (arith, t .inv .within);
-      there = omega (arith, t .inv .there);
-      fits = t .inv .fits;
-      same =
-          t .inv .same
-          ∙ ap (λ (k : ℕ). t .ok && targetPass (a .s .now) (a .n) (t .slot) k) (sym more)
-          ∙ target-more (a .s .now) (a .t .now) (a .steps) (a .n) (a .at) (start .pre .0) (t .ok) (c .target-ok .result) (t .slot) (t .left - 1) (c .target-ok .ensures);
-    }
-
 returns : tie.Need-returns Inv-loop μ-loop
 returns c =
+    let one = c .before in
+    let v = one .before .before .loop in
+    let start = one .before .before .before .before in
+    let a = start .args in
+    let more : suc (v .left - 1) ≡ v .left = omega arith in
+    sym
+    (sym (target-whole (a .s .now) (a .t .now) (a .steps) (a .n) (a .at) (start .pre .0) (a .count) (start .pre .1) (start .pre .2))
+    ∙ v .inv .same
+    ∙ ap (λ (k : ℕ). targetPass (a .s .now) (a .n) (v .slot) k) (sym more)
+    ∙ target-more (a .s .now) (a .t .now) (a .steps) (a .n) (a .at) (start .pre .0) (one .target-ok .result) (v .slot) (v .left - 1) (one .target-ok .ensures)
+    ∙ ap (λ (t : Bool). t && targetPass (a .s .now) (a .n) (v .slot + targetSize) (v .left - 1)) (not-true (one .target-ok .result) (c .if1 .taken)))
+
+loop-again : tie.Need-loop-again Inv-loop μ-loop
+loop-again c =
+    let one = c .before in
+    let v = one .before .before .loop in
+    let start = one .before .before .before .before in
+    let a = start .args in
+    let more : suc (v .left - 1) ≡ v .left = omega arith in
+    record {
+      within = omega (arith, v .inv .within);
+      there = omega (arith, v .inv .there);
+      fits = v .inv .fits;
+      same =
+          v .inv .same
+          ∙ ap (λ (k : ℕ). targetPass (a .s .now) (a .n) (v .slot) k) (sym more)
+          ∙ target-more (a .s .now) (a .t .now) (a .steps) (a .n) (a .at) (start .pre .0) (one .target-ok .result) (v .slot) (v .left - 1) (one .target-ok .ensures)
+          ∙ ap (λ (t : Bool). t && targetPass (a .s .now) (a .n) (v .slot + targetSize) (v .left - 1)) (not-false (one .target-ok .result) (c .if1 .left));
+    }
+
+returns-2 : tie.Need-returns-2 Inv-loop μ-loop
+returns-2 c =
     let start = c .before .before .before in
     let a = start .args in
-    let t = c .before .loop in
-    let none : t .left ≡ 0 = omega arith in
-    sym (and-true (t .ok))
-    ∙ ap (λ (k : ℕ). t .ok && targetPass (a .s .now) (a .n) (t .slot) k) (sym none)
-    ∙ sym (t .inv .same)
+    let v = c .before .loop in
+    let none : v .left ≡ 0 = omega arith in
+    ap (λ (k : ℕ). targetPass (a .s .now) (a .n) (v .slot) k) (sym none)
+    ∙ sym (v .inv .same)
     ∙ target-whole (a .s .now) (a .t .now) (a .steps) (a .n) (a .at) (start .pre .0) (a .count) (start .pre .1) (start .pre .2)
 
 pub target-each-ok-spec : {M : Type 1} → statement M
@@ -64,8 +80,9 @@ target-each-ok-spec =
     add-slot
     loop-holds
     target-ok-requires
+    returns
     (λ c. omega arith)
     (λ c. omega arith)
     (λ c. omega arith)
     loop-again
-    returns)
+    returns-2)
