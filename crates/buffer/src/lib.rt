@@ -4,10 +4,8 @@ pub mod look;
 pub mod origin;
 pub mod table;
 
-// The line's own limits (document 01, "The limits belong to the line itself").
-pub struct Line {
-    pub steps: u32,
-}
+// The line as a type, which has its own limits (document 01, "The limits belong to the line itself"). A line's values lie in its buffer.
+pub struct Line {}
 
 impl Line {
     // "a lent buffer of 61,440 bytes"
