@@ -2,19 +2,17 @@
 use Prim.Native.Nat.{ℕ, _≤_, _<_, max}
 use mathlib.Core.Path.{_≡_, refl, sym, ap, _∙_}
 use mathlib.Core.Bool.{Bool, true, false, cond, _&&_, and-true, and-false}
-use mathlib.Core.List.{List, [], _++_}
+use mathlib.Core.List.{List, [], _∷_, _++_}
 use native.Mathlib.Omega.{arith}
-use borrow.Author.Tests.{eqb-true, eqb-false}
-use lib.Dec.{leb, eqb}
+use borrow.Author.Tests.{eqb-true, eqb-false, le-leb, lt-leb}
+use lib.Dec.{eqb}
 use lib.ListN.{length, getD, set, replicate, length-set}
 use lib.Seq.{getD-set-same, getD-set-other}
-use Rattle.basics.specs.Bools.{both-true}
 use Rattle.rules.specs.Line.{Target, Line}
 use Rattle.rules.specs.Recover.{lowOf, childTriples, restored}
 use Rattle.basics.specs.Replicate.{replicate-default}
-use Rattle.recover.specs.declared.Triple.{Triple}
-use Rattle.recover.specs.Found.{tripleList, restoredOver, rowsLong, Rows, raisedAt, raisedBy}
-use Rattle.recover.proofs.TripleLaws.{restored-append, restored-found, restored-is}
+use Rattle.recover.specs.Found.{restoredOver, rowsLong, Rows, raisedAt, raisedBy}
+use Rattle.recover.proofs.TripleLaws.{restored-append, restored-one, restored-is}
 
 -- ---- rows
 
@@ -22,6 +20,9 @@ pub rows-none : Rows (replicate rowsLong 0) (λ q. 0)
 rows-none = record { long = refl; each = λ q h. replicate-default rowsLong q 0 }
 
 module _ (rows : List ℕ) (long : length rows ≡ rowsLong) where
+  abbrev chosen : Target → ℕ → Bool → ℕ
+  chosen t q b = cond b (max (getD rows q 0) (t .parentTime)) (getD rows q 0)
+
   -- A parent's row raised to a time, and one left as it is: the time is not above it, or the parent has none.
   pub raised-here : (parent time : ℕ) → parent < rowsLong → getD rows parent 0 < time → Rows (set rows parent time) (raisedAt rows parent time)
   raised-here parent time h less = record { long = length-set rows parent time ∙ long; each = λ q l. one q (eqb parent q) refl }
@@ -42,26 +43,12 @@ module _ (rows : List ℕ) (long : length rows ≡ rowsLong) where
           omega (arith, h (omega arith), ap (λ (k : ℕ). getD rows k 0) same)
       one q l false w = refl
 
-  -- An entry's triple is up to low, or there is nothing to raise.
-  pub found-none : (low : ℕ) (f : Triple) → (f .is && leb (f .time) low) ≡ false → Rows rows (raisedBy rows (λ q. restoredOver low q (tripleList f)))
-  found-none low f e =
-      record { long = long; each = λ q h. ap (λ (t : Bool). cond t (max (getD rows q 0) (f .sent)) (getD rows q 0)) (sym (one (f .is) (eqb (f .parent) q) (leb (f .time) low) e)) ∙ restored-found low q (getD rows q 0) f }
-    where
-      one : (a b c : Bool) → (a && c) ≡ false → (a && b && c) ≡ false
-      one true b c w = ap (λ (t : Bool). b && t) w ∙ and-false b
-      one false b c w = refl
+  -- One triple, up to low or not.
+  pub raised-one : (low : ℕ) (t : Target) (next : List ℕ) → t .time ≤ low → Rows next (raisedAt rows (t .parent) (t .parentTime)) → Rows next (raisedBy rows (λ q. restoredOver low q (t ∷ [])))
+  raised-one low t next h r = record { long = r .long; each = λ q l. r .each q l ∙ ap (chosen t q) (sym (ap (λ (b : Bool). eqb (t .parent) q && b) (le-leb (t .time) low h) ∙ and-true (eqb (t .parent) q))) ∙ restored-one low q (getD rows q 0) t }
 
-pub found-raised : (rows : List ℕ) (low : ℕ) (f : Triple) (next : List ℕ) → (f .is && leb (f .time) low) ≡ true → Rows next (raisedAt rows (f .parent) (f .sent))
-    → Rows next (raisedBy rows (λ q. restoredOver low q (tripleList f)))
-found-raised rows low f next e r =
-    let b = both-true (f .is) (leb (f .time) low) e in
-    record {
-      long = r .long;
-      each = λ q h.
-          r .each q h
-          ∙ ap (λ (t : Bool). cond t (max (getD rows q 0) (f .sent)) (getD rows q 0)) (sym (and-true (eqb (f .parent) q)) ∙ (λ j. sym (b .0) j && eqb (f .parent) q && sym (b .1) j))
-          ∙ restored-found low q (getD rows q 0) f;
-    }
+  pub raised-none : (low : ℕ) (t : Target) → low < t .time → Rows rows (raisedBy rows (λ q. restoredOver low q (t ∷ [])))
+  raised-none low t h = record { long = long; each = λ q l. ap (chosen t q) (sym (ap (λ (b : Bool). eqb (t .parent) q && b) (lt-leb (t .time) low h) ∙ and-false (eqb (t .parent) q))) ∙ restored-one low q (getD rows q 0) t }
 
 -- No triples in their rows, and some and then others.
 pub raised-nothing : (low : ℕ) (rows : List ℕ) → length rows ≡ rowsLong → Rows rows (raisedBy rows (λ q. restoredOver low q []))

@@ -1,18 +1,19 @@
 -- What the children tell of a node, entry by entry and channel by channel.
 use Prim.Native.Nat.{ℕ, _+_, _≤_, _<_}
 use mathlib.Core.Path.{_≡_, refl, sym, ap, subst, _∙_}
-use mathlib.Core.List.{List, [], _++_}
+use mathlib.Core.Bool.{Bool, cond}
+use mathlib.Core.List.{List, [], _∷_, _++_}
 use native.Mathlib.Omega.{arith}
 use lib.ListN.{length, getD, take}
 use Rattle.plan.specs.Plan.{planChannels}
 use Rattle.rules.specs.Line.{Entry, Target}
-use Rattle.rules.specs.Recover.{lowOf, triples, restored, targetsOf}
+use Rattle.rules.specs.Recover.{lowOf, triples, restored, addTarget, targetsOf}
 use Rattle.state.specs.State.{lineOf}
 use Rattle.recover.specs.declared.Triple.{Triple}
-use Rattle.recover.specs.Found.{noEntry, tripleOf, tripleList, triplesOn, slotsLong, Kept, Changed, addAbove, restoredOver, Found, rowsLong, Rows, raisedBy, Told}
+use Rattle.recover.specs.Found.{noEntry, tripleOf, tripleList, triplesOn, target, slotsLong, Kept, Changed, addAbove, Found, rowsLong, Rows, raisedAt, Told}
 use Rattle.recover.proofs.TripleLaws.{triples-turn, triples-whole, triplesTo, child-turn, child-whole}
-use Rattle.recover.proofs.FoundLaws.{no-change, changed-more, found-whole}
-use Rattle.recover.proofs.RestoredLaws.{raised-nothing, raised-more, restored-whole}
+use Rattle.recover.proofs.FoundLaws.{no-change, changed-as, above-one, above-none, changed-more, found-whole}
+use Rattle.recover.proofs.RestoredLaws.{raised-one, raised-none, raised-nothing, raised-more, restored-whole}
 
 pub told-nothing : (low : ℕ) (xs : List ℕ) (count : ℕ) (rows : List ℕ) → Kept xs count → length rows ≡ rowsLong → Told low [] xs count rows xs count rows
 told-nothing low xs count rows k long = record { changed = no-change xs count k; raised = raised-nothing low rows long }
@@ -26,17 +27,28 @@ told-more low us vs {rows = rows} a b = record { changed = changed-more low us v
 
 -- ---- entry by entry
 
+-- What an entry says: a triple up to low, one above low, or nothing.
+pub triple-is : (f : Triple) (is : Bool) → f .is ≡ is → cond is (target (f .time) (f .parent) (f .sent) ∷ []) [] ≡ tripleList f
+triple-is f is e = ap (λ (b : Bool). cond b (target (f .time) (f .parent) (f .sent) ∷ []) []) (sym e)
+
+module _ (low : ℕ) (t : Target) (xs : List ℕ) (count : ℕ) (rows : List ℕ) (long : length rows ≡ rowsLong) where
+  pub told-raised : (next : List ℕ) → t .time ≤ low → Kept xs count → Rows next (raisedAt rows (t .parent) (t .parentTime)) → Told low (t ∷ []) xs count rows xs count next
+  told-raised next h k r = record { changed = changed-as (λ ts. ts) (addAbove low (t ∷ [])) (above-none low t h) (no-change xs count k); raised = raised-one rows long low t next h r }
+
+  pub told-added : (ys : List ℕ) (r : ℕ) → low < t .time → Changed (addTarget t) xs count ys r → Told low (t ∷ []) xs count rows ys r rows
+  told-added ys r h a = record { changed = changed-as (addTarget t) (addAbove low (t ∷ [])) (above-one low t h) a; raised = raised-none rows long low t h }
+
 module _ (n low : ℕ) (log : List Entry) (xs : List ℕ) (start : ℕ) (rows : List ℕ) where
   pub record LogTold (i : ℕ) (ys : List ℕ) (count : ℕ) (now : List ℕ) : Type 0 where
     pub within : i ≤ length log
     pub told : Told low (triples n (take i log)) xs start rows ys count now
 
   pub log-turn : (i : ℕ) (ys : List ℕ) (count : ℕ) (now : List ℕ) (f : Triple) (zs : List ℕ) (r : ℕ) (next : List ℕ) → i < length log → tripleList f ≡ tripleOf n (getD log i noEntry)
-      → Changed (addAbove low (tripleList f)) ys count zs r → Rows next (raisedBy now (λ q. restoredOver low q (tripleList f))) → LogTold i ys count now → LogTold (i + 1) zs r next
-  log-turn i ys count now f zs r next h e a b k =
+      → Told low (tripleList f) ys count now zs r next → LogTold i ys count now → LogTold (i + 1) zs r next
+  log-turn i ys count now f zs r next h e t k =
       let before : List Target = triples n (take i log) in
       let more : before ++ tripleList f ≡ triples n (take (i + 1) log) = ap (λ (ts : List Target). before ++ ts) e ∙ sym (triples-turn n log i h) in
-      record { within = omega arith; told = told-over low more (told-more low before (tripleList f) (k .told) (record { changed = a; raised = b })) }
+      record { within = omega arith; told = told-over low more (told-more low before (tripleList f) (k .told) t) }
 
   pub log-end : (i : ℕ) (ys : List ℕ) (count : ℕ) (now : List ℕ) → length log ≤ i → LogTold i ys count now → Told low (triples n log) xs start rows ys count now
   log-end i ys count now h k = told-over low (triples-whole n log i h) (k .told)

@@ -25,10 +25,9 @@ use Rattle.state.specs.State.{lineOf}
 use Rattle.state.proofs.ReadLaws.{part-part, entry-read}
 use Rattle.state.proofs.InPlace.{line-plan}
 use Rattle.state.proofs.OffsetLaws.{line-log-count, line-log-at}
-use Rattle.recover.specs.declared.Triple.{Triple}
 use Rattle.buffer.specs.Ready.{Ready}
 use Rattle.buffer.proofs.ReadyLaws.{counted}
-use Rattle.recover.specs.Found.{LogsCounted, entryAt, noEntry, tripleOf, tripleList, childLog, triplesOn, restoredOver}
+use Rattle.recover.specs.Found.{LogsCounted, entryAt, noEntry, tripleOf, childLog, triplesOn, restoredOver}
 use Rattle.buffer.proofs.PieceReads.{origin-in}
 use Rattle.recover.proofs.ChildLaws.{leavingTo, numbers-turn, leaving-whole, greatest-append}
 
@@ -147,16 +146,11 @@ module _ (low parent : ℕ) where
       ∙ ap greatestOf (map-append (λ (t : Target). t .parentTime) (keep counts xs) (keep counts ys))
       ∙ greatest-append (map (λ (t : Target). t .parentTime) (keep counts xs)) (map (λ (t : Target). t .parentTime) (keep counts ys))
 
-  -- With one entry more.
-  pub restored-found : (best : ℕ) (f : Triple) → cond (f .is && eqb (f .parent) parent && leb (f .time) low) (max best (f .sent)) best ≡ max best (restoredOver low parent (tripleList f))
-  restored-found best f = one (f .is)
+  pub restored-one : (best : ℕ) (t : Target) → cond (counts t) (max best (t .parentTime)) best ≡ max best (restoredOver low parent (t ∷ []))
+  restored-one best t = one (counts t)
     where
-      two : (t : Bool) → cond t (max best (f .sent)) best ≡ max best (greatestOf (map (λ (t : Target). t .parentTime) (keepOne t (targetAt (f .time) (f .parent) (f .sent)) [])))
-      two true = omega arith
-      two false = omega arith
-
-      one : (is : Bool) → cond (is && eqb (f .parent) parent && leb (f .time) low) (max best (f .sent)) best ≡ max best (restoredOver low parent (cond is (targetAt (f .time) (f .parent) (f .sent) ∷ []) []))
-      one true = two (eqb (f .parent) parent && leb (f .time) low)
+      one : (c : Bool) → cond c (max best (t .parentTime)) best ≡ max best (greatestOf (map (λ (u : Target). u .parentTime) (keepOne c t [])))
+      one true = omega arith
       one false = omega arith
 
 pub restored-is : (l : Line) (n parent low : ℕ) → low ≡ lowOf l n → restoredOver low parent (childTriples l n) ≡ restored l n parent

@@ -29,23 +29,19 @@ triple-at-requires c κs =
     let e = c .before .before .log-count .ensures in
     (p .0, p .1, p .2, p .3, omega (arith, e .1), omega (arith, e .0))
 
-raise-found-requires : tie.Need-raise-found-requires Inv-loop μ-loop
-raise-found-requires c κs = c .before .before .before .loop .inv .told .raised .long
-
-add-found-requires : tie.Need-add-found-requires Inv-loop μ-loop
-add-found-requires c κs = c .before .before .before .before .before .loop .inv .told .changed .kept
+told-by-requires : tie.Need-told-by-requires Inv-loop μ-loop
+told-by-requires c κs = let told = c .before .before .before .before .loop .inv .told in (told .changed .kept, told .raised .long)
 
 loop-again : tie.Need-loop-again Inv-loop μ-loop
 loop-again c =
-    let added = c .before .before .add-found in
-    let raised = c .before .before .before .before .raise-found in
-    let read = c .before .before .before .before .before .before in
+    let said = c .before .before .told-by in
+    let read = c .before .before .before .before .before in
     let t = read .before .before .loop in
     let counted = read .before .before .before in
     let a = counted .before .before .before .args in
     let log = nodeAt (lineOf (a .s .now)) (a .k) .log in
     let h : t .i < length log = omega (arith, counted .log-count .ensures .0) in
-    log-turn (a .n) (a .low) log (a .xs .now) (a .start) (a .rows .now) (t .i) (t .xs) (t .count) (t .rows) (read .triple-at .result) (added .last .0) (added .result) (raised .last .0) h (read .triple-at .ensures) (added .ensures) (raised .ensures) (t .inv)
+    log-turn (a .n) (a .low) log (a .xs .now) (a .start) (a .rows .now) (t .i) (t .xs) (t .count) (t .rows) (read .triple-at .result) (said .last .1 .1 .0) (said .result) (said .last .1 .1 .1 .1 .0) h (read .triple-at .ensures) (said .ensures) (t .inv)
 
 returns : tie.Need-returns Inv-loop μ-loop
 returns c =
@@ -62,8 +58,7 @@ told-in-spec =
     log-count-requires
     loop-holds
     triple-at-requires
-    raise-found-requires
-    add-found-requires
+    told-by-requires
     (λ c. omega arith)
     (λ c. omega arith)
     loop-again
