@@ -1,5 +1,5 @@
 -- What stands in a slot, byte by byte.
-use Prim.Native.Nat.{ℕ, _+_, _-_, _≤_}
+use Prim.Native.Nat.{ℕ, _+_, _-_, _^_, _≤_, _<_}
 use mathlib.Core.Path.{_≡_, refl, sym, ap, _∙_}
 use mathlib.Core.Bool.{Bool, true, false, not, _&&_, and-true, and-false, and-assoc}
 use mathlib.Core.List.{List, [], _∷_}
@@ -12,8 +12,8 @@ use Rattle.plan.specs.Layout.{spelled}
 use Rattle.plan.specs.declared.Record.{Record}
 use Rattle.plan.specs.Record.{recordLayout}
 use Rattle.plan.specs.Plan.{planOf, planChannels, isNone, entering, leaving}
-use Rattle.plan.specs.Mask.{taking, planMask, TakingOf}
-use Rattle.plan.proofs.TakingLaws.{taking-none}
+use Rattle.plan.specs.Mask.{taking, someTakes, planMask}
+use Rattle.plan.proofs.TakingLaws.{taking-some}
 use Rattle.rules.specs.Lists.{isEmpty}
 use Rattle.rules.specs.Line.{Entry, Held, Line, made}
 use Rattle.rules.specs.Replay.{passedOn}
@@ -118,10 +118,10 @@ held-ordered n a s rises =
     ap (λ (x : Record). ((recordExact a s && originExact (a + 13) s && zeroAt (a + 18) 2 s) && ((recordRight x && originRight (lineOf s) n (made (heldIn a s .sender) (heldIn a s .time)) (heldIn a s .before) && passedOn (lineOf s .plan) n x) && rises))) (ap (λ (x : Held). x .what) (held-in a s))
     ∙ held-parts (recordExact a s) (originExact (a + 13) s) (zeroAt (a + 18) 2 s) (recordRight (recordIn a s)) (originRight (lineOf s) n (made (heldIn a s .sender) (heldIn a s .time)) (heldIn a s .before)) (passedOn (lineOf s .plan) n (recordIn a s)) rises
 
--- Whether some channel takes a record, by the mask of those that do.
-pub passed-mask : (s : List ℕ) (n : ℕ) (r : Record) (mask m : ℕ) → planChannels s ≤ 24 → mask ≡ planMask s (leaving (planOf s) n) → TakingOf s r mask m → not (eqb m 0) ≡ passedOn (planOf s) n r
+-- Whether some channel that leaves a node takes a record, by the mask of those that leave it.
+pub passed-mask : (s : List ℕ) (n : ℕ) (r : Record) (mask : ℕ) → mask < 2 ^ 32 → planChannels s ≤ 24 → mask ≡ planMask s (leaving (planOf s) n) → someTakes (planOf s) r mask ≡ passedOn (planOf s) n r
 unfolding passedOn
-passed-mask s n r mask m few e t = ap not (taking-none s n r mask m t e few ∙ one (taking (planOf s) n r))
+passed-mask s n r mask small few e = taking-some s n r mask e small few ∙ ap not (one (taking (planOf s) n r))
   where
     one : (bs : List ℕ) → isNone bs ≡ isEmpty bs
     one [] = refl

@@ -102,7 +102,7 @@ fn passed_on(s: &[u8], n: usize, mask: u32, at: usize) -> bool
     ensures { λ r. ⌜ r ≡ passedOn (planOf (now (s .entry))) n (recordIn at (now (s .entry))) ⌝ }
 {
     let what = record_at(s, at);
-    plan::taking_among(s, mask, what) != 0
+    plan::some_takes(s, mask, what)
 }
 
 // A held record's record and its two unused bytes.

@@ -128,7 +128,7 @@ unfolding channelsIn
 channels-mask mask h = ones-mask 0 32 mask h ∙ mul-one mask
 
 -- Rising lists of one mask are one list.
-pub mask-unique : (bs cs : List ℕ) → Rising 0 bs → Rising 0 cs → maskOf bs < 2 ^ 32 → maskOf bs ≡ maskOf cs → bs ≡ cs
+mask-unique : (bs cs : List ℕ) → Rising 0 bs → Rising 0 cs → maskOf bs < 2 ^ 32 → maskOf bs ≡ maskOf cs → bs ≡ cs
 mask-unique [] [] h k l e = refl
 mask-unique [] (c ∷ cs) h k l e = let no : ⊥ = omega (arith, pow-pos c) in absurd no
 mask-unique (b ∷ bs) [] h k l e = let no : ⊥ = omega (arith, pow-pos b) in absurd no
@@ -136,6 +136,12 @@ mask-unique (b ∷ bs) (c ∷ cs) h k l e =
     let same : b ≡ c = sym (mask-trailing (b ∷ bs) h l) ∙ ap (trailingZeros 32) e ∙ mask-trailing (c ∷ cs) k (rw e at l) in
     let rest : maskOf bs ≡ maskOf cs = omega (arith, ap (λ (x : ℕ). 2 ^ x) same) in
     rw (same, mask-unique bs cs (rising-lower 0 (suc b) bs (omega arith) (h .1)) (rising-lower 0 (suc c) cs (omega arith) (k .1)) (omega arith) rest)
+
+-- A mask's channels are the rising list whose mask it is.
+pub channels-listed : (mask : ℕ) → mask < 2 ^ 32 → (bs : List ℕ) → Rising 0 bs → mask ≡ maskOf bs → channelsIn mask ≡ bs
+channels-listed mask small bs h e =
+    let own : maskOf (channelsIn mask) ≡ mask = channels-mask mask small in
+    mask-unique (channelsIn mask) bs (channels-rise mask) h (rw own small) (own ∙ e)
 
 -- ---- a mask, channel by channel
 

@@ -2,10 +2,11 @@
 use Prim.Native.Nat.{ℕ, zero, suc, _+_, _-_, _^_, _≤_, _<_}
 use mathlib.Core.Path.{_≡_, refl, sym, ap, _∙_}
 use mathlib.Core.Logic.{⊎-elim}
-use mathlib.Core.Bool.{Bool, true, false, cond, _&&_}
+use mathlib.Core.Bool.{Bool, true, false, not, cond, _&&_}
 use mathlib.Core.List.{List, [], _∷_}
 use native.Mathlib.Nat.{add-zero, zero-add, add-suc, suc-add, lt-of-not-le}
 use native.Mathlib.Omega.{arith}
+use borrow.Author.Tests.{ne-eqb}
 use lib.Dec.{eqb}
 use lib.ListN.{length, getD}
 use lib.Pow.{pow-pos, pow-mono}
@@ -14,8 +15,8 @@ use Rattle.plan.specs.declared.Record.{Record}
 use Rattle.plan.specs.declared.Channel.{Channel}
 use Rattle.plan.specs.Channel.{takes}
 use Rattle.plan.specs.Plan.{Plan, planOf, planChannels, noChannel, keepIf, numbersFrom, isNone, leaving}
-use Rattle.plan.specs.Mask.{maskOf, Rising, channelsIn, among, taking, takesAt, planMask, FirstOf, TakingOf}
-use Rattle.plan.proofs.MaskLaws.{rising-lower, mask-kept, channels-rise, channels-mask, mask-unique, bit-at-most, leaving-rise, mask-few, mask-many, mask-none}
+use Rattle.plan.specs.Mask.{maskOf, Rising, channelsIn, among, taking, takesAt, someTakes, planMask, FirstOf, TakingOf}
+use Rattle.plan.proofs.MaskLaws.{rising-lower, mask-kept, channels-rise, channels-mask, channels-listed, bit-at-most, leaving-rise, mask-few, mask-many, mask-none}
 
 both-kept : (g h : Bool) (f : ℕ → Bool) (k : ℕ) (ks : List ℕ) → f k ≡ h → keepIf (g && h) k (among f ks) ≡ among f (keepIf g k ks)
 both-kept true h f k ks e = rw e
@@ -75,6 +76,12 @@ module _ (f : ℕ → Bool) (mask : ℕ) where
               whole = omega (arith, mask-kept (f c) c (among f cs));
             })
 
+    -- If the next channel passes, one does.
+    pub asked-some : f b ≡ true → isNone (among f (channelsIn mask)) ≡ false
+    asked-some passes =
+        sym (mask-none (among f (channelsIn mask)))
+        ∙ ne-eqb (maskOf (among f (channelsIn mask))) 0 (λ e. omega (arith, e, asked-more .whole, ap (λ (t : Bool). cond t (2 ^ b) 0) passes, pow-pos b))
+
   pub asked-end : (found : ℕ) → Asked f mask 0 found → found ≡ maskOf (among f (channelsIn mask))
   asked-end found asked = go (asked .rest) (asked .unasked) (asked .whole)
     where
@@ -82,12 +89,14 @@ module _ (f : ℕ → Bool) (mask : ℕ) where
       go [] e w = omega arith
       go (b ∷ bs) e w = let no : ⊥ = omega (arith, pow-pos b) in absurd no
 
+  -- With none left, none passes exactly where nothing is found.
+  pub asked-none : (found : ℕ) → Asked f mask 0 found → eqb found 0 ≡ isNone (among f (channelsIn mask))
+  asked-none found asked = rw (asked-end found asked) (mask-none (among f (channelsIn mask)))
+
 -- What is found is the mask of those that take the record, of whichever list the mask is.
 module _ (s : List ℕ) (r : Record) (mask m : ℕ) (small : mask < 2 ^ 32) (e : m ≡ maskOf (among (takesAt (planOf s) r) (channelsIn mask))) where
   found-listed : (bs : List ℕ) → Rising 0 bs → mask ≡ maskOf bs → m ≡ maskOf (among (takesAt (planOf s) r) bs)
-  found-listed bs h q =
-      let own : maskOf (channelsIn mask) ≡ mask = channels-mask mask small in
-      e ∙ ap (λ (cs : List ℕ). maskOf (among (takesAt (planOf s) r) cs)) (mask-unique (channelsIn mask) bs (channels-rise mask) h (rw own small) (own ∙ q))
+  found-listed bs h q = e ∙ ap (λ (cs : List ℕ). maskOf (among (takesAt (planOf s) r) cs)) (channels-listed mask small bs h q)
 
   found-planned : (bs : List ℕ) → Rising 0 bs → mask ≡ planMask s bs → m ≡ planMask s (among (takesAt (planOf s) r) bs)
   found-planned bs h q =
@@ -97,10 +106,12 @@ module _ (s : List ℕ) (r : Record) (mask m : ℕ) (small : mask < 2 ^ 32) (e :
   pub taking-of : TakingOf s r mask m
   taking-of = record { is = e; listed = found-planned }
 
--- Of the channels that leave a node, those that take a record.
-module _ (s : List ℕ) (n : ℕ) (r : Record) (mask m : ℕ) (t : TakingOf s r mask m) (e : mask ≡ planMask s (leaving (planOf s) n)) where
-  pub taking-listed : m ≡ planMask s (taking (planOf s) n r)
-  taking-listed = rw (taking-among (planOf s) n r) (t .listed (leaving (planOf s) n) (leaving-rise (planOf s) n) e)
+-- Of the channels that leave a node, those that take a record, and whether there is one.
+module _ (s : List ℕ) (n : ℕ) (r : Record) (mask : ℕ) (e : mask ≡ planMask s (leaving (planOf s) n)) where
+  pub taking-listed : (m : ℕ) → TakingOf s r mask m → m ≡ planMask s (taking (planOf s) n r)
+  taking-listed m t = rw (taking-among (planOf s) n r) (t .listed (leaving (planOf s) n) (leaving-rise (planOf s) n) e)
 
-  pub taking-none : planChannels s ≤ 24 → eqb m 0 ≡ isNone (taking (planOf s) n r)
-  taking-none h = rw (taking-listed, mask-few s h (taking (planOf s) n r)) (mask-none (taking (planOf s) n r))
+  pub taking-some : mask < 2 ^ 32 → planChannels s ≤ 24 → someTakes (planOf s) r mask ≡ not (isNone (taking (planOf s) n r))
+  taking-some small few =
+      let same = channels-listed mask small (leaving (planOf s) n) (leaving-rise (planOf s) n) (e ∙ mask-few s few (leaving (planOf s) n)) in
+      rw (taking-among (planOf s) n r) (ap (λ (bs : List ℕ). not (isNone (among (takesAt (planOf s) r) bs))) same)

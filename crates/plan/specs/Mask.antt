@@ -1,7 +1,7 @@
 -- Sets of channels as masks (document 01, "The belts that take a record form a mask; ones count them, trailing zeros give the next belt").
 use Prim.Native.Nat.{ℕ, zero, suc, _+_, _/_, _%_, _^_, _≤_}
 use mathlib.Core.Path.{_≡_}
-use mathlib.Core.Bool.{Bool, cond, _&&_}
+use mathlib.Core.Bool.{Bool, cond, not, _&&_}
 use mathlib.Core.List.{List, [], _∷_}
 use lib.ListN.{length, getD}
 use lib.Dec.{leb, eqb}
@@ -11,7 +11,7 @@ use Rattle.plan.specs.declared.Channel.{Channel}
 use Rattle.plan.specs.declared.Pick.{Pick}
 use Rattle.plan.specs.declared.Pick.the-variants.{Entering, Leaving}
 use Rattle.plan.specs.Channel.{takes}
-use Rattle.plan.specs.Plan.{Plan, planOf, planChannels, channelAt, keepIf, numbersFrom}
+use Rattle.plan.specs.Plan.{Plan, planOf, planChannels, channelAt, keepIf, numbersFrom, isNone}
 
 -- The mask of a list of channel numbers: bit b for channel b.
 abbrev pub maskOf : List ℕ → ℕ
@@ -48,6 +48,10 @@ taking p n r = numbersFrom 0 (λ (c : Channel). eqb (c .sender) n && takes c r) 
 -- Whether the channel of a number takes a record.
 abbrev pub takesAt : Plan → Record → ℕ → Bool
 takesAt p r b = takes (channelAt p b) r
+
+-- Whether one of a mask's channels takes a record.
+abbrev pub someTakes : Plan → Record → ℕ → Bool
+someTakes p r mask = not (isNone (among (takesAt p r) (channelsIn mask)))
 
 -- The mask of some of a plan's channels; 0 where the plan has more channels than document 01 allows.
 unfoldable pub planMask : List ℕ → List ℕ → ℕ

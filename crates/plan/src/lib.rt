@@ -9,7 +9,7 @@ ghost use Rattle.plan.specs.Layout.{spelled, readSlots};
 ghost use Rattle.plan.specs.Rule.{applied, ruleOfKind, ruleKindFits, ruleFits, ruleFields};
 ghost use Rattle.plan.specs.Channel.{bitSet, takes, channelFits, channelAfter};
 ghost use Rattle.plan.specs.Plan.{planOf, planNodes, planChannels, ruleAt, channelAt, numbersFrom, entering, leaving};
-ghost use Rattle.plan.specs.Mask.{picked, taking, planMask, CountOf, FirstOf, TakingOf};
+ghost use Rattle.plan.specs.Mask.{picked, taking, someTakes, planMask, CountOf, FirstOf, TakingOf};
 ghost use Rattle.plan.specs.Check.{badLength, badVersion, badCounts, badSize, badRules, badChannels, fourAtMost, badDegrees, planRefusal};
 ghost use Rattle.plan.specs.Degrees.{Joined, Degrees};
 ghost use Rattle.plan.specs.Narrow.{narrowed};
@@ -295,6 +295,21 @@ pub fn taking_among(plan: &[u8], mask: u32, r: Record) -> u32
         left -= bit;
     }
     found
+}
+
+// Whether one of a mask's channels takes a record.
+pub fn some_takes(plan: &[u8], mask: u32, r: Record) -> bool
+    ensures { λ t. ⌜ t ≡ someTakes (planOf (now (plan .entry))) r mask ⌝ }
+{
+    let mut left = mask;
+    while left != 0 {
+        let b = mask_next(left);
+        if channel_takes(channel_at(plan, b as usize), r) {
+            return true;
+        }
+        left -= bit_of(b);
+    }
+    false
 }
 
 // The channels that leave a node and take a record, as a mask.
