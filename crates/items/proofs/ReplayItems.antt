@@ -18,13 +18,10 @@ use Rattle.rules.proofs.LineLaws.{node-there, plan-kept}
 use Rattle.rules.proofs.LanesLaws.{lanes-node, lanes-plan}
 use Rattle.rules.proofs.Swept.{swept-enters}
 use Rattle.rules.proofs.Joins.{entering-in}
+use Rattle.rules.proofs.Restored.{all-same}
 use Rattle.items.specs.Items.{rowRestored, replayRight}
 use Rattle.items.proofs.Tests.{not-above}
 use Rattle.items.proofs.Origins.{Formed}
-
-all-same : {A : Type 0} (f g : A → Bool) (xs : List A) → ((x : A) → In x xs → f x ≡ g x) → allOf f xs ≡ allOf g xs
-all-same f g [] h = refl
-all-same f g (x ∷ xs) h = ap (λ (t : Bool). t && allOf f xs) (h x here) ∙ ap (λ (t : Bool). g x && t) (all-same f g xs (λ y i. h y (there i)))
 
 end-lacks : (b : ℕ) (k : Line) → allOf (isHeld (nodeAt k b .held)) (nodeAt k b .targets) ≡ false → replayEnd b k ≡ none
 unfolding replayEnd

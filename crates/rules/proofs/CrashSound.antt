@@ -3,22 +3,20 @@ use Prim.Native.Nat.{ℕ, _<_, _≤_}
 use mathlib.Core.Path.{_≡_, refl, sym, ap, subst, _∙_}
 use mathlib.Core.Logic.{_≢_}
 use mathlib.Core.Bool.{true, true≢false}
-use mathlib.Core.List.{List, [], _∷_}
+use mathlib.Core.List.{List, _∷_}
 use mathlib.Core.Option.{some}
 use native.Mathlib.Omega.{arith}
 use native.Mathlib.Decide.{ℕ-discrete}
 use Rattle.plan.specs.Plan.{Plan, nodeCount, channelAt}
-use Rattle.rules.specs.Line.{Origin, fed, made, up, down, replay, Node, Lane, Line, nodeAt, laneAt, parents, withNode, freshLane, counted}
+use Rattle.rules.specs.Line.{Origin, fed, made, up, replay, Node, Lane, Line, nodeAt, laneAt, parents, freshLane, counted}
 use Rattle.rules.specs.Frame.{crash}
 use Rattle.rules.specs.Recover.{triples}
 use Rattle.rules.specs.Damaged.{pastHeard, workedOn}
-use Rattle.rules.specs.Step.{endDown, crashedLine, effect}
+use Rattle.rules.specs.Step.{endDown, effect}
 use Rattle.rules.proofs.Rising.{none, none-in}
 use Rattle.rules.proofs.Members.{In, in-none}
-use Rattle.rules.proofs.LineLaws.{node-there, node-else, nodes-long}
-use Rattle.rules.proofs.Stays.{moved}
-use Rattle.rules.proofs.Swept.{swept-line, swept-long, swept-enters, swept-leaves, swept-else}
-use Rattle.rules.proofs.Inv.{Shape, Ordered, Enters, Leaves}
+use Rattle.rules.proofs.Crashed.{emptied, cleared, crashedAfter, crashed-is, crashed-node, crashed-else, crashed-shape, crashed-enters, crashed-leaves, crashed-beside}
+use Rattle.rules.proofs.Inv.{Ordered, Enters, Leaves}
 use Rattle.rules.proofs.InvLaws.{up-not-down, up-not-replay, replay-not-down, if-marked}
 use Rattle.rules.proofs.MarkedLaws.{at-ends}
 use Rattle.rules.proofs.Accepted.{Passed, CanCrash, can-crash}
@@ -44,49 +42,6 @@ module _ (l : Line) (sound : Sound l) (n : ℕ) (can : CanCrash l n) where
   ordered : Ordered (l .plan)
   ordered = ordered-fit (l .plan) (s .plan-fits)
 
-  abbrev emptied : Node
-  emptied = record { status = down; crashed = true; time = 0; log = []; held = []; targets = [] }
-
-  abbrev left : ℕ → Lane → Lane
-  left c x = record { mark = 0; taken = x .taken; heard = x .heard; queue = [] }
-
-  abbrev entered : ℕ → Lane → Lane
-  entered c x = freshLane (l .plan) (channelAt (l .plan) c) 0
-
-  abbrev after : Line
-  after = moved l (l .steps) (withNode n emptied l .nodes) (crashedLine n l .lanes)
-
-  after-is : crashedLine n l ≡ after
-  unfolding withNode crashedLine
-  after-is = swept-line entered left (withNode n emptied l) n ordered (s .shape .lanes-long)
-
-  node-now : nodeAt after n ≡ emptied
-  unfolding withNode
-  node-now = node-there n emptied l (rw (s .shape .nodes-long) (can .here))
-
-  node-other : (m : ℕ) → m ≢ n → nodeAt after m ≡ nodeAt l m
-  unfolding withNode
-  node-other m d = node-else n emptied l m d
-
-  lane-enters : (c : ℕ) → Enters (l .plan) n c → laneAt after c ≡ freshLane (l .plan) (channelAt (l .plan) c) 0
-  unfolding withNode crashedLine
-  lane-enters = swept-enters entered left (withNode n emptied l) n ordered (s .shape .lanes-long)
-
-  lane-leaves : (c : ℕ) → Leaves (l .plan) n c → laneAt after c ≡ left c (laneAt l c)
-  unfolding withNode crashedLine
-  lane-leaves = swept-leaves entered left (withNode n emptied l) n ordered (s .shape .lanes-long)
-
-  lane-other : (c : ℕ) → channelAt (l .plan) c .receiver ≢ n → channelAt (l .plan) c .sender ≢ n → laneAt after c ≡ laneAt l c
-  unfolding withNode crashedLine
-  lane-other = swept-else entered left (withNode n emptied l) n ordered (s .shape .lanes-long)
-
-  crashed-shape : Shape after
-  unfolding withNode crashedLine
-  crashed-shape = record {
-    nodes-long = nodes-long n emptied l ∙ s .shape .nodes-long;
-    lanes-long = swept-long entered left (withNode n emptied l) n ordered (s .shape .lanes-long) ∙ s .shape .lanes-long;
-  }
-
   emptied-fits : NodeFits (l .plan) (l .steps) n emptied
   emptied-fits =
       record {
@@ -104,46 +59,46 @@ module _ (l : Line) (sound : Sound l) (n : ℕ) (can : CanCrash l n) where
         empties = (refl, refl, refl, refl);
       }
 
-  node-crashed : NodeSound after n
+  node-crashed : NodeSound (crashedAfter l n) n
   node-crashed = record {
-    fits = rw node-now emptied-fits;
-    clock = λ e i b h. absurd (in-none (subst (λ (x : Node). In e (workedOn x)) node-now i));
-    rows = λ b h. rw node-now none;
+    fits = rw (crashed-node l n ordered (s .shape) (can .here)) emptied-fits;
+    clock = λ e i b h. absurd (in-none (subst (λ (x : Node). In e (workedOn x)) (crashed-node l n ordered (s .shape) (can .here)) i));
+    rows = λ b h. rw (crashed-node l n ordered (s .shape) (can .here)) none;
   }
 
   -- The children's clocks are as they were.
-  covers-on : (m : ℕ) → m ≢ n → (c : ℕ) → Enters (l .plan) m c → (o before : Origin) → Covers (l .plan) c (laneAt l c) o before → Covers (l .plan) c (laneAt after c) o before
+  covers-on : (m : ℕ) → m ≢ n → (c : ℕ) → Enters (l .plan) m c → (o before : Origin) → Covers (l .plan) c (laneAt l c) o before → Covers (l .plan) c (laneAt (crashedAfter l n) c) o before
   covers-on m d c (h, q) =
       let away : channelAt (l .plan) c .receiver ≢ n = λ z. d (sym q ∙ z) in
       elim (ℕ-discrete (channelAt (l .plan) c .sender) n) [
-        | yes e ↦ covers-like (l .plan) c (laneAt l c) (laneAt after c) (ap (λ (x : Lane). x .taken) (lane-leaves c (h, e))) (ap (λ (x : Lane). x .heard) (lane-leaves c (h, e)))
-        | no e ↦ covers-like (l .plan) c (laneAt l c) (laneAt after c) (ap (λ (x : Lane). x .taken) (lane-other c away e)) (ap (λ (x : Lane). x .heard) (lane-other c away e))
+        | yes e ↦ covers-like (l .plan) c (laneAt l c) (laneAt (crashedAfter l n) c) (ap (λ (x : Lane). x .taken) ((crashed-leaves l n ordered (s .shape)) c (h, e))) (ap (λ (x : Lane). x .heard) ((crashed-leaves l n ordered (s .shape)) c (h, e)))
+        | no e ↦ covers-like (l .plan) c (laneAt l c) (laneAt (crashedAfter l n) c) (ap (λ (x : Lane). x .taken) ((crashed-beside l n ordered (s .shape)) c away e)) (ap (λ (x : Lane). x .heard) ((crashed-beside l n ordered (s .shape)) c away e))
       ]
 
-  channel-enters : (c : ℕ) → Enters (l .plan) n c → ChannelSound after c
+  channel-enters : (c : ℕ) → Enters (l .plan) n c → ChannelSound (crashedAfter l n) c
   unfolding freshLane
   channel-enters c h =
-      let lane = lane-enters c h in
+      let lane = (crashed-enters l n ordered (s .shape)) c h in
       let beside : channelAt (l .plan) c .sender ≢ n = λ q. omega (arith, ordered .forward c (h .0), h .1) in
       record {
         fits = rw lane (fresh-fits (l .plan) (l .steps) c 0 (omega arith));
         flows = λ e. rw lane (fresh-flows (l .plan) (channelAt (l .plan) c) 0);
-        apart = λ e. absurd (true≢false (sym e ∙ ap (λ (x : Node). x .crashed) (node-other (channelAt (l .plan) c .sender) beside) ∙ can .parents c h));
+        apart = λ e. absurd (true≢false (sym e ∙ ap (λ (x : Node). x .crashed) ((crashed-else l n ordered (s .shape)) (channelAt (l .plan) c .sender) beside) ∙ can .parents c h));
         stopped = λ e. (ap (λ (x : Lane). x .mark) lane, ap (λ (x : Lane). x .queue) lane);
         cleared = λ e t i. fresh-cleared (l .plan) (channelAt (l .plan) c) t (subst (λ (x : Lane). In t (x .taken ∷ x .heard)) lane i);
         silent = λ e. ap (λ (x : Lane). x .queue) lane;
       }
 
-  left-fits : (c : ℕ) → LaneFits (l .plan) (l .steps) c (laneAt l c) → LaneFits (l .plan) (l .steps) c (left c (laneAt l c))
+  left-fits : (c : ℕ) → LaneFits (l .plan) (l .steps) c (laneAt l c) → LaneFits (l .plan) (l .steps) c (cleared (laneAt l c))
   left-fits c f = record { heard-long = f .heard-long; few = omega arith; messages = λ m i. absurd (in-none i); mark = omega arith; taken = f .taken; heard = f .heard }
 
-  channel-leaves : (c : ℕ) → Leaves (l .plan) n c → ChannelSound after c
+  channel-leaves : (c : ℕ) → Leaves (l .plan) n c → ChannelSound (crashedAfter l n) c
   channel-leaves c h =
-      let lane = lane-leaves c h in
+      let lane = (crashed-leaves l n ordered (s .shape)) c h in
       let to = channelAt (l .plan) c .receiver in
       let beside : to ≢ n = λ q. omega (arith, ordered .forward c (h .0), h .1) in
-      let gone : endDown after c ≡ true = rw (h .1, node-now) in
-      let child = node-other to beside in
+      let gone : endDown (crashedAfter l n) c ≡ true = rw (h .1, (crashed-node l n ordered (s .shape) (can .here))) in
+      let child = (crashed-else l n ordered (s .shape)) to beside in
       record {
         fits = rw lane (left-fits c (s .channels c (h .0) .fits));
         flows = λ e. absurd (true≢false (sym gone ∙ e));
@@ -153,12 +108,12 @@ module _ (l : Line) (sound : Sound l) (n : ℕ) (can : CanCrash l n) where
         silent = λ e. ap (λ (x : Lane). x .queue) lane;
       }
 
-  module _ (m : ℕ) (h : m < nodeCount (l .plan)) (again : nodeAt after m .status ≡ replay) where
+  module _ (m : ℕ) (h : m < nodeCount (l .plan)) (again : nodeAt (crashedAfter l n) m .status ≡ replay) where
     other : m ≢ n
-    other q = replay-not-down (sym again ∙ ap (λ (x : ℕ). nodeAt after x .status) q ∙ ap (λ (x : Node). x .status) node-now)
+    other q = replay-not-down (sym again ∙ ap (λ (x : ℕ). nodeAt (crashedAfter l n) x .status) q ∙ ap (λ (x : Node). x .status) (crashed-node l n ordered (s .shape) (can .here)))
 
     was : nodeAt l m .status ≡ replay
-    was = sym (ap (λ (x : Node). x .status) (node-other m other)) ∙ again
+    was = sym (ap (λ (x : Node). x .status) ((crashed-else l n ordered (s .shape)) m other)) ∙ again
 
     marked : nodeAt l m .crashed ≡ true
     marked = stopped-marked l s m h (λ q. up-not-replay (sym q ∙ was))
@@ -167,30 +122,30 @@ module _ (l : Line) (sound : Sound l) (n : ℕ) (can : CanCrash l n) where
     child-other : (c : ℕ) → Leaves (l .plan) m c → channelAt (l .plan) c .receiver ≢ n
     child-other c (i, q) z = true≢false (sym marked ∙ ap (λ (x : ℕ). nodeAt l x .crashed) (sym q) ∙ can .parents c (i, z))
 
-    replays-on : Replays after m
+    replays-on : Replays (crashedAfter l n) m
     replays-on =
         let same : l .steps ≤ l .steps = omega arith in
-        let node = node-other m other in
-        replays-stay l (l .steps) (after .nodes) (after .lanes) same m (λ c j. ap (λ (x : Lane). x .taken) (lane-other c (child-other c j) (λ q. other (sym (j .1) ∙ q))))
-        (λ c j. ap (λ (x : Node). triples m (x .log)) (node-other (channelAt (l .plan) c .receiver) (child-other c j))) (ap (λ (x : Node). x .time) node) (ap (λ (x : Node). x .targets) node) (sound .replays m h was)
+        let node = (crashed-else l n ordered (s .shape)) m other in
+        replays-stay l (l .steps) ((crashedAfter l n) .nodes) ((crashedAfter l n) .lanes) same m (λ c j. ap (λ (x : Lane). x .taken) ((crashed-beside l n ordered (s .shape)) c (child-other c j) (λ q. other (sym (j .1) ∙ q))))
+        (λ c j. ap (λ (x : Node). triples m (x .log)) ((crashed-else l n ordered (s .shape)) (channelAt (l .plan) c .receiver) (child-other c j))) (ap (λ (x : Node). x .time) node) (ap (λ (x : Node). x .targets) node) (sound .replays m h was)
 
-  crashed-sound : Sound after
+  crashed-sound : Sound (crashedAfter l n)
   crashed-sound =
       let same : l .steps ≤ l .steps = omega arith in
       record {
         standing = record {
           plan-fits = s .plan-fits;
-          shape = crashed-shape;
+          shape = crashed-shape l n ordered (s .shape);
           steps = s .steps;
           nodes = λ m h. elim (ℕ-discrete m n) [
-            | yes q ↦ subst (NodeSound after) (sym q) node-crashed
-            | no d ↦ node-stays l (l .steps) (after .nodes) (after .lanes) same m (node-other m d) (covers-on m d) (s .nodes m h)
+            | yes q ↦ subst (NodeSound (crashedAfter l n)) (sym q) node-crashed
+            | no d ↦ node-stays l (l .steps) ((crashedAfter l n) .nodes) ((crashedAfter l n) .lanes) same m ((crashed-else l n ordered (s .shape)) m d) (covers-on m d) (s .nodes m h)
           ];
           channels = λ c h. at-ends (l .plan) n c h (channel-enters c) (channel-leaves c)
               (λ d e.
-              (let from = node-other (channelAt (l .plan) c .sender) e in
-              let to = node-other (channelAt (l .plan) c .receiver) d in
-              channel-stays l (l .steps) (after .nodes) (after .lanes) same c (ap (λ (x : Node). x .status) from) (ap (λ (x : Node). x .status) to) (ap (λ (x : Node). x .crashed) from) (ap (λ (x : Node). x .crashed) to) (lane-other c d e) (s .channels c h)));
+              (let from = (crashed-else l n ordered (s .shape)) (channelAt (l .plan) c .sender) e in
+              let to = (crashed-else l n ordered (s .shape)) (channelAt (l .plan) c .receiver) d in
+              channel-stays l (l .steps) ((crashedAfter l n) .nodes) ((crashedAfter l n) .lanes) same c (ap (λ (x : Node). x .status) from) (ap (λ (x : Node). x .status) to) (ap (λ (x : Node). x .crashed) from) (ap (λ (x : Node). x .crashed) to) ((crashed-beside l n ordered (s .shape)) c d e) (s .channels c h)));
         };
         replays = replays-on;
       }
@@ -199,4 +154,4 @@ pub crash-sound : (l : Line) → Sound l → (n : ℕ) → Passed l (crash n) �
 unfolding effect
 crash-sound l sound n p k e =
     let can = can-crash p in
-    subst (λ (x : Line). Sound (counted x)) (sym (after-is l sound n can) ∙ some-same e) (counted-sound (after l sound n can) (p .steps-left) (crashed-sound l sound n can))
+    subst (λ (x : Line). Sound (counted x)) (sym (crashed-is l n (ordered l sound n can) (sound .standing .shape)) ∙ some-same e) (counted-sound (crashedAfter l n) (p .steps-left) (crashed-sound l sound n can))

@@ -53,6 +53,7 @@ pub mod QuietRest
 pub mod Order
 -- A step keeps an undamaged line undamaged.
 pub mod Standing
+pub mod Crashed
 pub mod Restored
 pub mod TestLaws
 pub mod UndamagedNode

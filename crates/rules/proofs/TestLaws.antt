@@ -8,7 +8,7 @@ use native.Mathlib.Omega.{arith}
 use lib.Dec.{leb, ltb}
 use borrow.Author.Tests.{ltb-true, leb-true, lt-ltb, le-leb}
 use Rattle.basics.specs.Bools.{both-true, neither-true}
-use Rattle.rules.specs.Lists.{isEmpty, allOf, anyOf, upTo}
+use Rattle.rules.specs.Lists.{allOf, anyOf, upTo}
 use Rattle.rules.specs.Line.{Status, up, down, replay, isReplay}
 use Rattle.rules.specs.Damaged.{rises, risesTo}
 use Rattle.rules.proofs.Members.{In, here, there, in-none, in-first}
@@ -51,10 +51,6 @@ unless false b e q = absurd (true≢false (sym q))
 pub by-unless : (a b : Bool) → (a ≡ true → b ≡ false) → (a && b) ≡ false
 by-unless true b f = f refl
 by-unless false b f = refl
-
-pub empty-is : {A : Type 0} (xs : List A) → isEmpty xs ≡ true → xs ≡ []
-empty-is [] e = refl
-empty-is (x ∷ xs) e = absurd (true≢false (sym e))
 
 -- Times that rise to a last one.
 module _ {A : Type 0} (time : A → ℕ) where

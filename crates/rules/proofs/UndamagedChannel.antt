@@ -17,7 +17,8 @@ use Rattle.rules.specs.Damaged.{recordPastLimits, channelPastLimits, not
 use Rattle.rules.proofs.Accepted.{is-down}
 use Rattle.rules.proofs.Members.{In, here, there, in-first, in-left, in-right, append-in, in-map, map-in, in-joined, joined-in, none-any}
 use Rattle.rules.proofs.Inv.{timeOf}
-use Rattle.rules.proofs.TestLaws.{is-replay, none-by, all-false, unless, by-unless, empty-is, to-of, of-to}
+use Rattle.rules.proofs.ListLaws.{empty-none}
+use Rattle.rules.proofs.TestLaws.{is-replay, none-by, all-false, unless, by-unless, to-of, of-to}
 use Rattle.rules.proofs.Standing.{LaneFits, Flows, ChannelSound}
 use Rattle.rules.proofs.UndamagedNode.{origin-fits, fits-parent, fits-maker, fits-times}
 
@@ -149,9 +150,9 @@ module _ (l : Line) (b : ℕ) where
       let (a, (c, (d, _))) = all-false (endDown l b && not clean) ((nodeDown l (receiverOf l b) && anyOf (ltb 0) heard) ∷ (replaying l (senderOf l b) && not (isEmpty (lane .queue))) ∷ []) e in (
         λ q.
             (let (x, y) = both-true (eqb (lane .mark) 0) (isEmpty (lane .queue)) (not-false clean (unless (endDown l b) (not clean) a q)) in
-            (eqb-true (lane .mark) 0 x, empty-is (lane .queue) y)),
+            (eqb-true (lane .mark) 0 x, empty-none (lane .queue) y)),
         λ q t i. (let z = ltb-false 0 t (none-any (ltb 0) (unless (nodeDown l (receiverOf l b)) (anyOf (ltb 0) heard) c (ap isDown q)) i) in omega arith),
-        λ q. empty-is (lane .queue) (not-false (isEmpty (lane .queue)) (unless (replaying l (senderOf l b)) (not (isEmpty (lane .queue))) d (ap isReplay q))),
+        λ q. empty-none (lane .queue) (not-false (isEmpty (lane .queue)) (unless (replaying l (senderOf l b)) (not (isEmpty (lane .queue))) d (ap isReplay q))),
       )
 
   of-rests : Rests → channelHolds l b ≡ false

@@ -17,7 +17,8 @@ use Rattle.rules.specs.Damaged.{workedOn, recordPastLimits, nodePastLimi
 use Rattle.rules.proofs.Rising.{Rises, Within}
 use Rattle.rules.proofs.Members.{In, here, there, in-none, in-first, in-left, in-right, append-in, in-map, map-in, in-joined, joined-in, rises-in, within-in, none-any}
 use Rattle.rules.proofs.InvLaws.{up-not-down, up-not-replay}
-use Rattle.rules.proofs.TestLaws.{none-by, all-false, unless, by-unless, empty-is, to-of, of-to}
+use Rattle.rules.proofs.ListLaws.{empty-none}
+use Rattle.rules.proofs.TestLaws.{none-by, all-false, unless, by-unless, to-of, of-to}
 use Rattle.rules.proofs.Standing.{entryTime, OriginFits, BeforeFits, TargetFits, Empties, NodeFits}
 
 -- Every time that an origin names is above 0 and not past the steps.
@@ -96,7 +97,7 @@ says-mark replay false f = absurd (up-not-replay (sym (f refl)))
 empties-of : (s : Status) (x : Node) → holdsByStatus s x ≡ false → Empties s x
 empties-of up x e =
     let (a, b) = both-true (isEmpty (x .held)) (isEmpty (x .targets)) (not-false (isEmpty (x .held) && isEmpty (x .targets)) e) in
-    (empty-is (x .held) a, empty-is (x .targets) b)
+    (empty-none (x .held) a, empty-none (x .targets) b)
 empties-of down x e =
     let zero : Bool = eqb (x .time) 0 in
     let log : Bool = isEmpty (x .log) in
@@ -104,8 +105,8 @@ empties-of down x e =
     let (abc, d) = both-true (zero && log && held) (isEmpty (x .targets)) (not-false (zero && log && held && isEmpty (x .targets)) e) in
     let (ab, c) = both-true (zero && log) held abc in
     let (a, b) = both-true zero log ab in
-    (eqb-true (x .time) 0 a, empty-is (x .log) b, empty-is (x .held) c, empty-is (x .targets) d)
-empties-of replay x e = empty-is (x .log) (not-false (isEmpty (x .log)) e)
+    (eqb-true (x .time) 0 a, empty-none (x .log) b, empty-none (x .held) c, empty-none (x .targets) d)
+empties-of replay x e = empty-none (x .log) (not-false (isEmpty (x .log)) e)
 
 of-empties : (s : Status) (x : Node) → Empties s x → holdsByStatus s x ≡ false
 of-empties up x (a, b) = rw (a, b)
