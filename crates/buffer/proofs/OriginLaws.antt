@@ -7,7 +7,7 @@ use mathlib.Core.Option.{none, some}
 use native.Mathlib.Omega.{arith}
 use borrow.Author.Tests.{lt-ltb, ne-eqb, eqb-true, eqb-false}
 use lib.Seq.{take-take}
-use lib.Dec.{lit≤, leb, eqb, eqb·suc-zero}
+use lib.Dec.{lit≤, leb, ltb, eqb, eqb·suc-zero}
 use lib.ListN.{length, getD, take, drop, length-map}
 use Rattle.plan.specs.Lawful.{Bytes}
 use Rattle.plan.specs.Layout.{spelled}
@@ -23,13 +23,15 @@ use Rattle.state.specs.State.{lineOf}
 use Rattle.state.specs.Right.{wordAt}
 use Rattle.state.proofs.ReadLaws.{part-part, byte-part, record-read}
 use Rattle.state.proofs.RightAt.{part-long, part-bytes}
-use Rattle.state.proofs.InPlace.{Counted as Few, line-plan}
+use Rattle.state.proofs.InPlace.{line-plan}
 use Rattle.state.proofs.OffsetLaws.{line-taken, line-heard-at}
 use Rattle.state.proofs.HeardLaws.{heard-few}
-use Rattle.items.specs.Items.{fromSender, placeFrom, ifFound, timeRight, recordRight, beforeRight, originRight}
+use Rattle.items.specs.Items.{fromSender, placeFrom, ifFound, recordRight, beforeRight, originRight}
 use Rattle.buffer.specs.Exact.{recordExact, timeNamed}
+use Rattle.buffer.specs.Ready.{Ready}
 use Rattle.buffer.specs.Table.{codeOr}
-use Rattle.buffer.specs.Check.{Counted, recordIn}
+use Rattle.buffer.specs.Check.{recordIn}
+use Rattle.buffer.proofs.ReadyLaws.{counted}
 use Rattle.buffer.proofs.LookLaws.{place-below}
 use Rattle.buffer.proofs.TableLaws.{coded, not-found}
 
@@ -85,15 +87,12 @@ names-first true false earlier since = refl
 names-first false free true since = sym (and-false (free && since))
 names-first false free false since = sym (and-false (free && true))
 
-module _ (s table : List ℕ) (steps : ℕ) (count : Counted s table steps) where
+module _ (s : List ℕ) (ready : Ready s) where
   abbrev l : Line
   l = lineOf s
 
   abbrev p : Plan
   p = planOf s
-
-  few : Few s
-  few = record { nodes = count .ready .nodes; channels = count .ready .channels }
 
   -- What came on channel b from a sender.
   module _ (sender b : ℕ) (h : b < planChannels s) (from : channelAt p b .sender ≡ sender) where
@@ -102,11 +101,11 @@ module _ (s table : List ℕ) (steps : ℕ) (count : Counted s table steps) wher
     entered = length-map (entering p (channelAt p b .sender)) (λ (c : ℕ). channelAt p c .sender) ∙ ap (λ (x : ℕ). length (entering p x)) from
 
     at-most-four : heardCount p (channelAt p b) ≤ parentLimit
-    at-most-four = heard-few p (count .ready .fits) b (rw channel-count h)
+    at-most-four = heard-few p (ready .fits) b (rw channel-count h)
 
-    before-made : (q u : ℕ) → beforeRight l sender b (made q u) ≡ (timeRight steps u && ifFound (placeFrom p q 0 (entering p sender)) (λ (i : ℕ). leb u (getD (laneAt l b .heard) i 0)))
+    before-made : (q u : ℕ) → beforeRight l sender b (made q u) ≡ (ltb 0 u && ifFound (placeFrom p q 0 (entering p sender)) (λ (i : ℕ). leb u (getD (laneAt l b .heard) i 0)))
     unfolding beforeRight
-    before-made q u = rw (line-plan s, ← count .same)
+    before-made q u = rw (line-plan s)
 
     module _ (q u : ℕ) where
       pub before-fed : q ≡ 0 → (isSource p sender && eqb u 0) ≡ (timeNamed q u && beforeRight l sender b (originFrom q u))
@@ -119,25 +118,25 @@ module _ (s table : List ℕ) (steps : ℕ) (count : Counted s table steps) wher
       pub before-missing : (q ≡ 0 → ⊥) → placeFrom p (q - 1) 0 (entering p sender) ≡ none → false ≡ (timeNamed q u && beforeRight l sender b (originFrom q u))
       before-missing z e = sym (named-before z ∙ before-made (q - 1) u ∙ rw (e, and-false))
 
-      pub before-there : (q ≡ 0 → ⊥) → (i : ℕ) → placeFrom p (q - 1) 0 (entering p sender) ≡ some i → (timeRight steps u && leb u (wordAt (blockAt b + (heardAt + 4 * i)) s)) ≡ (timeNamed q u && beforeRight l sender b (originFrom q u))
+      pub before-there : (q ≡ 0 → ⊥) → (i : ℕ) → placeFrom p (q - 1) 0 (entering p sender) ≡ some i → (ltb 0 u && leb u (wordAt (blockAt b + (heardAt + 4 * i)) s)) ≡ (timeNamed q u && beforeRight l sender b (originFrom q u))
       before-there z i e =
           let early : i < heardCount p (channelAt p b) = omega (arith, place-below p (q - 1) 0 i (entering p sender) e, entered) in
-          sym (named-before z ∙ before-made (q - 1) u ∙ rw e (ap (λ (v : ℕ). timeRight steps u && leb u v) (line-heard-at s few b h i early (omega (arith, early, at-most-four)))))
+          sym (named-before z ∙ before-made (q - 1) u ∙ rw e (ap (λ (v : ℕ). ltb 0 u && leb u v) (line-heard-at s (counted ready) b h i early (omega (arith, early, at-most-four)))))
 
   -- What node n made something from.
   module _ (n : ℕ) where
-    made-is : (q t : ℕ) (o : Origin) → originRight l n (made q t) o ≡ (timeRight steps t && ifFound (fromSender p q (entering p n)) (λ (b : ℕ). leb t (laneAt l b .taken) && beforeRight l q b o))
+    made-is : (q t : ℕ) (o : Origin) → originRight l n (made q t) o ≡ (ltb 0 t && ifFound (fromSender p q (entering p n)) (λ (b : ℕ). leb t (laneAt l b .taken) && beforeRight l q b o))
     unfolding originRight
-    made-is q t o = rw (line-plan s, ← count .same)
+    made-is q t o = rw (line-plan s)
 
     pub made-missing : (q t : ℕ) (name : Bool) (o : Origin) → fromSender p q (entering p n) ≡ none → false ≡ (name && originRight l n (made q t) o)
     made-missing q t name o e = sym (ap (λ (v : Bool). name && v) (made-is q t o ∙ rw (e, and-false)) ∙ and-false name)
 
     pub made-there : (q t : ℕ) (name : Bool) (o : Origin) (b : ℕ) → b < planChannels s → fromSender p q (entering p n) ≡ some b
-        → (timeRight steps t && (leb t (wordAt (blockAt b + takenAt) s) && (name && beforeRight l q b o))) ≡ (name && originRight l n (made q t) o)
+        → (ltb 0 t && (leb t (wordAt (blockAt b + takenAt) s) && (name && beforeRight l q b o))) ≡ (name && originRight l n (made q t) o)
     made-there q t name o b h e =
-        name-first name (timeRight steps t) (leb t (wordAt (blockAt b + takenAt) s)) (beforeRight l q b o)
-        ∙ sym (ap (λ (v : Bool). name && v) (made-is q t o ∙ rw e (ap (λ (v : ℕ). timeRight steps t && (leb t v && beforeRight l q b o)) (line-taken s few b h))))
+        name-first name (ltb 0 t) (leb t (wordAt (blockAt b + takenAt) s)) (beforeRight l q b o)
+        ∙ sym (ap (λ (v : Bool). name && v) (made-is q t o ∙ rw e (ap (λ (v : ℕ). ltb 0 t && (leb t v && beforeRight l q b o)) (line-taken s (counted ready) b h))))
 
     pub origin-at-source : (q t e u : ℕ) → q ≡ 0 → ((isSource p n && eqb t 0) && (eqb e 0 && eqb u 0)) ≡ ((timeNamed q t && timeNamed e u) && originRight l n (originFrom q t) (originFrom e u))
     unfolding originRight
@@ -153,5 +152,5 @@ module _ (s table : List ℕ) (steps : ℕ) (count : Counted s table steps) wher
     parent-coded q code is = rw (line-plan s) (one (eqb code 255) refl)
       where
         one : (v : Bool) → eqb code 255 ≡ v → not v ≡ ifFound (fromSender p q (entering p n)) (λ (b : ℕ). true)
-        one true e = rw (not-found s (count .ready) q n code is (eqb-true code 255 e)) refl
-        one false e = rw (coded s (count .ready) q n code is (eqb-false code 255 e) .found) refl
+        one true e = rw (not-found s ready q n code is (eqb-true code 255 e)) refl
+        one false e = rw (coded s ready q n code is (eqb-false code 255 e) .found) refl

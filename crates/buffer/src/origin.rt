@@ -9,7 +9,9 @@ ghost use Rattle.state.specs.Pieces.{originFrom};
 ghost use Rattle.state.specs.State.{lineOf};
 ghost use Rattle.items.specs.Items.{recordRight, beforeRight, originRight};
 ghost use Rattle.buffer.specs.Exact.{recordExact, timeNamed};
-ghost use Rattle.buffer.specs.Check.{Counted, recordIn};
+ghost use Rattle.buffer.specs.Check.{recordIn};
+ghost use Rattle.buffer.specs.Ready.{Ready};
+ghost use Rattle.buffer.specs.Table.{Table};
 use crate::bytes;
 use crate::table;
 
@@ -22,16 +24,8 @@ pub fn record_ok(s: &[u8], at: usize) -> bool
 }
 
 // What an input was made from that came on channel b from a sender.
-pub fn before_ok(
-    s: &[u8],
-    t: &[u8; 156],
-    steps: u32,
-    sender: usize,
-    b: usize,
-    from: usize,
-    time: u32,
-) -> bool
-    requires { ⌜ Counted (now s) (now t) steps × (b < planChannels (now s)) × (channelAt (planOf (now s)) b .sender ≡ sender) ⌝ }
+pub fn before_ok(s: &[u8], t: &[u8; 156], sender: usize, b: usize, from: usize, time: u32) -> bool
+    requires { ⌜ Ready (now s) × Table (now s) (now t) × (b < planChannels (now s)) × (channelAt (planOf (now s)) b .sender ≡ sender) ⌝ }
     ensures { λ r. ⌜ r ≡ (timeNamed from time && beforeRight (lineOf (now (s .entry))) sender b (originFrom from time)) ⌝ }
 {
     if from == 0 {
@@ -43,21 +37,20 @@ pub fn before_ok(
         return false;
     }
     let heard = bytes::get32(s, 53_248 + 320 * b + (8 + 4 * (code / 32)));
-    ((0 < time) & (time <= steps)) & (time <= heard)
+    (0 < time) & (time <= heard)
 }
 
 // What node n made something from, a sender and its time, and what that was made from.
 pub fn made_ok(
     s: &[u8],
     t: &[u8; 156],
-    steps: u32,
     n: usize,
     sender: usize,
     time: u32,
     earlier: usize,
     since: u32,
 ) -> bool
-    requires { ⌜ Counted (now s) (now t) steps ⌝ }
+    requires { ⌜ Ready (now s) × Table (now s) (now t) ⌝ }
     ensures { λ r. ⌜ r ≡ (timeNamed earlier since && originRight (lineOf (now (s .entry))) n (made sender time) (originFrom earlier since)) ⌝ }
 {
     let code = table::joined(s, t, sender, n);
@@ -65,27 +58,26 @@ pub fn made_ok(
         return false;
     }
     let taken = bytes::get32(s, 53_248 + 320 * (code % 32) + 4);
-    let rest = before_ok(s, t, steps, sender, code % 32, earlier, since);
-    ((0 < time) & (time <= steps)) & ((time <= taken) & rest)
+    let rest = before_ok(s, t, sender, code % 32, earlier, since);
+    (0 < time) & ((time <= taken) & rest)
 }
 
 // What node n made something from, by its bytes, and what that was made from.
 pub fn origin_ok(
     s: &[u8],
     t: &[u8; 156],
-    steps: u32,
     n: usize,
     from: usize,
     time: u32,
     earlier: usize,
     since: u32,
 ) -> bool
-    requires { ⌜ Counted (now s) (now t) steps ⌝ }
+    requires { ⌜ Ready (now s) × Table (now s) (now t) ⌝ }
     ensures { λ r. ⌜ r ≡ ((timeNamed from time && timeNamed earlier since) && originRight (lineOf (now (s .entry))) n (originFrom from time) (originFrom earlier since)) ⌝ }
 {
     if from == 0 {
         let source = table::source_in(s, t, n);
         return (source & (time == 0)) & ((earlier == 0) & (since == 0));
     }
-    made_ok(s, t, steps, n, from - 1, time, earlier, since)
+    made_ok(s, t, n, from - 1, time, earlier, since)
 }

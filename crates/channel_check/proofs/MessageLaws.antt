@@ -37,7 +37,7 @@ module _ (s table : List ℕ) (steps : ℕ) (counted : Counted s table steps) (n
   pub named-made : (from t code : ℕ) → (from ≡ 0 → ⊥) → code ≡ codeOr (planOf s) (fromSender (planOf s) (from - 1) (entering (planOf s) n))
       → (timeRight steps t && not (eqb code 255)) ≡ (timeNamed from t && namedRight (lineOf s) n (originFrom from t))
   unfolding namedRight
-  named-made from t code h is = rw (ne-eqb from 0 h, origin-some t from h, parent-coded s table steps counted n (from - 1) code is, counted .same) refl
+  named-made from t code h is = rw (ne-eqb from 0 h, origin-some t from h, parent-coded s (counted .ready) n (from - 1) code is, counted .same) refl
 
 -- ---- a message
 

@@ -2,7 +2,7 @@
 use Prim.Native.Nat.{ℕ, zero, suc, _+_, _<_}
 use mathlib.Core.Path.{_≡_, refl, ap, _∙_}
 use mathlib.Core.Logic.{inl, inr}
-use mathlib.Core.Bool.{Bool, true, false, not, _&&_, _||_}
+use mathlib.Core.Bool.{Bool, true, false, not, _&&_, _||_, or-true}
 use native.Mathlib.Omega.{arith}
 use lib.ListN.{length}
 use lib.Dec.{leb, eqb}
@@ -48,17 +48,19 @@ nodes-items l line = any-opposite (nodeDamaged l) (nodeRight l) (nodeNumbers l) 
 channels-items : (l : Line) → someChannel l (channelDamaged l) ≡ not (allOf (channelRight l) (channelNumbersOf l))
 channels-items l = any-opposite (channelDamaged l) (channelRight l) (channelNumbersOf l) (λ b i. channel-items l b)
 
--- The parts, of which the nodes' rests on the first two.
-parts : (fits shape steps nodes channels broken : Bool) → (fits ≡ true → shape ≡ true → broken ≡ not nodes) → (not fits || not shape || not steps || broken || not channels) ≡ not (fits && shape && steps && nodes && channels)
+-- The parts, of which the nodes' rests on the plan, the shape and the channels'.
+parts : (fits shape steps nodes channels broken : Bool) → (fits ≡ true → shape ≡ true → channels ≡ true → broken ≡ not nodes) → (not fits || not shape || not steps || broken || not channels) ≡ not (fits && shape && steps && nodes && channels)
 parts false shape steps nodes channels broken h = refl
 parts true false steps nodes channels broken h = refl
 parts true true false nodes channels broken h = refl
-parts true true true true channels broken h = ap (λ (t : Bool). t || not channels) (h refl refl)
-parts true true true false channels broken h = ap (λ (t : Bool). t || not channels) (h refl refl)
+parts true true true true true broken h = ap (λ (t : Bool). t || false) (h refl refl refl)
+parts true true true false true broken h = ap (λ (t : Bool). t || false) (h refl refl refl)
+parts true true true true false broken h = or-true broken
+parts true true true false false broken h = or-true broken
 
 pub line-items : (l : Line) → damaged l ≡ not (lineRight l)
 unfolding damaged lineRight planBroken stepsPast
 line-items l =
     rw (shape-items l, above (l .steps) stepLimit, channels-items l)
     (parts (planFits (l .plan)) (shapeRight l) (leb (l .steps) stepLimit) (allOf (nodeRight l) (nodeNumbers l)) (allOf (channelRight l) (channelNumbersOf l)) (someNode l (nodeDamaged l))
-    (λ fits shape. nodes-items l (formed l fits (shape-items l ∙ ap not shape))))
+    (λ fits shape channels. nodes-items l (formed l fits (shape-items l ∙ ap not shape) channels)))

@@ -1,7 +1,7 @@
 -- What something was made from: the conditions of Damaged on it, taken together, are the item's test.
 use Prim.Native.Nat.{ℕ, _<_, _≤_}
 use mathlib.Core.Path.{_≡_, refl, sym, ap, _∙_}
-use mathlib.Core.Bool.{Bool, true, false, not, _&&_, _||_, true≢false, and-true}
+use mathlib.Core.Bool.{Bool, true, false, not, _&&_, _||_, true≢false, and-true, and-false}
 use mathlib.Core.List.{List, [], _∷_, _++_, map}
 use mathlib.Core.Option.{Option, none, some}
 use native.Mathlib.Omega.{arith}
@@ -12,31 +12,44 @@ use Rattle.basics.specs.Bools.{both-true, neither-true}
 use Rattle.plan.specs.Plan.{Plan, isNone, channelAt, nodeCount, channelCount, entering, isSource}
 use Rattle.plan.specs.Check.{planFits}
 use Rattle.plan.proofs.FitsLaws.{fitting}
-use Rattle.rules.proofs.Members.{none-any, in-up-to}
-use Rattle.rules.specs.Lists.{anyOf}
+use Rattle.rules.proofs.Members.{none-any, all-in, in-up-to}
+use Rattle.rules.specs.Lists.{allOf, anyOf}
 use Rattle.rules.specs.Line.{Origin, fed, made, Line, laneAt, channelNumbersOf, senderOf, parents}
-use Rattle.rules.specs.Damaged.{isParent, notParent, beforeNotParent, originTimes, originWrong, isFed, beforeWrong, pastHeard, pastLane, misshapen}
+use Rattle.rules.specs.Damaged.{isParent, notParent, beforeNotParent, originTimes, originWrong, isFed, beforeWrong, pastHeard, pastLane, marksJoined, channelHolds, misshapen}
 use Rattle.rules.proofs.Inv.{Ordered}
 use Rattle.rules.proofs.PlanOrder.{ordered-channels}
 use Rattle.rules.proofs.Joins.{entering-in}
-use Rattle.items.specs.Items.{fromSender, placeFrom, ifFound, timeRight, namedRight, beforeRight, originRight}
-use Rattle.items.proofs.Tests.{not-above, all-false, each-none}
+use Rattle.items.specs.Items.{fromSender, placeFrom, ifFound, timeRight, namedRight, beforeRight, originRight, clockRight, queueRight, channelRight}
+use Rattle.items.proofs.Tests.{not-above, all-true, all-false, all-at, each-none}
 use Rattle.items.proofs.Lookup.{sender-found, sender-placed, found-in, only-found, heard-placed, entering-apart}
 
--- A line whose plan fits and whose lists are as long as the plan says.
+-- A line whose plan fits, whose lists are as long as the plan says, and whose clocks are within its steps.
 pub record Formed (l : Line) : Type 0 where
   pub ordered : Ordered (l .plan)
   pub few : nodeCount (l .plan) ≤ 12
   pub nodes-long : length (l .nodes) ≡ nodeCount (l .plan)
   pub lanes-long : length (l .lanes) ≡ channelCount (l .plan)
   pub heard-long : (b : ℕ) → b < channelCount (l .plan) → length (laneAt l b .heard) ≡ length (parents (l .plan) (senderOf l b))
+  pub taken-within : (b : ℕ) → b < channelCount (l .plan) → laneAt l b .taken ≤ l .steps
+  pub heard-within : (b : ℕ) → b < channelCount (l .plan) → (i : ℕ) → getD (laneAt l b .heard) i 0 ≤ l .steps
 
-pub formed : (l : Line) → planFits (l .plan) ≡ true → misshapen l ≡ false → Formed l
+-- A clock's entries are within the steps by the channel's own test.
+clock-within : (l : Line) (b : ℕ) → channelRight l b ≡ true → (laneAt l b .taken ≤ l .steps) × ((i : ℕ) → getD (laneAt l b .heard) i 0 ≤ l .steps)
+unfolding channelRight clockRight
+clock-within l b e =
+    let s = laneAt l b in
+    let within : ℕ → Bool = λ t. leb t (l .steps) in
+    let (clock, _) = all-true (clockRight (l .steps) s) (queueRight l b (s .queue) ∷ not (marksJoined l b) ∷ not (channelHolds l b) ∷ []) e in
+    let (_, (taken, heard)) = all-true (within (s .mark)) (within (s .taken) ∷ allOf within (s .heard) ∷ []) clock in
+    (leb-true (s .taken) (l .steps) taken, λ i. leb-true (getD (s .heard) i 0) (l .steps) (all-at within (s .heard) i 0 (le-leb 0 (l .steps) (omega arith)) heard))
+
+pub formed : (l : Line) → planFits (l .plan) ≡ true → misshapen l ≡ false → allOf (channelRight l) (channelNumbersOf l) ≡ true → Formed l
 unfolding misshapen
-formed l fits shape =
+formed l fits shape right =
     let p = l .plan in
     let f = fitting p fits in
     let short : ℕ → Bool = λ b. not (eqb (length (laneAt l b .heard)) (length (parents p (senderOf l b)))) in
+    let clock : (b : ℕ) → b < channelCount p → (laneAt l b .taken ≤ l .steps) × ((i : ℕ) → getD (laneAt l b .heard) i 0 ≤ l .steps) = λ b h. clock-within l b (all-in (channelRight l) right (in-up-to 0 (channelCount p) b (omega arith) (omega arith))) in
     let (nodes, (lanes, heard)) = all-false (not (eqb (length (l .nodes)) (nodeCount p))) (not (eqb (length (l .lanes)) (channelCount p)) ∷ anyOf short (channelNumbersOf l) ∷ []) shape in
     record {
       ordered = ordered-channels p (f .channels);
@@ -46,6 +59,8 @@ formed l fits shape =
       heard-long = λ b h.
           eqb-true (length (laneAt l b .heard)) (length (parents p (senderOf l b)))
           (not-false (eqb (length (laneAt l b .heard)) (length (parents p (senderOf l b)))) (none-any short heard (in-up-to 0 (channelCount p) b (omega arith) (omega arith))));
+      taken-within = λ b h. clock b h .0;
+      heard-within = λ b h. clock b h .1;
     }
 
 -- A parent is found, and a node with one is no source.
@@ -77,6 +92,15 @@ right-time : (steps t : ℕ) → timeRight steps t ≡ true → (ltb steps t ≡
 right-time steps t e =
     let (a, b) = both-true (ltb 0 t) (leb t steps) e in
     (le-ltb steps t (leb-true t steps b), ne-eqb 0 t (λ q. omega (arith, ltb-true 0 t a)))
+
+-- Where a test of what is found keeps a time within the steps, the time need not be held against them.
+within-found : (steps t : ℕ) (o : Option ℕ) (f : ℕ → Bool) → ((b : ℕ) → o ≡ some b → f b ≡ true → t ≤ steps) → (ltb 0 t && ifFound o f) ≡ (timeRight steps t && ifFound o f)
+within-found steps t none f h = and-false (ltb 0 t) ∙ sym (and-false (timeRight steps t))
+within-found steps t (some b) f h = one (f b) (h b refl)
+  where
+    one : (v : Bool) → (v ≡ true → t ≤ steps) → (ltb 0 t && v) ≡ (timeRight steps t && v)
+    one true k = rw (le-leb t steps (k refl), and-true, and-true) refl
+    one false k = and-false (ltb 0 t) ∙ sym (and-false (timeRight steps t))
 
 -- The conditions on what node s made something from.
 pub record Named (l : Line) (s : ℕ) (o : Origin) : Type 0 where
@@ -122,7 +146,9 @@ module _ (l : Line) (line : Formed l) (s b : ℕ) (here : b < channelCount (l .p
   before-named : (o : Origin) → beforeRight l s b o ≡ (namedRight l s o && not (pastHeard (parents (l .plan) s) (laneAt l b .heard) o))
   unfolding beforeRight namedRight
   before-named fed = rw (heard-fed (parents (l .plan) s) (laneAt l b .heard), and-true (isSource (l .plan) s))
-  before-named (made q u) = one (timeRight (l .steps) u) (placeFrom (l .plan) q 0 (entering (l .plan) s)) refl
+  before-named (made q u) =
+      within-found (l .steps) u (placeFrom (l .plan) q 0 (entering (l .plan) s)) (λ (i : ℕ). leb u (getD (laneAt l b .heard) i 0)) (λ i e k. omega (arith, leb-true u (getD (laneAt l b .heard) i 0) k, line .heard-within b here i))
+      ∙ one (timeRight (l .steps) u) (placeFrom (l .plan) q 0 (entering (l .plan) s)) refl
     where
       one : (t : Bool) (o : Option ℕ) → placeFrom (l .plan) q 0 (entering (l .plan) s) ≡ o
           → (t && ifFound o (λ (i : ℕ). leb u (getD (laneAt l b .heard) i 0))) ≡ (t && ifFound (fromSender (l .plan) q (entering (l .plan) s)) (λ (c : ℕ). true) && not (pastHeard (parents (l .plan) s) (laneAt l b .heard) (made q u)))
@@ -198,13 +224,24 @@ module _ (l : Line) (line : Formed l) (n : ℕ) where
     maker = neither-true (isSource (l .plan) n) (originWrong (l .plan) s before) (c .makers) .0;
   }
 
+  -- The same test, with the time held against the steps.
+  origin-timed : (s t : ℕ) (before : Origin) → originRight l n (made s t) before ≡ (timeRight (l .steps) t && ifFound (fromSender (l .plan) s (entering (l .plan) n)) (λ (b : ℕ). leb t (laneAt l b .taken) && beforeRight l s b before))
+  unfolding originRight
+  origin-timed s t before =
+      within-found (l .steps) t (fromSender (l .plan) s (entering (l .plan) n)) (λ (b : ℕ). leb t (laneAt l b .taken) && beforeRight l s b before)
+      (λ b e k.
+      (let (i, _) = found-in (l .plan) s (entering (l .plan) n) b e in
+      let (late, _) = both-true (leb t (laneAt l b .taken)) (beforeRight l s b before) k in
+      omega (arith, leb-true t (laneAt l b .taken) late, line .taken-within b (entering-in (l .plan) n b i .0))))
+
   pub clean-right : (o before : Origin) → Clean l n o before → originRight l n o before ≡ true
   unfolding originRight namedRight
   clean-right fed before c =
       let (source, none-before) = neither-true (not (isSource (l .plan) n)) (not (isFed before)) (c .makers) in
       rw (not-false (isSource (l .plan) n) source, not-false (isFed before) none-before)
   clean-right (made s t) before c =
-      found-more (timeRight (l .steps) t) (fromSender (l .plan) s (entering (l .plan) n)) (λ (b : ℕ). leb t (laneAt l b .taken) && beforeRight l s b before)
+      origin-timed s t before
+      ∙ found-more (timeRight (l .steps) t) (fromSender (l .plan) s (entering (l .plan) n)) (λ (b : ℕ). leb t (laneAt l b .taken) && beforeRight l s b before)
       (named-right l n (made s t) (clean-named s t before c)) (λ b e. clean-on s t before b e c)
 
   pub right-clean : (o before : Origin) → originRight l n o before ≡ true → Clean l n o before
@@ -218,5 +255,5 @@ module _ (l : Line) (line : Formed l) (n : ℕ) where
   }
   right-clean fed (made q u) e = absurd (true≢false (sym (both-true (isSource (l .plan) n) false e .1)))
   right-clean (made s t) before e =
-      let (b, found, on, own) = found-less (timeRight (l .steps) t) (fromSender (l .plan) s (entering (l .plan) n)) (λ (b : ℕ). leb t (laneAt l b .taken) && beforeRight l s b before) e in
+      let (b, found, on, own) = found-less (timeRight (l .steps) t) (fromSender (l .plan) s (entering (l .plan) n)) (λ (b : ℕ). leb t (laneAt l b .taken) && beforeRight l s b before) (sym (origin-timed s t before) ∙ e) in
       on-clean s t before b found own on

@@ -1,8 +1,9 @@
 -- Tests that are each other's opposite, over several parts and over lists.
-use Prim.Native.Nat.{ℕ}
+use Prim.Native.Nat.{ℕ, zero, suc}
 use mathlib.Core.Path.{_≡_, refl, sym, ap, _∙_}
 use mathlib.Core.Bool.{Bool, true, false, not, _&&_, _||_, or-assoc, Bool·not-not}
 use mathlib.Core.List.{List, [], _∷_, _++_, map}
+use lib.ListN.{getD}
 use lib.Dec.{leb, ltb}
 use borrow.Author.Tests.{ltb-true, leb-false, lt-ltb, lt-leb}
 use Rattle.basics.specs.Bools.{both-true, neither-true}
@@ -62,6 +63,12 @@ module _ {A : Type 0} where
   pub each-all : (f : A → Bool) (xs : List A) → ((x : A) → In x xs → f x ≡ true) → allOf f xs ≡ true
   each-all f [] h = refl
   each-all f (x ∷ xs) h = rw (h x here, each-all f xs (λ y i. h y (there i)))
+
+  -- And of what stands at a place, if it holds of what stands for none.
+  pub all-at : (f : A → Bool) (xs : List A) (i : ℕ) (d : A) → f d ≡ true → allOf f xs ≡ true → f (getD xs i d) ≡ true
+  all-at f [] i d h e = h
+  all-at f (x ∷ xs) zero d h e = both-true (f x) (allOf f xs) e .0
+  all-at f (x ∷ xs) (suc i) d h e = all-at f xs i d h (both-true (f x) (allOf f xs) e .1)
 
   pub each-none : (f : A → Bool) (xs : List A) → ((x : A) → In x xs → f x ≡ false) → anyOf f xs ≡ false
   each-none f [] h = refl

@@ -41,17 +41,17 @@ unfolding entering isSource
 namedRight l s fed = isSource (l .plan) s
 namedRight l s (made q u) = timeRight (l .steps) u && ifFound (fromSender (l .plan) q (entering (l .plan) s)) (λ (b : ℕ). true)
 
--- The same of an input that came on channel b from node s: it does not pass what was heard there.
+-- The same of an input that came on channel b from node s: it does not pass what was heard there. A clock's entries are within the steps by the channel's own test, so a time that does not pass them is not held against the steps again.
 unfoldable pub beforeRight : Line → ℕ → ℕ → Origin → Bool
 unfolding entering isSource
 beforeRight l s b fed = isSource (l .plan) s
-beforeRight l s b (made q u) = timeRight (l .steps) u && ifFound (placeFrom (l .plan) q 0 (entering (l .plan) s)) (λ (i : ℕ). leb u (getD (laneAt l b .heard) i 0))
+beforeRight l s b (made q u) = ltb 0 u && ifFound (placeFrom (l .plan) q 0 (entering (l .plan) s)) (λ (i : ℕ). leb u (getD (laneAt l b .heard) i 0))
 
--- What node n made something from, and what that was made from.
+-- What node n made something from, and what that was made from: neither passes the node's clock.
 unfoldable pub originRight : Line → ℕ → Origin → Origin → Bool
 unfolding entering isSource beforeRight
 originRight l n fed before = isSource (l .plan) n && isFed before
-originRight l n (made s t) before = timeRight (l .steps) t && ifFound (fromSender (l .plan) s (entering (l .plan) n)) (λ (b : ℕ). leb t (laneAt l b .taken) && beforeRight l s b before)
+originRight l n (made s t) before = ltb 0 t && ifFound (fromSender (l .plan) s (entering (l .plan) n)) (λ (b : ℕ). leb t (laneAt l b .taken) && beforeRight l s b before)
 
 -- Times that rise strictly, from above the last so far, and none past the top.
 abbrev pub timesRise : {A : Type 0} → (A → ℕ) → ℕ → ℕ → List A → Bool

@@ -34,15 +34,15 @@ fn entry_plain(s: &[u8], at: usize) -> bool
 }
 
 // What a log entry was made from, and what that was made from.
-fn entry_made(s: &[u8], t: &[u8; 156], steps: u32, n: usize, at: usize) -> bool
-    requires { ⌜ Counted (now s) (now t) steps × (at + 24 ≤ length (now s)) ⌝ }
+fn entry_made(s: &[u8], t: &[u8; 156], n: usize, at: usize) -> bool
+    requires { ⌜ Ready (now s) × Table (now s) (now t) × (at + 24 ≤ length (now s)) ⌝ }
     ensures { λ r. ⌜ r ≡ entryMade n at (now (s .entry)) ⌝ }
 {
     let from = look::index(s[at + 12]);
     let time = bytes::get32(s, at + 13);
     let earlier = look::index(s[at + 17]);
     let since = bytes::get32(s, at + 18);
-    origin::origin_ok(s, t, steps, n, from, time, earlier, since)
+    origin::origin_ok(s, t, n, from, time, earlier, since)
 }
 
 // The log's entries, so many: their times rise to the node's.
@@ -60,7 +60,7 @@ fn entries_ok(s: &[u8], t: &[u8; 156], steps: u32, n: usize, at: usize, count: u
         if !(plain & ((last < time) & (time <= top))) {
             return false;
         }
-        if !entry_made(s, t, steps, n, slot) {
+        if !entry_made(s, t, n, slot) {
             return false;
         }
         last = time;
@@ -115,15 +115,15 @@ fn held_plain(s: &[u8], at: usize) -> bool
 }
 
 // What a held record was made from, a sender and its time, and what that was made from.
-fn held_made(s: &[u8], t: &[u8; 156], steps: u32, n: usize, at: usize) -> bool
-    requires { ⌜ Counted (now s) (now t) steps × (at + 20 ≤ length (now s)) ⌝ }
+fn held_made(s: &[u8], t: &[u8; 156], n: usize, at: usize) -> bool
+    requires { ⌜ Ready (now s) × Table (now s) (now t) × (at + 20 ≤ length (now s)) ⌝ }
     ensures { λ r. ⌜ r ≡ heldMade n at (now (s .entry)) ⌝ }
 {
     let sender = look::index(s[at + 8]);
     let time = bytes::get32(s, at + 9);
     let earlier = look::index(s[at + 13]);
     let since = bytes::get32(s, at + 14);
-    origin::made_ok(s, t, steps, n, sender, time, earlier, since)
+    origin::made_ok(s, t, n, sender, time, earlier, since)
 }
 
 // The last time of each row, by sender: a plan has at most 12 nodes.
@@ -163,7 +163,7 @@ fn held_each_ok(s: &[u8], t: &[u8; 156], steps: u32, n: usize, at: usize, count:
         if !(plain & (row < time)) {
             return false;
         }
-        let made = held_made(s, t, steps, n, slot);
+        let made = held_made(s, t, n, slot);
         let passed = passed_on(s, n, mask, slot);
         if !(made & passed) {
             return false;

@@ -58,7 +58,8 @@ returns c =
 entry-made-requires : tie.Need-entry-made-requires Inv-loop μ-loop
 entry-made-requires c κs =
     let v = c .before .before .before .before .loop .inv in
-    (c .before .before .before .before .before .before .before .pre .0 .counted, omega (arith, v .there, v .fits, v .within))
+    let counted = c .before .before .before .before .before .before .before .pre .0 .counted in
+    (counted .ready, counted .tabled, omega (arith, v .there, v .fits, v .within))
 
 returns-2 : tie.Need-returns-2 Inv-loop μ-loop
 returns-2 c =

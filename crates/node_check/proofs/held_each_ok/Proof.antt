@@ -62,7 +62,8 @@ held-made-requires : tie.Need-held-made-requires Inv-loop μ-loop
 held-made-requires c κs =
     let loop = c .before .before .before .before .before .before .before .before in
     let v = loop .loop .inv .1 in
-    (loop .before .before .before .before .pre .0 .counted, omega (arith, v .there, v .fits, v .within))
+    let counted = loop .before .before .before .before .pre .0 .counted in
+    (counted .ready, counted .tabled, omega (arith, v .there, v .fits, v .within))
 
 passed-on-requires : tie.Need-passed-on-requires Inv-loop μ-loop
 passed-on-requires c κs =

@@ -18,7 +18,7 @@ returns c =
     let s = a .s .now in
     rw (start .pre .0 .same)
     (target-tested (lineOf s) (a .n) (a .at) s (start .pre .1) (time .get32 .result) (other .get322 .result) (parent .index .result) (time .get32 .ensures) (other .get322 .ensures) (parent .index .ensures .0) (not (eqb (found .joined .result) 255))
-    (parent-coded s (a .t .now) (a .steps) (start .pre .0) (a .n) (parent .index .result) (found .joined .result) (found .joined .ensures)))
+    (parent-coded s (start .pre .0 .ready) (a .n) (parent .index .result) (found .joined .result) (found .joined .ensures)))
 
 pub target-ok-spec : {M : Type 1} → statement M
 target-ok-spec =

@@ -13,14 +13,14 @@ returns : tie.Need-returns
 returns c =
     let a = c .before .before .before .args in
     let k = c .before .before .before .pre in
-    ap (λ (v : Bool). v && eqb (a .time) 0) (c .source-in .ensures) ∙ before-fed (a .s .now) (a .t .now) (a .steps) (k .0) (a .sender) (a .b) (k .1) (k .2) (a .from) (a .time) (c .before .if1 .taken)
+    ap (λ (v : Bool). v && eqb (a .time) 0) (c .source-in .ensures) ∙ before-fed (a .s .now) (k .0) (a .sender) (a .b) (k .2) (k .3) (a .from) (a .time) (c .before .if1 .taken)
 
 returns-2 : tie.Need-returns-2
 returns-2 c =
     let a = c .before .before .before .before .args in
     let k = c .before .before .before .before .pre in
     let code = c .before .joined in
-    before-missing (a .s .now) (a .t .now) (a .steps) (k .0) (a .sender) (a .b) (k .1) (k .2) (a .from) (a .time) (c .before .before .if1 .left) (not-placed (a .s .now) (k .0 .ready) (a .from - 1) (a .sender) (code .result) (code .ensures) (c .if2 .taken))
+    before-missing (a .s .now) (k .0) (a .sender) (a .b) (k .2) (k .3) (a .from) (a .time) (c .before .before .if1 .left) (not-placed (a .s .now) (k .0) (a .from - 1) (a .sender) (code .result) (code .ensures) (c .if2 .taken))
 
 get32-requires : tie.Need-get32-requires
 get32-requires c κs =
@@ -28,7 +28,7 @@ get32-requires c κs =
     let a = start .args in
     let k = start .pre in
     let code = c .before .joined in
-    omega (arith, k .0 .ready .long, k .0 .ready .channels, k .1, coded (a .s .now) (k .0 .ready) (a .from - 1) (a .sender) (code .result) (code .ensures) (c .if2 .left) .small)
+    omega (arith, k .0 .long, k .0 .channels, k .2, coded (a .s .now) (k .0) (a .from - 1) (a .sender) (code .result) (code .ensures) (c .if2 .left) .small)
 
 returns-3 : tie.Need-returns-3
 returns-3 c =
@@ -36,7 +36,7 @@ returns-3 c =
     let k = c .before .before .before .before .before .pre in
     let code = c .before .before .joined in
     rw (c .get32 .ensures)
-    (before-there (a .s .now) (a .t .now) (a .steps) (k .0) (a .sender) (a .b) (k .1) (k .2) (a .from) (a .time) (c .before .before .before .if1 .left) (code .result / 32) (coded (a .s .now) (k .0 .ready) (a .from - 1) (a .sender) (code .result) (code .ensures) (c .before .if2 .left) .placed))
+    (before-there (a .s .now) (k .0) (a .sender) (a .b) (k .2) (k .3) (a .from) (a .time) (c .before .before .before .if1 .left) (code .result / 32) (coded (a .s .now) (k .0) (a .from - 1) (a .sender) (code .result) (code .ensures) (c .before .if2 .left) .placed))
 
 pub before-ok-spec : {M : Type 1} → statement M
 before-ok-spec =
