@@ -13,7 +13,7 @@ use Rattle.rules.specs.Recover.{lowOf, restored, targetsOf, conflict, rowGoal, 
 use Rattle.rules.specs.Replay.{isHeld, replayEnd, endedIfComplete}
 use Rattle.rules.specs.Step.{replaying, recoveredLine, recoverGives}
 use Rattle.rules.specs.Damaged.{sameTargets, replaysAs, replayWrong}
-use Rattle.rules.proofs.Members.{In, here, there}
+use Rattle.rules.proofs.Members.{In}
 use Rattle.rules.proofs.LineLaws.{node-there, plan-kept}
 use Rattle.rules.proofs.LanesLaws.{lanes-node, lanes-plan}
 use Rattle.rules.proofs.Swept.{swept-enters}
