@@ -106,12 +106,20 @@ replayRight l n =
     leb (length (targetsOf l n)) targetLimit && not (conflict (targetsOf l n)) && not (isEmpty (targetsOf l n)) && not (allOf (rowRestored l n) (entering (l .plan) n))
     && eqb (nodeAt l n .time) (lowOf l n) && sameTargets (nodeAt l n .targets) (targetsOf l n)
 
-unfoldable pub nodeRight : Line → ℕ → Bool
-unfolding countsRight logRight heldAllRight targetRight statusRight replayRight
-nodeRight l n =
+-- A node but for what a replay asks; what a replay asks; both.
+unfoldable pub nodePlain : Line → ℕ → Bool
+unfolding countsRight logRight heldAllRight targetRight statusRight
+nodePlain l n =
     let x = nodeAt l n in
     countsRight x && leb (x .time) (l .steps) && logRight l n (x .log) && heldAllRight l n (x .held) && allOf (targetRight l n) (x .targets) && statusRight (l .plan) n x
-    && (not (replaying l n) || replayRight l n)
+
+unfoldable pub replayPlain : Line → ℕ → Bool
+unfolding replayRight
+replayPlain l n = not (replaying l n) || replayRight l n
+
+unfoldable pub nodeRight : Line → ℕ → Bool
+unfolding nodePlain replayPlain
+nodeRight l n = nodePlain l n && replayPlain l n
 
 -- A message; its own time is tested in the pass over the queue, which is empty where an end is down. Then the channel.
 unfoldable pub messageRight : Line → ℕ → Message → Bool

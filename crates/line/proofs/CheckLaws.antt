@@ -21,11 +21,10 @@ use Rattle.rules.specs.Step.{replaying}
 use Rattle.state.specs.Sizes.{stateSize, pageSize, planArea, stepsAt, countSize, stepsRest, nodePages, pageAt, laneBlocks, blockSize, blocksAt, blockAt, tailAt, tailSize}
 use Rattle.state.specs.State.{lineOf}
 use Rattle.state.proofs.StoredPlan.{storedPlan, stored-accepted}
-use Rattle.items.specs.Items.{replayRight}
+use Rattle.items.specs.Items.{replayRight, nodePlain, replayPlain}
 use Rattle.buffer.specs.Exact.{zeroAt, pageExact}
 use Rattle.buffer.specs.Ready.{Ready}
-use Rattle.node_check.specs.NodeCheck.{nodePlain}
-use Rattle.line.specs.Whole.{PagesRight, planExact, restExact, replayPlain, nodeChecked, channelChecked, stateChecked}
+use Rattle.line.specs.Whole.{PagesRight, planExact, restExact, nodeChecked, channelChecked, stateChecked}
 use Rattle.line.proofs.LoadLaws.{plan-short}
 use Rattle.line.proofs.ExactLaws.{page-stands}
 use Rattle.state.proofs.PlanFitting.{fits-counted}

@@ -24,11 +24,10 @@ use Rattle.state.proofs.InPlace.{Counted, line-plan, nodes-counted, lanes-count
 use Rattle.state.proofs.PlanFitting.{fits-counted, few-heard, heard-long}
 use Rattle.state.proofs.StoredPlan.{storedPlan, stored-accepted}
 use Rattle.state.proofs.AcceptedState.{state-checked}
-use Rattle.items.specs.Items.{nodeRight, channelRight, shapeRight, lineRight}
+use Rattle.items.specs.Items.{nodeRight, channelRight, shapeRight, lineRight, nodePlain, replayPlain}
 use Rattle.items.proofs.LineItems.{line-items}
 use Rattle.buffer.specs.Exact.{pageExact, blockExact}
-use Rattle.node_check.specs.NodeCheck.{nodePlain}
-use Rattle.line.specs.Whole.{planExact, restExact, replayPlain, nodeChecked, channelChecked, stateChecked}
+use Rattle.line.specs.Whole.{planExact, restExact, nodeChecked, channelChecked, stateChecked}
 use Rattle.line.proofs.ExactLaws.{Stands, and-stands, eqb-stands, zero-stands, page-stands, block-stands}
 
 -- A test of each of some numbers.

@@ -1,21 +1,19 @@
 -- The whole state as the check goes over it. `check-answer` of the proofs says that it is `stateAnswer`; the outer contract does not rest on believing this.
 use Prim.Native.Nat.{ℕ, _+_, _*_, _-_, _<_}
-use mathlib.Core.Bool.{Bool, not, _&&_, _||_}
+use mathlib.Core.Bool.{Bool, not, _&&_}
 use mathlib.Core.List.{List}
 use lib.ListN.{take}
 use lib.Dec.{leb, eqb}
 use Rattle.plan.specs.Plan.{planOf, planSize, planNodes, planChannels, channelAt}
 use Rattle.plan.specs.Check.{planRefusal}
 use Rattle.rules.specs.Lists.{allOf, upTo}
-use Rattle.rules.specs.Line.{stepLimit, Line}
-use Rattle.rules.specs.Step.{replaying}
+use Rattle.rules.specs.Line.{stepLimit}
 use Rattle.state.specs.Sizes.{planArea, stepsAt, countSize, stepsRest, pageAt, pageSize, nodePages, blockAt, blockSize, laneBlocks, tailAt, tailSize}
 use Rattle.state.specs.Right.{NodeRight}
 use Rattle.state.specs.Lane.{heardCount}
 use Rattle.state.specs.State.{lineOf}
-use Rattle.items.specs.Items.{replayRight, channelRight}
+use Rattle.items.specs.Items.{nodePlain, replayPlain, channelRight}
 use Rattle.buffer.specs.Exact.{zeroAt, pageExact, blockExact}
-use Rattle.node_check.specs.NodeCheck.{nodePlain}
 
 -- The stored plan would not be refused, and nothing stands behind it.
 unfoldable pub planExact : List ℕ → Bool
@@ -32,11 +30,6 @@ restExact s =
 -- Every node's page has right bytes, so its counts are within their limits.
 abbrev pub PagesRight : List ℕ → Type 0
 PagesRight s = (k : ℕ) → k < planNodes s → NodeRight (pageAt k) s
-
--- What a replay asks of a node.
-unfoldable pub replayPlain : Line → ℕ → Bool
-unfolding replayRight
-replayPlain l n = not (replaying l n) || replayRight l n
 
 unfoldable pub nodeChecked : List ℕ → ℕ → Bool
 unfolding pageExact nodePlain

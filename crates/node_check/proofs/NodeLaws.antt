@@ -21,9 +21,9 @@ use Rattle.state.specs.State.{lineOf}
 use Rattle.state.specs.Right.{wordAt}
 use Rattle.state.proofs.InPlace.{Counted as Few, line-plan, line-steps}
 use Rattle.state.proofs.OffsetLaws.{line-status, line-crashed, line-time, line-log-count, line-log-at, line-held-count, line-held-at, line-targets-count, line-target-at}
-use Rattle.items.specs.Items.{timesRise, entryRight, logRight, heldRise, noneHeld, heldRight, heldAllRight, targetRight, countsRight, statusRight}
+use Rattle.items.specs.Items.{timesRise, entryRight, logRight, heldRise, noneHeld, heldRight, heldAllRight, targetRight, countsRight, statusRight, nodePlain}
 use Rattle.buffer.specs.Exact.{zeroAt, entryExact, heldExact, targetExact, slotsExact, listExact, pageExact}
-use Rattle.node_check.specs.NodeCheck.{headExact, entryPlain, entryMade, heldPlain, heldMade, holdsNothing, nodePlain}
+use Rattle.node_check.specs.NodeCheck.{headExact, entryPlain, entryMade, heldPlain, heldMade, holdsNothing}
 use Rattle.buffer.specs.Ready.{Ready}
 use Rattle.buffer.specs.Table.{Table}
 use Rattle.buffer.specs.Check.{Counted, PageOf, recordIn, entryIn, heldIn, targetIn}

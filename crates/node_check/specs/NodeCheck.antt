@@ -1,22 +1,15 @@
--- What the check of a node's page finds besides right bytes: a node that is right, but for what a replay asks.
+-- What the check of a node's page goes by: its head, its slots one by one, and what a node of a status may not hold.
 use Prim.Native.Nat.{ℕ, zero, suc, _+_}
 use mathlib.Core.Bool.{Bool, _&&_}
 use mathlib.Core.List.{List}
 use lib.ListN.{getD}
 use lib.Dec.{leb, eqb}
-use Rattle.rules.specs.Lists.{allOf}
-use Rattle.rules.specs.Line.{Line, nodeAt, made}
+use Rattle.rules.specs.Line.{made}
 use Rattle.state.specs.Sizes.{statusAt, crashedAt}
 use Rattle.state.specs.State.{lineOf}
 use Rattle.buffer.specs.Exact.{zeroAt, recordExact, originExact}
 use Rattle.buffer.specs.Check.{recordIn, entryIn, heldIn}
-use Rattle.items.specs.Items.{recordRight, originRight, countsRight, logRight, heldAllRight, targetRight, statusRight}
-
-unfoldable pub nodePlain : Line → ℕ → Bool
-unfolding countsRight logRight heldAllRight targetRight statusRight
-nodePlain l n =
-    let x = nodeAt l n in
-    countsRight x && leb (x .time) (l .steps) && logRight l n (x .log) && heldAllRight l n (x .held) && allOf (targetRight l n) (x .targets) && statusRight (l .plan) n x
+use Rattle.items.specs.Items.{recordRight, originRight}
 
 -- The head of a page at a: status, crash mark, two bytes unused.
 abbrev pub headExact : ℕ → List ℕ → Bool

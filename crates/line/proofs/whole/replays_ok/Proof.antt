@@ -1,7 +1,7 @@
 use Prim.Native.Nat.{_-_}
 use native.Mathlib.Omega.{arith}
 use Rattle.state.specs.State.{lineOf}
-use Rattle.line.specs.Whole.{replayPlain}
+use Rattle.items.specs.Items.{replayPlain}
 use Rattle.line.proofs.CheckLaws.{Tested, tested-start, tested-turn, tested-end}
 use Rattle.line.proofs.whole.replays_ok.Statement.{statement}
 use Rattle.line.proofs.whole.replays_ok.Tie as tie
