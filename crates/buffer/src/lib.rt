@@ -1,5 +1,6 @@
 // The lent buffer of a line: its limits, its bytes, the plan at its front and what things in it were made from, read in place.
 pub mod bytes;
+pub mod layout;
 pub mod look;
 pub mod origin;
 pub mod table;

@@ -13,6 +13,7 @@ ghost use Rattle.buffer.specs.Check.{recordIn};
 ghost use Rattle.buffer.specs.Ready.{Ready};
 ghost use Rattle.buffer.specs.Table.{Table};
 use crate::bytes;
+use crate::layout;
 use crate::table;
 
 // A record: its material and its zero byte.
@@ -36,7 +37,10 @@ pub fn before_ok(s: &[u8], t: &[u8; 156], sender: usize, b: usize, from: usize, 
     if code == 255 {
         return false;
     }
-    let heard = bytes::get32(s, 53_248 + 320 * b + (8 + 4 * (code / 32)));
+    let heard = bytes::get32(
+        s,
+        layout::BLOCKS + layout::BLOCK * b + (layout::HEARD + 4 * (code / 32)),
+    );
     (0 < time) & (time <= heard)
 }
 
@@ -57,7 +61,10 @@ pub fn made_ok(
     if code == 255 {
         return false;
     }
-    let taken = bytes::get32(s, 53_248 + 320 * (code % 32) + 4);
+    let taken = bytes::get32(
+        s,
+        layout::BLOCKS + layout::BLOCK * (code % 32) + layout::TAKEN,
+    );
     let rest = before_ok(s, t, sender, code % 32, earlier, since);
     (0 < time) & ((time <= taken) & rest)
 }

@@ -87,11 +87,12 @@ word-turn s from k i seen word e f g =
 
 -- What a block leaves unused behind the queue: up to the block's end.
 pub behind-at : (s : List ℕ) (a count : ℕ) → count ≤ queueLimit
-    → zeroAt (a + 24 + 4 + 20 * count) (a + 320 - (a + 24 + 4 + 20 * count)) s ≡ (zeroAt (a + 24 + 4 + 20 * count) (20 * (queueLimit - count)) s && zeroAt (a + laneRestAt) laneRest s)
+    → zeroAt (a + 28 + 20 * count) (a + 320 - (a + 28 + 20 * count)) s ≡ (zeroAt (a + 24 + 4 + 20 * count) (20 * (queueLimit - count)) s && zeroAt (a + laneRestAt) laneRest s)
 behind-at s a count k =
+    let same : a + 28 + 20 * count ≡ a + 24 + 4 + 20 * count = omega arith in
     let wide : a + 320 - (a + 24 + 4 + 20 * count) ≡ 20 * (queueLimit - count) + laneRest = omega arith in
     let rest : a + 24 + 4 + 20 * count + 20 * (queueLimit - count) ≡ a + laneRestAt = omega arith in
-    rw (wide, ← rest) (zero-parts (a + 24 + 4 + 20 * count) (20 * (queueLimit - count)) laneRest s)
+    rw (same, wide, ← rest) (zero-parts (a + 24 + 4 + 20 * count) (20 * (queueLimit - count)) laneRest s)
 
 -- ---- empty queues
 

@@ -21,6 +21,7 @@ ghost use Rattle.buffer.specs.Check.{Counted};
 ghost use Rattle.channel_check.specs.Channel.{Ends, QueueFits, messageOk};
 use buffer::Line;
 use buffer::bytes;
+use buffer::layout;
 use buffer::look;
 use buffer::origin;
 use buffer::table;
@@ -36,7 +37,7 @@ fn is_down(s: &[u8], n: usize) -> bool
     requires { ⌜ Ready (now s) × (n < planNodes (now s)) ⌝ }
     ensures { λ r. ⌜ r ≡ nodeDown (lineOf (now (s .entry))) n ⌝ }
 {
-    bytes::get8(s, 4096 * (1 + n)) == 1
+    bytes::get8(s, layout::PAGE * (1 + n)) == 1
 }
 
 // Whether a node replays.
@@ -44,7 +45,7 @@ pub fn is_replaying(s: &[u8], n: usize) -> bool
     requires { ⌜ Ready (now s) × (n < planNodes (now s)) ⌝ }
     ensures { λ r. ⌜ r ≡ replaying (lineOf (now (s .entry))) n ⌝ }
 {
-    1 < bytes::get8(s, 4096 * (1 + n))
+    1 < bytes::get8(s, layout::PAGE * (1 + n))
 }
 
 // Whether a node bears a crash mark.
@@ -52,7 +53,7 @@ fn has_crashed(s: &[u8], n: usize) -> bool
     requires { ⌜ Ready (now s) × (n < planNodes (now s)) ⌝ }
     ensures { λ r. ⌜ r ≡ nodeAt (lineOf (now (s .entry))) n .crashed ⌝ }
 {
-    0 < bytes::get8(s, 4096 * (1 + n) + 1)
+    0 < bytes::get8(s, layout::PAGE * (1 + n) + 1)
 }
 
 // Whether an end of a channel is down.
@@ -74,11 +75,11 @@ fn most_heard(s: &[u8], b: usize, heard: usize) -> u32
     requires { ⌜ OnChannel (now s) b × (heard ≡ heardCount (planOf (now s)) (channelAt (planOf (now s)) b)) ⌝ }
     ensures { λ r. ⌜ r ≡ greatestOf (laneAt (lineOf (now (s .entry))) b .taken ∷ laneAt (lineOf (now (s .entry))) b .heard) ⌝ }
 {
-    let at = 53_248 + 320 * b;
-    let mut most = bytes::get32(s, at + 4);
+    let at = layout::BLOCKS + layout::BLOCK * b;
+    let mut most = bytes::get32(s, at + layout::TAKEN);
     let mut i: usize = 0;
     while i < heard {
-        most = larger(most, bytes::get32(s, at + (8 + 4 * i)));
+        most = larger(most, bytes::get32(s, at + (layout::HEARD + 4 * i)));
         i += 1;
     }
     most
@@ -89,11 +90,11 @@ fn unheard_zero(s: &[u8], b: usize, heard: usize) -> bool
     requires { ⌜ OnChannel (now s) b × (heard ≤ 4) ⌝ }
     ensures { λ r. ⌜ r ≡ zeroAt (blockAt b + heardAt + 4 * heard) (4 * (parentLimit - heard)) (now (s .entry)) ⌝ }
 {
-    let at = 53_248 + 320 * b;
+    let at = layout::BLOCKS + layout::BLOCK * b;
     let mut seen: u32 = 0;
     let mut i = heard;
     while i < 4 {
-        seen = seen | bytes::get32(s, at + (8 + 4 * i));
+        seen = seen | bytes::get32(s, at + (layout::HEARD + 4 * i));
         i += 1;
     }
     seen == 0
@@ -106,9 +107,13 @@ fn zeros_ok(s: &[u8], b: usize, heard: usize, count: u32) -> bool
         && (zeroAt (blockAt b + queueAt + countSize + messageSize * count) (messageSize * (8 - count)) (now (s .entry))
         && zeroAt (blockAt b + laneRestAt) laneRest (now (s .entry)))) ⌝ }
 {
-    let at = 53_248 + 320 * b;
+    let at = layout::BLOCKS + layout::BLOCK * b;
     let unheard = unheard_zero(s, b, heard);
-    let rest = bytes::all_zero(s, at + 24 + 4 + 20 * wide(count), at + 320);
+    let rest = bytes::all_zero(
+        s,
+        at + layout::QUEUE_SLOTS + layout::MESSAGE_SIZE * wide(count),
+        at + layout::BLOCK,
+    );
     unheard & rest
 }
 
@@ -126,7 +131,7 @@ fn ends_ok(
         × (most ≡ greatestOf (laneAt (lineOf (now s)) b .taken ∷ laneAt (lineOf (now s)) b .heard)) ⌝ }
     ensures { λ r. ⌜ r ≡ (not (marksJoined (lineOf (now (s .entry))) b) && not (channelHolds (lineOf (now (s .entry))) b)) ⌝ }
 {
-    let unmarked = bytes::get32(s, 53_248 + 320 * b) == 0;
+    let unmarked = bytes::get32(s, layout::BLOCKS + layout::BLOCK * b) == 0;
     let empty = count == 0;
     let down = is_down(s, receiver);
     let replays = is_replaying(s, sender);
@@ -174,18 +179,18 @@ fn queue_ok(
     ensures { λ r. ⌜ r ≡ (slotsExact messageExact messageSize (blockAt b + queueAt + countSize) count (now (s .entry))
         && queueRight (lineOf (now (s .entry))) b (laneAt (lineOf (now (s .entry))) b .queue)) ⌝ }
 {
-    let mut at = 53_248 + 320 * b;
+    let mut at = layout::BLOCKS + layout::BLOCK * b;
     let mark = bytes::get32(s, at);
-    let mut last = bytes::get32(s, at + 4);
+    let mut last = bytes::get32(s, at + layout::TAKEN);
     let mut ok = stopped | (last <= mark);
     let mut left = count;
-    at += 28;
+    at += layout::QUEUE_SLOTS;
     while 0 < left {
         let time = bytes::get32(s, at + 8);
         let here = message_ok(s, t, steps, sender, at);
         ok = ok & here & (stopped | ((last < time) & (time <= mark)));
         last = time;
-        at += 20;
+        at += layout::MESSAGE_SIZE;
         left -= 1;
     }
     ok
@@ -197,8 +202,8 @@ pub fn channel_ok(s: &[u8], t: &[u8; 156], b: usize, steps: u32) -> bool
     ensures { λ r. ⌜ r ≡ (blockExact (heardCount (planOf (now (s .entry))) (channelAt (planOf (now (s .entry))) b)) (blockAt b) (now (s .entry))
         && channelRight (lineOf (now (s .entry))) b) ⌝ }
 {
-    let at = 53_248 + 320 * b;
-    let count = bytes::get32(s, at + 24);
+    let at = layout::BLOCKS + layout::BLOCK * b;
+    let count = bytes::get32(s, at + layout::QUEUE);
     if Line::QUEUE_LIMIT < count {
         return false;
     }

@@ -5,7 +5,9 @@ ghost use lib.ListN.{length};
 ghost use Rattle.plan.specs.Plan.{planSize, planNodes, planChannels};
 ghost use Rattle.state.specs.Sizes.{stateSize, nodePages, laneBlocks};
 ghost use Rattle.line.specs.Whole.{planExact, restExact};
+use buffer::Line;
 use buffer::bytes;
+use buffer::layout;
 use buffer::look;
 
 // How long the stored plan is, by its own counts.
@@ -27,7 +29,7 @@ pub fn plan_ok(s: &[u8]) -> bool
     if plan::plan_check(&s[0..size]) != 0 {
         return false;
     }
-    bytes::all_zero(s, size, 512)
+    bytes::all_zero(s, size, layout::STEPS)
 }
 
 // Whether nothing stands in the parts that the plan leaves unused.
@@ -35,9 +37,9 @@ pub fn rest_ok(s: &[u8], n: usize, m: usize) -> bool
     requires { ⌜ (length (now s) ≡ stateSize) × (n ≡ planNodes (now s)) × (m ≡ planChannels (now s)) × (n ≤ nodePages) × (m ≤ laneBlocks) ⌝ }
     ensures { λ r. ⌜ r ≡ restExact (now (s .entry)) ⌝ }
 {
-    let a = bytes::all_zero(s, 516, 4096);
-    let b = bytes::all_zero(s, 4096 * (1 + n), 53_248);
-    let c = bytes::all_zero(s, 53_248 + 320 * m, 60_928);
-    let d = bytes::all_zero(s, 60_928, 61_440);
+    let a = bytes::all_zero(s, layout::STEPS_REST, layout::PAGE);
+    let b = bytes::all_zero(s, layout::PAGE * (1 + n), layout::BLOCKS);
+    let c = bytes::all_zero(s, layout::BLOCKS + layout::BLOCK * m, layout::TAIL);
+    let d = bytes::all_zero(s, layout::TAIL, Line::STATE_SIZE);
     ((a & b) & c) & d
 }

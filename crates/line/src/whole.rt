@@ -15,6 +15,7 @@ ghost use Rattle.line.specs.Whole.{PagesRight, planExact, nodeChecked, c
 use crate::check;
 use buffer::Line;
 use buffer::bytes;
+use buffer::layout;
 use buffer::look;
 use buffer::table;
 
@@ -76,7 +77,7 @@ fn line_ok(s: &[u8], n: usize, m: usize) -> bool
     requires { ⌜ Ready (now s) × (planExact (now s) ≡ true) × (n ≡ planNodes (now s)) × (m ≡ planChannels (now s)) ⌝ }
     ensures { λ r. ⌜ r ≡ stateChecked (now (s .entry)) ⌝ }
 {
-    let steps = bytes::get32(s, 512);
+    let steps = bytes::get32(s, layout::STEPS);
     let rest = check::rest_ok(s, n, m);
     let mut t: [u8; 156] = [255; 156];
     table::fill(s, &mut t);

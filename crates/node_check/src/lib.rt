@@ -20,6 +20,7 @@ ghost use Rattle.buffer.specs.Ready.{Ready};
 ghost use Rattle.buffer.specs.Table.{Table};
 use buffer::Line;
 use buffer::bytes;
+use buffer::layout;
 use buffer::look;
 use buffer::origin;
 use buffer::table;
@@ -50,9 +51,9 @@ fn entries_ok(s: &[u8], t: &[u8; 156], steps: u32, n: usize, at: usize, count: u
     requires { ⌜ PageOf (now s) (now t) steps n at × (count ≡ wordAt (pageAt n + logAt) (now s)) × (count ≤ logLimit) ⌝ }
     ensures { λ r. ⌜ r ≡ (slotsExact entryExact entrySize (pageAt n + logAt + countSize) count (now (s .entry)) && logRight (lineOf (now (s .entry))) n (nodeAt (lineOf (now (s .entry))) n .log)) ⌝ }
 {
-    let top = bytes::get32(s, at + 4);
+    let top = bytes::get32(s, at + layout::TIME);
     let mut last: u32 = 0;
-    let mut slot = at + 12;
+    let mut slot = at + layout::LOG_SLOTS;
     let mut left = count;
     while 0 < left {
         let time = bytes::get32(s, slot + 8);
@@ -64,7 +65,7 @@ fn entries_ok(s: &[u8], t: &[u8; 156], steps: u32, n: usize, at: usize, count: u
             return false;
         }
         last = time;
-        slot += 24;
+        slot += layout::ENTRY_SIZE;
         left -= 1;
     }
     true
@@ -75,12 +76,16 @@ fn log_ok(s: &[u8], t: &[u8; 156], steps: u32, n: usize, at: usize) -> bool
     requires { ⌜ PageOf (now s) (now t) steps n at ⌝ }
     ensures { λ r. ⌜ r ≡ (listExact entryExact logLimit entrySize (pageAt n + logAt) (now (s .entry)) && logRight (lineOf (now (s .entry))) n (nodeAt (lineOf (now (s .entry))) n .log)) ⌝ }
 {
-    let count = bytes::get32(s, at + 8);
+    let count = bytes::get32(s, at + layout::LOG);
     if Line::LOG_LIMIT < count {
         return false;
     }
     let used = entries_ok(s, t, steps, n, at, count);
-    let unused = bytes::all_zero(s, at + 12 + 24 * (count as usize), at + 1548);
+    let unused = bytes::all_zero(
+        s,
+        at + layout::LOG_SLOTS + layout::ENTRY_SIZE * (count as usize),
+        at + layout::HELD,
+    );
     used & unused
 }
 
@@ -153,7 +158,7 @@ fn held_each_ok(s: &[u8], t: &[u8; 156], steps: u32, n: usize, at: usize, count:
     }
     let mask = plan::leaving_mask(s, n);
     let mut last: [u32; 12] = [0; 12];
-    let mut slot = at + 1552;
+    let mut slot = at + layout::HELD_SLOTS;
     let mut left = count;
     while 0 < left {
         let sender = look::index(s[slot + 8]);
@@ -169,7 +174,7 @@ fn held_each_ok(s: &[u8], t: &[u8; 156], steps: u32, n: usize, at: usize, count:
             return false;
         }
         row_set(&mut last, sender, time);
-        slot += 20;
+        slot += layout::HELD_SIZE;
         left -= 1;
     }
     true
@@ -180,12 +185,16 @@ fn held_ok(s: &[u8], t: &[u8; 156], steps: u32, n: usize, at: usize) -> bool
     requires { ⌜ PageOf (now s) (now t) steps n at ⌝ }
     ensures { λ r. ⌜ r ≡ (listExact heldExact heldLimit heldSize (pageAt n + heldAt) (now (s .entry)) && heldAllRight (lineOf (now (s .entry))) n (nodeAt (lineOf (now (s .entry))) n .held)) ⌝ }
 {
-    let count = bytes::get32(s, at + 1548);
+    let count = bytes::get32(s, at + layout::HELD);
     if Line::HELD_LIMIT < count {
         return false;
     }
     let used = held_each_ok(s, t, steps, n, at, count);
-    let unused = bytes::all_zero(s, at + 1552 + 20 * (count as usize), at + 2832);
+    let unused = bytes::all_zero(
+        s,
+        at + layout::HELD_SLOTS + layout::HELD_SIZE * (count as usize),
+        at + layout::TARGETS,
+    );
     used & unused
 }
 
@@ -207,13 +216,13 @@ fn target_each_ok(s: &[u8], t: &[u8; 156], steps: u32, n: usize, at: usize, coun
     requires { ⌜ PageOf (now s) (now t) steps n at × (count ≡ wordAt (pageAt n + targetsAt) (now s)) × (count ≤ targetLimit) ⌝ }
     ensures { λ r. ⌜ r ≡ (slotsExact targetExact targetSize (pageAt n + targetsAt + countSize) count (now (s .entry)) && allOf (targetRight (lineOf (now (s .entry))) n) (nodeAt (lineOf (now (s .entry))) n .targets)) ⌝ }
 {
-    let mut slot = at + 2836;
+    let mut slot = at + layout::TARGET_SLOTS;
     let mut left = count;
     while 0 < left {
         if !target_ok(s, t, steps, n, slot) {
             return false;
         }
-        slot += 12;
+        slot += layout::TARGET_SIZE;
         left -= 1;
     }
     true
@@ -224,12 +233,16 @@ fn targets_ok(s: &[u8], t: &[u8; 156], steps: u32, n: usize, at: usize) -> bool
     requires { ⌜ PageOf (now s) (now t) steps n at ⌝ }
     ensures { λ r. ⌜ r ≡ (listExact targetExact targetLimit targetSize (pageAt n + targetsAt) (now (s .entry)) && allOf (targetRight (lineOf (now (s .entry))) n) (nodeAt (lineOf (now (s .entry))) n .targets)) ⌝ }
 {
-    let count = bytes::get32(s, at + 2832);
+    let count = bytes::get32(s, at + layout::TARGETS);
     if Line::TARGET_LIMIT < count {
         return false;
     }
     let used = target_each_ok(s, t, steps, n, at, count);
-    let unused = bytes::all_zero(s, at + 2836 + 12 * (count as usize), at + 3604);
+    let unused = bytes::all_zero(
+        s,
+        at + layout::TARGET_SLOTS + layout::TARGET_SIZE * (count as usize),
+        at + layout::PAGE_REST,
+    );
     used & unused
 }
 
@@ -238,7 +251,7 @@ fn head_ok(s: &[u8], t: &[u8; 156], steps: u32, n: usize, at: usize) -> bool
     requires { ⌜ PageOf (now s) (now t) steps n at ⌝ }
     ensures { λ r. ⌜ r ≡ (headExact (pageAt n) (now (s .entry)) && leb (nodeAt (lineOf (now (s .entry))) n .time) (lineOf (now (s .entry)) .steps)) ⌝ }
 {
-    let time = bytes::get32(s, at + 4);
+    let time = bytes::get32(s, at + layout::TIME);
     let unused = (s[at + 2] | s[at + 3]) == 0;
     (s[at] <= 2) & (s[at + 1] <= 1) & unused & (time <= steps)
 }
@@ -274,10 +287,10 @@ fn status_ok(s: &[u8], t: &[u8; 156], steps: u32, n: usize, at: usize) -> bool
 {
     let status = s[at];
     let crashed = s[at + 1] != 0;
-    let time = bytes::get32(s, at + 4);
-    let log = bytes::get32(s, at + 8);
-    let held = bytes::get32(s, at + 1548);
-    let targets = bytes::get32(s, at + 2832);
+    let time = bytes::get32(s, at + layout::TIME);
+    let log = bytes::get32(s, at + layout::LOG);
+    let held = bytes::get32(s, at + layout::HELD);
+    let targets = bytes::get32(s, at + layout::TARGETS);
     let end = marks_an_end(s, t, n, crashed);
     let nothing = holds_nothing(status, time, log, held, targets);
     ((status == 0) | crashed) & !end & nothing
@@ -288,12 +301,12 @@ pub fn node_ok(s: &[u8], t: &[u8; 156], n: usize, steps: u32) -> bool
     requires { ⌜ Ready (now s) × Table (now s) (now t) × (n < planNodes (now s)) × (steps ≡ wordAt stepsAt (now s)) ⌝ }
     ensures { λ r. ⌜ r ≡ (pageExact (pageAt n) (now (s .entry)) && nodePlain (lineOf (now (s .entry))) n) ⌝ }
 {
-    let at = 4096 + 4096 * n;
+    let at = layout::PAGE + layout::PAGE * n;
     let head = head_ok(s, t, steps, n, at);
     let log = log_ok(s, t, steps, n, at);
     let held = held_ok(s, t, steps, n, at);
     let targets = targets_ok(s, t, steps, n, at);
-    let rest = bytes::all_zero(s, at + 3604, at + 4096);
+    let rest = bytes::all_zero(s, at + layout::PAGE_REST, at + layout::PAGE);
     let status = status_ok(s, t, steps, n, at);
     head & log & held & targets & (rest & status)
 }
