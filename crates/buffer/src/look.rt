@@ -1,9 +1,14 @@
-// Lookups in the plan at the state's front, read in place: a channel is six bytes, the sender and the receiver first.
+// Lookups in a state, read in place: the plan at its front, whose channels are six bytes each, the sender and the receiver first; a node's status and crash mark, the first bytes of its page.
 ghost use mathlib.Core.Path.{_≡_};
 ghost use Prim.Native.Nat.{_+_, _≤_, _<_};
 ghost use Rattle.plan.specs.Plan.{planOf, planNodes, planChannels, channelAt, isSink};
+ghost use Rattle.rules.specs.Line.{nodeAt};
+ghost use Rattle.rules.specs.Step.{nodeDown, replaying};
+ghost use Rattle.state.specs.State.{lineOf};
 ghost use Rattle.buffer.specs.Ready.{Ready, OnChannel};
 ghost use Rattle.buffer.specs.Look.{channelFrom};
+use crate::bytes;
+use crate::layout;
 
 pub fn index(b: u8) -> usize
     ensures { λ r. ⌜ (r ≡ b) × (r < 256) ⌝ }
@@ -49,4 +54,28 @@ pub fn is_sink(s: &[u8], node: usize) -> bool
     ensures { λ r. ⌜ r ≡ isSink (planOf (now (s .entry))) node ⌝ }
 {
     plan::leaving_mask(s, node) == 0
+}
+
+// Whether a node is down.
+pub fn is_down(s: &[u8], n: usize) -> bool
+    requires { ⌜ Ready (now s) × (n < planNodes (now s)) ⌝ }
+    ensures { λ r. ⌜ r ≡ nodeDown (lineOf (now (s .entry))) n ⌝ }
+{
+    bytes::get8(s, layout::PAGE * (1 + n)) == 1
+}
+
+// Whether a node replays.
+pub fn is_replaying(s: &[u8], n: usize) -> bool
+    requires { ⌜ Ready (now s) × (n < planNodes (now s)) ⌝ }
+    ensures { λ r. ⌜ r ≡ replaying (lineOf (now (s .entry))) n ⌝ }
+{
+    1 < bytes::get8(s, layout::PAGE * (1 + n))
+}
+
+// Whether a node bears a crash mark.
+pub fn has_crashed(s: &[u8], n: usize) -> bool
+    requires { ⌜ Ready (now s) × (n < planNodes (now s)) ⌝ }
+    ensures { λ r. ⌜ r ≡ nodeAt (lineOf (now (s .entry))) n .crashed ⌝ }
+{
+    0 < bytes::get8(s, layout::PAGE * (1 + n) + 1)
 }

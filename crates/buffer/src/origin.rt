@@ -25,7 +25,7 @@ pub fn record_ok(s: &[u8], at: usize) -> bool
 }
 
 // What an input was made from that came on channel b from a sender.
-pub fn before_ok(s: &[u8], t: &[u8; 156], sender: usize, b: usize, from: usize, time: u32) -> bool
+fn before_ok(s: &[u8], t: &[u8; 156], sender: usize, b: usize, from: usize, time: u32) -> bool
     requires { ⌜ Ready (now s) × Table (now s) (now t) × (b < planChannels (now s)) × (channelAt (planOf (now s)) b .sender ≡ sender) ⌝ }
     ensures { λ r. ⌜ r ≡ (timeNamed from time && beforeRight (lineOf (now (s .entry))) sender b (originFrom from time)) ⌝ }
 {

@@ -6,8 +6,8 @@ ghost use Prim.Native.Nat.{_+_, _-_, _*_, _≤_, _<_, max};
 ghost use lib.ListN.{length};
 ghost use Rattle.plan.specs.Plan.{planOf, planNodes, planChannels, channelAt};
 ghost use Rattle.rules.specs.Lists.{greatestOf};
-ghost use Rattle.rules.specs.Line.{nodeAt, laneAt};
-ghost use Rattle.rules.specs.Step.{nodeDown, replaying, endDown};
+ghost use Rattle.rules.specs.Line.{laneAt, queueLimit};
+ghost use Rattle.rules.specs.Step.{nodeDown, endDown};
 ghost use Rattle.rules.specs.Damaged.{marksJoined, channelHolds};
 ghost use Rattle.state.specs.Sizes.{blockAt, heardAt, parentLimit, queueAt, countSize, messageSize, laneRestAt, laneRest};
 ghost use Rattle.state.specs.Right.{wordAt};
@@ -32,36 +32,12 @@ fn wide(n: u32) -> usize
     n as usize
 }
 
-// Whether a node is down.
-fn is_down(s: &[u8], n: usize) -> bool
-    requires { ⌜ Ready (now s) × (n < planNodes (now s)) ⌝ }
-    ensures { λ r. ⌜ r ≡ nodeDown (lineOf (now (s .entry))) n ⌝ }
-{
-    bytes::get8(s, layout::PAGE * (1 + n)) == 1
-}
-
-// Whether a node replays.
-pub fn is_replaying(s: &[u8], n: usize) -> bool
-    requires { ⌜ Ready (now s) × (n < planNodes (now s)) ⌝ }
-    ensures { λ r. ⌜ r ≡ replaying (lineOf (now (s .entry))) n ⌝ }
-{
-    1 < bytes::get8(s, layout::PAGE * (1 + n))
-}
-
-// Whether a node bears a crash mark.
-fn has_crashed(s: &[u8], n: usize) -> bool
-    requires { ⌜ Ready (now s) × (n < planNodes (now s)) ⌝ }
-    ensures { λ r. ⌜ r ≡ nodeAt (lineOf (now (s .entry))) n .crashed ⌝ }
-{
-    0 < bytes::get8(s, layout::PAGE * (1 + n) + 1)
-}
-
 // Whether an end of a channel is down.
 fn end_down(s: &[u8], sender: usize, receiver: usize) -> bool
     requires { ⌜ Ready (now s) × (sender < planNodes (now s)) × (receiver < planNodes (now s)) ⌝ }
     ensures { λ r. ⌜ r ≡ (nodeDown (lineOf (now (s .entry))) sender || nodeDown (lineOf (now (s .entry))) receiver) ⌝ }
 {
-    is_down(s, sender) | is_down(s, receiver)
+    look::is_down(s, sender) | look::is_down(s, receiver)
 }
 
 fn larger(a: u32, b: u32) -> u32
@@ -104,7 +80,7 @@ fn unheard_zero(s: &[u8], b: usize, heard: usize) -> bool
 fn zeros_ok(s: &[u8], b: usize, heard: usize, count: u32) -> bool
     requires { ⌜ QueueFits (now s) b count × (heard ≤ 4) ⌝ }
     ensures { λ r. ⌜ r ≡ (zeroAt (blockAt b + heardAt + 4 * heard) (4 * (parentLimit - heard)) (now (s .entry))
-        && (zeroAt (blockAt b + queueAt + countSize + messageSize * count) (messageSize * (8 - count)) (now (s .entry))
+        && (zeroAt (blockAt b + queueAt + countSize + messageSize * count) (messageSize * (queueLimit - count)) (now (s .entry))
         && zeroAt (blockAt b + laneRestAt) laneRest (now (s .entry)))) ⌝ }
 {
     let at = layout::BLOCKS + layout::BLOCK * b;
@@ -133,9 +109,9 @@ fn ends_ok(
 {
     let unmarked = bytes::get32(s, layout::BLOCKS + layout::BLOCK * b) == 0;
     let empty = count == 0;
-    let down = is_down(s, receiver);
-    let replays = is_replaying(s, sender);
-    let joined = has_crashed(s, sender) & has_crashed(s, receiver);
+    let down = look::is_down(s, receiver);
+    let replays = look::is_replaying(s, sender);
+    let joined = look::has_crashed(s, sender) & look::has_crashed(s, receiver);
     let held = (stopped & !(unmarked & empty)) | (down & (0 < most)) | (replays & !empty);
     !joined & !held
 }

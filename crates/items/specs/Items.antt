@@ -79,7 +79,7 @@ unfoldable pub targetRight : Line → ℕ → Target → Bool
 unfolding entering
 targetRight l n t = leb (t .time) (l .steps) && leb (t .parentTime) (l .steps) && ifFound (fromSender (l .plan) (t .parent) (entering (l .plan) n)) (λ (b : ℕ). true)
 
--- A node: its counts, its time, its lists, its status, and its replay if it replays.
+-- A node's counts, and its status by what it holds and where it stands.
 unfoldable pub countsRight : Node → Bool
 countsRight x = leb (length (x .log)) logLimit && leb (length (x .held)) heldLimit && leb (length (x .targets)) targetLimit
 
@@ -113,13 +113,13 @@ nodePlain l n =
     let x = nodeAt l n in
     countsRight x && leb (x .time) (l .steps) && logRight l n (x .log) && heldAllRight l n (x .held) && allOf (targetRight l n) (x .targets) && statusRight (l .plan) n x
 
-unfoldable pub replayPlain : Line → ℕ → Bool
+unfoldable pub replayAsked : Line → ℕ → Bool
 unfolding replayRight
-replayPlain l n = not (replaying l n) || replayRight l n
+replayAsked l n = not (replaying l n) || replayRight l n
 
 unfoldable pub nodeRight : Line → ℕ → Bool
-unfolding nodePlain replayPlain
-nodeRight l n = nodePlain l n && replayPlain l n
+unfolding nodePlain replayAsked
+nodeRight l n = nodePlain l n && replayAsked l n
 
 -- A message; its own time is tested in the pass over the queue, which is empty where an end is down. Then the channel.
 unfoldable pub messageRight : Line → ℕ → Message → Bool

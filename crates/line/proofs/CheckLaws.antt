@@ -21,7 +21,7 @@ use Rattle.rules.specs.Step.{replaying}
 use Rattle.state.specs.Sizes.{stateSize, pageSize, planArea, stepsAt, countSize, stepsRest, nodePages, pageAt, laneBlocks, blockSize, blocksAt, blockAt, tailAt, tailSize}
 use Rattle.state.specs.State.{lineOf}
 use Rattle.state.proofs.StoredPlan.{storedPlan, stored-accepted}
-use Rattle.items.specs.Items.{replayRight, nodePlain, replayPlain}
+use Rattle.items.specs.Items.{replayRight, nodePlain, replayAsked}
 use Rattle.buffer.specs.Exact.{zeroAt, pageExact}
 use Rattle.buffer.specs.Ready.{Ready}
 use Rattle.line.specs.Whole.{PagesRight, planExact, restExact, nodeChecked, channelChecked, stateChecked}
@@ -90,12 +90,12 @@ plan-ready s long bytes e =
     record { long = long; fits = fits; nodes = few .nodes; channels = few .channels }
 
 -- What a replay asks, by whether the node replays.
-pub replay-none : (s : List ℕ) (k : ℕ) → replaying (lineOf s) k ≡ false → true ≡ replayPlain (lineOf s) k
-unfolding replayPlain
+pub replay-none : (s : List ℕ) (k : ℕ) → replaying (lineOf s) k ≡ false → true ≡ replayAsked (lineOf s) k
+unfolding replayAsked
 replay-none s k e = rw e refl
 
-pub replay-some : (s : List ℕ) (k : ℕ) → replaying (lineOf s) k ≡ true → replayRight (lineOf s) k ≡ replayPlain (lineOf s) k
-unfolding replayPlain
+pub replay-some : (s : List ℕ) (k : ℕ) → replaying (lineOf s) k ≡ true → replayRight (lineOf s) k ≡ replayAsked (lineOf s) k
+unfolding replayAsked
 replay-some s k e = rw e refl
 
 pub plan-wrong : (s : List ℕ) → planExact s ≡ false → false ≡ stateChecked s
@@ -107,14 +107,14 @@ module _ (s : List ℕ) (n m steps : ℕ) {rest nodes channels : Bool} (plan : p
   abbrev found : Bool
   found = rest && leb steps stepLimit && nodes && channels
 
-  found-is : stateChecked s ≡ (found && allOf (replayPlain (lineOf s)) (upTo 0 n))
+  found-is : stateChecked s ≡ (found && allOf (replayAsked (lineOf s)) (upTo 0 n))
   unfolding stateChecked
   found-is = rw (plan, a, b, c, count, same, same′) refl
 
   pub found-wrong : found ≡ false → false ≡ stateChecked s
   found-wrong e = sym (found-is ∙ rw e refl)
 
-  pub found-replays : found ≡ true → {r : Bool} → r ≡ allOf (replayPlain (lineOf s)) (upTo 0 n) → r ≡ stateChecked s
+  pub found-replays : found ≡ true → {r : Bool} → r ≡ allOf (replayAsked (lineOf s)) (upTo 0 n) → r ≡ stateChecked s
   found-replays e k = k ∙ sym (found-is ∙ rw e refl)
 
   -- Where nothing wrong is found so far, every page has right bytes.

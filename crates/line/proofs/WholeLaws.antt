@@ -24,7 +24,7 @@ use Rattle.state.proofs.InPlace.{Counted, line-plan, nodes-counted, lanes-count
 use Rattle.state.proofs.PlanFitting.{fits-counted, few-heard, heard-long}
 use Rattle.state.proofs.StoredPlan.{storedPlan, stored-accepted}
 use Rattle.state.proofs.AcceptedState.{state-checked}
-use Rattle.items.specs.Items.{nodeRight, channelRight, shapeRight, lineRight, nodePlain, replayPlain}
+use Rattle.items.specs.Items.{nodeRight, channelRight, shapeRight, lineRight, nodePlain, replayAsked}
 use Rattle.items.proofs.LineItems.{line-items}
 use Rattle.buffer.specs.Exact.{pageExact, blockExact}
 use Rattle.line.specs.Whole.{planExact, restExact, nodeChecked, channelChecked, stateChecked}
@@ -39,8 +39,8 @@ pub all-stands : (f : ℕ → Bool) (n : ℕ) → Stands (allOf f (upTo 0 n)) ((
 all-stands f n = (λ e i h. all-in f e (in-up-to 0 n i (omega arith) (omega arith)), λ g. all-from f 0 n (λ i l m. g i (omega arith)))
 
 -- A node's check is the plain part and the replay's.
-pub node-parts : (l : Line) (n : ℕ) → Stands (nodeRight l n) ((nodePlain l n ≡ true) × (replayPlain l n ≡ true))
-unfolding nodeRight nodePlain replayPlain
+pub node-parts : (l : Line) (n : ℕ) → Stands (nodeRight l n) ((nodePlain l n ≡ true) × (replayAsked l n ≡ true))
+unfolding nodeRight nodePlain replayAsked
 node-parts l n = and-stands (λ e. e, λ e. e) (λ e. e, λ e. e)
 
 module _ (s : List ℕ) (fits : planFits (planOf s) ≡ true) where
@@ -88,7 +88,7 @@ module _ (s : List ℕ) (fits : planFits (planOf s) ≡ true) where
 
   -- Bytes and line together, node by node and channel by channel.
   abbrev Found : Type 0
-  Found = (restExact s ≡ true) × ((leb (l .steps) stepLimit ≡ true) × (((n : ℕ) → n < planNodes s → nodeChecked s n ≡ true) × (((b : ℕ) → b < planChannels s → channelChecked s b ≡ true) × ((n : ℕ) → n < planNodes s → replayPlain l n ≡ true))))
+  Found = (restExact s ≡ true) × ((leb (l .steps) stepLimit ≡ true) × (((n : ℕ) → n < planNodes s → nodeChecked s n ≡ true) × (((b : ℕ) → b < planChannels s → channelChecked s b ≡ true) × ((n : ℕ) → n < planNodes s → replayAsked l n ≡ true))))
 
   rest-stands : Stands (restExact s) (((ZerosAt (stepsAt + countSize) stepsRest s × ZerosAt (pageAt (planNodes s)) (pageSize * (nodePages - planNodes s)) s) × ZerosAt (blockAt (planChannels s)) (blockSize * (laneBlocks - planChannels s)) s) × ZerosAt tailAt tailSize s)
   unfolding restExact
@@ -138,10 +138,10 @@ module _ (s : List ℕ) (fits : planFits (planOf s) ≡ true) where
 
 -- The check's test, taken apart.
 checked-parts : (s : List ℕ) → Stands (stateChecked s)
-    ((((((planExact s ≡ true) × (restExact s ≡ true)) × (leb (lineOf s .steps) stepLimit ≡ true)) × ((n : ℕ) → n < planNodes s → nodeChecked s n ≡ true)) × ((b : ℕ) → b < planChannels s → channelChecked s b ≡ true)) × ((n : ℕ) → n < planNodes s → replayPlain (lineOf s) n ≡ true))
+    ((((((planExact s ≡ true) × (restExact s ≡ true)) × (leb (lineOf s .steps) stepLimit ≡ true)) × ((n : ℕ) → n < planNodes s → nodeChecked s n ≡ true)) × ((b : ℕ) → b < planChannels s → channelChecked s b ≡ true)) × ((n : ℕ) → n < planNodes s → replayAsked (lineOf s) n ≡ true))
 unfolding stateChecked
 checked-parts s =
-    and-stands (and-stands (and-stands (and-stands (and-stands same same) same) (all-stands (nodeChecked s) (planNodes s))) (all-stands (channelChecked s) (planChannels s))) (all-stands (replayPlain (lineOf s)) (planNodes s))
+    and-stands (and-stands (and-stands (and-stands (and-stands same same) same) (all-stands (nodeChecked s) (planNodes s))) (all-stands (channelChecked s) (planChannels s))) (all-stands (replayAsked (lineOf s)) (planNodes s))
   where
     same : {b : Bool} → Stands b (b ≡ true)
     same = (λ e. e, λ e. e)

@@ -1,6 +1,6 @@
 -- The whole state as the check goes over it. `check-answer` of the proofs says that it is `stateAnswer`; the outer contract does not rest on believing this.
 use Prim.Native.Nat.{ℕ, _+_, _*_, _-_, _<_}
-use mathlib.Core.Bool.{Bool, not, _&&_}
+use mathlib.Core.Bool.{Bool, _&&_}
 use mathlib.Core.List.{List}
 use lib.ListN.{take}
 use lib.Dec.{leb, eqb}
@@ -12,7 +12,7 @@ use Rattle.state.specs.Sizes.{planArea, stepsAt, countSize, stepsRest, pageAt, 
 use Rattle.state.specs.Right.{NodeRight}
 use Rattle.state.specs.Lane.{heardCount}
 use Rattle.state.specs.State.{lineOf}
-use Rattle.items.specs.Items.{nodePlain, replayPlain, channelRight}
+use Rattle.items.specs.Items.{nodePlain, replayAsked, channelRight}
 use Rattle.buffer.specs.Exact.{zeroAt, pageExact, blockExact}
 
 -- The stored plan would not be refused, and nothing stands behind it.
@@ -41,7 +41,7 @@ channelChecked s b = blockExact (heardCount (planOf s) (channelAt (planOf s) b))
 
 -- All of it, of a state of the right size.
 unfoldable pub stateChecked : List ℕ → Bool
-unfolding planExact restExact nodeChecked channelChecked replayPlain
+unfolding planExact restExact nodeChecked channelChecked replayAsked
 stateChecked s =
     planExact s && restExact s && leb (lineOf s .steps) stepLimit && allOf (nodeChecked s) (upTo 0 (planNodes s)) && allOf (channelChecked s) (upTo 0 (planChannels s))
-    && allOf (replayPlain (lineOf s)) (upTo 0 (planNodes s))
+    && allOf (replayAsked (lineOf s)) (upTo 0 (planNodes s))

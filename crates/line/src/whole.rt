@@ -10,7 +10,7 @@ ghost use Rattle.state.specs.Right.{wordAt};
 ghost use Rattle.state.specs.State.{lineOf};
 ghost use Rattle.buffer.specs.Ready.{Ready};
 ghost use Rattle.buffer.specs.Table.{Table};
-ghost use Rattle.items.specs.Items.{replayPlain};
+ghost use Rattle.items.specs.Items.{replayAsked};
 ghost use Rattle.line.specs.Whole.{PagesRight, planExact, nodeChecked, channelChecked, stateChecked};
 use crate::check;
 use buffer::Line;
@@ -50,9 +50,9 @@ fn channels_ok(s: &[u8], t: &[u8; 156], m: usize, steps: u32) -> bool
 // What a node's replay asks, if it has one.
 fn replay_kept(s: &[u8], k: usize) -> bool
     requires { ⌜ Ready (now s) × PagesRight (now s) × (k < planNodes (now s)) ⌝ }
-    ensures { λ r. ⌜ r ≡ replayPlain (lineOf (now (s .entry))) k ⌝ }
+    ensures { λ r. ⌜ r ≡ replayAsked (lineOf (now (s .entry))) k ⌝ }
 {
-    if !channel_check::is_replaying(s, k) {
+    if !look::is_replaying(s, k) {
         return true;
     }
     recover::replay_ok(s, k)
@@ -61,7 +61,7 @@ fn replay_kept(s: &[u8], k: usize) -> bool
 // What every node's replay asks.
 fn replays_ok(s: &[u8], n: usize) -> bool
     requires { ⌜ Ready (now s) × PagesRight (now s) × (n ≡ planNodes (now s)) ⌝ }
-    ensures { λ r. ⌜ r ≡ allOf (replayPlain (lineOf (now (s .entry)))) (upTo 0 n) ⌝ }
+    ensures { λ r. ⌜ r ≡ allOf (replayAsked (lineOf (now (s .entry)))) (upTo 0 n) ⌝ }
 {
     let mut ok = true;
     let mut k: usize = 0;

@@ -7,7 +7,7 @@ use lib.Dec.{leb, ltb, eqb}
 use lib.ListN.{length, getD, set, take, drop}
 use Rattle.plan.specs.Plan.{planOf, planNodes, channelAt, entering}
 use Rattle.rules.specs.Lists.{keep, allOf, greatestOf}
-use Rattle.rules.specs.Line.{logLimit, fed, Entry, Target, Line, nodeAt, senderOf}
+use Rattle.rules.specs.Line.{logLimit, fed, Entry, Target, Line, nodeAt, senderOf, targetLimit}
 use Rattle.rules.specs.Recover.{triple, triples, sameTarget, targetBefore, addTarget, sortTargets, restored, conflict, rowGoal}
 use Rattle.rules.specs.Damaged.{sameTargets}
 use Rattle.state.specs.Sizes.{pageAt, logAt}
@@ -61,10 +61,10 @@ goalTarget g = target (g .time) (g .parent) (g .sent)
 
 -- The slice's length, and the count that says that there are more targets than a node may have.
 abbrev pub slotsLong : ℕ
-slotsLong = 192
+slotsLong = 3 * targetLimit
 
 abbrev pub tooMany : ℕ
-tooMany = 65
+tooMany = suc targetLimit
 
 abbrev pub targetAt : List ℕ → ℕ → Target
 targetAt xs i = target (getD xs (3 * i) 0) (getD xs (3 * i + 1) 0) (getD xs (3 * i + 2) 0)

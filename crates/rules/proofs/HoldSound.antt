@@ -4,7 +4,7 @@ use mathlib.Core.Path.{_≡_, refl, sym, ap, subst, _∙_}
 use mathlib.Core.Logic.{_≢_, _⊎_, inl, inr}
 use mathlib.Core.Bool.{Bool, true, false, cond, _&&_}
 use mathlib.Core.List.{List, [], _∷_, _++_, map}
-use mathlib.Core.Option.{none, some}
+use mathlib.Core.Option.{some}
 use native.Mathlib.Omega.{arith}
 use native.Mathlib.Decide.{ℕ-discrete}
 use lib.ListN.{length, length-append, set, length-set}
@@ -12,7 +12,7 @@ use lib.Dec.{leb, eqb}
 use borrow.Author.Tests.{leb-false, eqb-true}
 use Rattle.plan.specs.Plan.{channelAt}
 use Rattle.rules.specs.Lists.{keepOne}
-use Rattle.rules.specs.Line.{logLimit, heldLimit, Message, Entry, Held, Status, up, replay, Node, Line, nodeAt, laneAt, receiverOf, withNode, withLane, counted, isReplay}
+use Rattle.rules.specs.Line.{logLimit, heldLimit, Message, Entry, Held, Status, replay, Node, Line, nodeAt, laneAt, receiverOf, withNode, withLane, counted, isReplay}
 use Rattle.rules.specs.Frame.{take}
 use Rattle.rules.specs.Recover.{triples}
 use Rattle.rules.specs.Replay.{passedOn, holding, entryAt, endedIfComplete}

@@ -11,7 +11,7 @@ use Rattle.plan.specs.declared.Channel.{Channel}
 use Rattle.plan.specs.Plan.{Plan, planOf, nodeCount, channelCount, channelAt, noChannel}
 use Rattle.plan.specs.Check.{planRefusal, planFits}
 use Rattle.plan.proofs.FitsLaws.{accepted-fits}
-use Rattle.rules.specs.Line.{up, Node, Line, freshNode, noLane, freshLane, initialLine, nodeAt, laneAt, parents}
+use Rattle.rules.specs.Line.{Node, Line, freshNode, noLane, freshLane, initialLine, nodeAt, laneAt, parents}
 use Rattle.rules.specs.Damaged.{damaged}
 use Rattle.rules.proofs.Rising.{none, none-in}
 use Rattle.rules.proofs.Members.{In, in-none, in-first}

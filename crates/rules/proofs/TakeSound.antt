@@ -11,11 +11,11 @@ use lib.ListN.{length, set, length-set}
 use lib.Dec.{leb, eqb}
 use borrow.Author.Tests.{leb-false, eq-eqb, ne-eqb}
 use Rattle.plan.specs.Plan.{Plan, nodeCount, channelCount, channelAt}
-use Rattle.rules.specs.Line.{logLimit, heldLimit, Origin, fed, made, Message, Status, up, down, replay, Node, Lane, Line, nodeAt, laneAt, parents, withNode, withLane, counted, isReplay}
+use Rattle.rules.specs.Line.{logLimit, heldLimit, Origin, fed, made, Message, Status, up, replay, Node, Lane, Line, nodeAt, laneAt, parents, withNode, withLane, counted, isReplay}
 use Rattle.rules.specs.Frame.{take}
 use Rattle.rules.specs.Recover.{triple}
 use Rattle.rules.specs.Clock.{raiseHeard, takenFrom}
-use Rattle.rules.specs.Step.{replaying, firstRecord, toHold, takeLacks, madeBy, takenUp, takenLane, takenFirst, takenLine, effect}
+use Rattle.rules.specs.Step.{firstRecord, toHold, takeLacks, madeBy, takenUp, takenLane, takenFirst, takenLine, effect}
 use Rattle.rules.specs.Damaged.{isParent, pastHeard}
 use Rattle.rules.proofs.StepInv.{first-up}
 use Rattle.rules.proofs.Rising.{Rises, more, Within, within-first}

@@ -1,7 +1,7 @@
 use borrow.Author.Needs.{needs}
 use Rattle.buffer.proofs.ReadyLaws.{down-at}
-use Rattle.channel_check.proofs.is_down.Statement.{statement}
-use Rattle.channel_check.proofs.is_down.Tie as tie
+use Rattle.buffer.proofs.look.is_down.Statement.{statement}
+use Rattle.buffer.proofs.look.is_down.Tie as tie
 
 returns : tie.Need-returns
 returns c = rw (c .get8 .ensures) (down-at (c .before .before .args .s .now) (c .before .before .pre .0) (c .before .before .args .n) (c .before .before .pre .1))
