@@ -256,6 +256,12 @@ nothing-replay zero time log held targets a b = absurd (a refl)
 nothing-replay (suc zero) time log held targets a b = absurd (b refl)
 nothing-replay (suc (suc n)) time log held targets a b = refl
 
+pub head-tested : (s : List ℕ) (a steps time : ℕ) → a + 8 ≤ length s → time ≡ wordAt (a + timeAt) s
+    → (leb (getD s a 0) 2 && leb (getD s (a + 1) 0) 1 && eqb (bitOr (getD s (a + 2) 0) (getD s (a + 3) 0)) 0 && leb time steps) ≡ (headExact a s && leb (wordAt (a + timeAt) s) steps)
+head-tested s a steps time long e =
+    let next : a + 3 ≡ a + 2 + 1 = omega arith in
+    rw (next, ← two-zero (a + 2) s (omega arith), ← e, add-zero) refl
+
 module _ (s : List ℕ) (n at : ℕ) (page : PageOf s n at) where
   abbrev x : Node
   x = nodeAt (lineOf s) n
@@ -266,11 +272,8 @@ module _ (s : List ℕ) (n at : ℕ) (page : PageOf s n at) where
   at-page : (k v : ℕ) → v ≡ wordAt (at + k) s → v ≡ wordAt (pageAt n + k) s
   at-page k v e = rw (page .start) at e
 
-  pub head-tested : (steps time : ℕ) → steps ≡ lineOf s .steps → time ≡ wordAt (at + timeAt) s → (leb (getD s at 0) 2 && leb (getD s (at + 1) 0) 1 && eqb (bitOr (getD s (at + 2) 0) (getD s (at + 3) 0)) 0 && leb time steps) ≡ (headExact (pageAt n) s && leb (x .time) (lineOf s .steps))
-  head-tested steps time f e =
-      let same : time ≡ x .time = time-in s n at page time e in
-      let next : at + 3 ≡ at + 2 + 1 = omega arith in
-      rw (next, ← two-zero (at + 2) s (omega (arith, page-room page)), ← same, ← f, ← page .start, add-zero) refl
+  pub head-node : (steps : ℕ) → steps ≡ lineOf s .steps → (headExact at s && leb (wordAt (at + timeAt) s) steps) ≡ (headExact (pageAt n) s && leb (x .time) (lineOf s .steps))
+  head-node steps e = rw (← time-in s n at page (wordAt (at + timeAt) s) refl, ← e, ← page .start) refl
 
   pub status-tested : (status mark time log held targets : ℕ) (end nothing : Bool)
       → status ≡ getD s at 0 → mark ≡ getD s (at + 1) 0 → time ≡ wordAt (at + timeAt) s → log ≡ wordAt (at + logAt) s → held ≡ wordAt (at + heldAt) s → targets ≡ wordAt (at + targetsAt) s

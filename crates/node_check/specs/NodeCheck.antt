@@ -1,4 +1,4 @@
--- What the check of a node's page goes by: its head, its slots one by one, and what a node of a status may not hold.
+-- What the check of a node's page goes by: where it starts, its head, its slots one by one, and what a node of a status may not hold.
 use Prim.Native.Nat.{ℕ, zero, suc, _+_, _<_}
 use mathlib.Core.Path.{_≡_}
 use mathlib.Core.Bool.{Bool, _&&_}

@@ -9,7 +9,7 @@ ghost use Rattle.plan.specs.Mask.{planMask};
 ghost use Rattle.rules.specs.Lists.{allOf};
 ghost use Rattle.rules.specs.Line.{nodeAt, logLimit, heldLimit, targetLimit};
 ghost use Rattle.rules.specs.Replay.{passedOn};
-ghost use Rattle.state.specs.Sizes.{pageAt, countSize, logAt, entrySize, heldAt, heldSize, targetsAt, targetSize, stepsAt};
+ghost use Rattle.state.specs.Sizes.{pageAt, countSize, timeAt, logAt, entrySize, heldAt, heldSize, targetsAt, targetSize, stepsAt};
 ghost use Rattle.state.specs.State.{lineOf};
 ghost use Rattle.state.specs.Right.{wordAt};
 ghost use Rattle.items.specs.Items.{logRight, heldAllRight, targetRight, statusRight, nodePlain};
@@ -247,9 +247,9 @@ fn targets_ok(s: &[u8], t: &[u8; 156], steps: u32, n: usize, at: usize) -> bool
 }
 
 // Status, crash mark, two bytes unused, time.
-fn head_ok(s: &[u8], steps: u32, n: usize, at: usize) -> bool
-    requires { ⌜ PageOf (now s) n at × (steps ≡ lineOf (now s) .steps) ⌝ }
-    ensures { λ r. ⌜ r ≡ (headExact (pageAt n) (now (s .entry)) && leb (nodeAt (lineOf (now (s .entry))) n .time) (lineOf (now (s .entry)) .steps)) ⌝ }
+fn head_ok(s: &[u8], steps: u32, at: usize) -> bool
+    requires { ⌜ at + 8 ≤ length (now s) ⌝ }
+    ensures { λ r. ⌜ r ≡ (headExact at (now (s .entry)) && leb (wordAt (at + timeAt) (now (s .entry))) steps) ⌝ }
 {
     let time = bytes::get32(s, at + layout::TIME);
     let unused = (s[at + 2] | s[at + 3]) == 0;
@@ -302,7 +302,7 @@ pub fn node_ok(s: &[u8], t: &[u8; 156], n: usize, steps: u32) -> bool
     ensures { λ r. ⌜ r ≡ (pageExact (pageAt n) (now (s .entry)) && nodePlain (lineOf (now (s .entry))) n) ⌝ }
 {
     let at = layout::PAGE + layout::PAGE * n;
-    let head = head_ok(s, steps, n, at);
+    let head = head_ok(s, steps, at);
     let log = log_ok(s, t, n, at);
     let held = held_ok(s, t, n, at);
     let targets = targets_ok(s, t, steps, n, at);

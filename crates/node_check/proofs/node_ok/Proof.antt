@@ -5,15 +5,14 @@ use borrow.Author.Needs.{needs}
 use Rattle.state.specs.Sizes.{pageAt, nodeRestAt, nodeRest}
 use Rattle.state.proofs.InPlace.{line-steps}
 use Rattle.buffer.proofs.ReadyLaws.{counted}
+use Rattle.node_check.specs.NodeCheck.{PageOf}
 use Rattle.node_check.proofs.PieceBytes.{zero-part}
-use Rattle.node_check.proofs.NodeLaws.{node-tested}
+use Rattle.node_check.proofs.NodeLaws.{head-node, node-tested}
 use Rattle.node_check.proofs.node_ok.Statement.{statement}
 use Rattle.node_check.proofs.node_ok.Tie as tie
 
 head-ok-requires : tie.Need-head-ok-requires
-head-ok-requires c κs =
-    let k = c .before .pre in
-    (record { ready = k .0; within = k .2; start = omega arith }, k .3 ∙ sym (line-steps (c .before .args .s .now) (counted (k .0))))
+head-ok-requires c κs = let k = c .before .pre in omega (arith, k .0 .long, k .0 .nodes, k .2)
 
 log-ok-requires : tie.Need-log-ok-requires
 log-ok-requires c κs = let k = c .before .before .pre in (record { ready = k .0; within = k .2; start = omega arith }, k .1)
@@ -49,7 +48,9 @@ returns c =
     let same : at ≡ pageAt (a .n) = omega arith in
     let from : at + 3604 ≡ pageAt (a .n) + nodeRestAt = omega arith in
     let wide : at + 4096 - (at + 3604) ≡ nodeRest = omega arith in
-    node-tested s (a .n) at (record { ready = start .pre .0; within = start .pre .2; start = same }) (head .head-ok .result) (log .log-ok .result) (held .held-ok .result) (targets .targets-ok .result) (rest .all-zero .result) (c .status-ok .result) (head .head-ok .ensures) (log .log-ok .ensures) (held .held-ok .ensures) (targets .targets-ok .ensures)
+    let page : PageOf s (a .n) at = record { ready = start .pre .0; within = start .pre .2; start = same } in
+    let steps = start .pre .3 ∙ sym (line-steps s (counted (start .pre .0))) in
+    node-tested s (a .n) at page (head .head-ok .result) (log .log-ok .result) (held .held-ok .result) (targets .targets-ok .result) (rest .all-zero .result) (c .status-ok .result) (head .head-ok .ensures ∙ head-node s (a .n) at page (a .steps) steps) (log .log-ok .ensures) (held .held-ok .ensures) (targets .targets-ok .ensures)
     (rest .all-zero .ensures ∙ zero-part (at + 3604) (at + 4096) (pageAt (a .n) + nodeRestAt) nodeRest s from wide)
     (c .status-ok .ensures)
 
