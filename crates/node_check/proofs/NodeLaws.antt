@@ -10,32 +10,28 @@ use lib.Dec.{leb, ltb, eqb, eqb·suc-zero}
 use lib.Bits.{bitOr}
 use lib.ListN.{length, getD, set}
 use lib.Seq.{ext-getD}
-use Rattle.plan.specs.Plan.{planOf, planNodes, isSource, isSink}
+use Rattle.plan.specs.Plan.{planOf, isSource, isSink}
 use Rattle.rules.specs.Lists.{allOf, isEmpty}
 use Rattle.rules.specs.Line.{logLimit, heldLimit, targetLimit, Entry, Held, Target, Node, Line, nodeAt, fed, isUp}
 use Rattle.rules.specs.Damaged.{markMissing, markOnEnd, nodeHolds, holdsByStatus}
 use Rattle.rules.specs.Replay.{passedOn}
-use Rattle.state.specs.Sizes.{stepsAt, pageAt, countSize, timeAt, logAt, entrySize, heldAt, heldSize, targetsAt, targetSize, nodeRestAt, nodeRest}
+use Rattle.state.specs.Sizes.{pageAt, countSize, timeAt, logAt, entrySize, heldAt, heldSize, targetsAt, targetSize, nodeRestAt, nodeRest}
 use Rattle.state.specs.Node.{statusOf, crashOf}
 use Rattle.state.specs.State.{lineOf}
 use Rattle.state.specs.Right.{wordAt}
-use Rattle.state.proofs.InPlace.{Counted as Few, line-plan, line-steps}
+use Rattle.state.proofs.InPlace.{Counted, line-plan}
 use Rattle.state.proofs.OffsetLaws.{line-status, line-crashed, line-time, line-log-count, line-log-at, line-held-count, line-held-at, line-targets-count, line-target-at}
 use Rattle.items.specs.Items.{timesRise, entryRight, logRight, heldRise, noneHeld, heldRight, heldAllRight, targetRight, countsRight, statusRight, nodePlain}
 use Rattle.buffer.specs.Exact.{zeroAt, entryExact, heldExact, targetExact, slotsExact, listExact, pageExact}
-use Rattle.node_check.specs.NodeCheck.{headExact, entryPlain, entryMade, heldPlain, heldMade, holdsNothing}
-use Rattle.buffer.specs.Ready.{Ready}
-use Rattle.buffer.specs.Table.{Table}
-use Rattle.buffer.specs.Check.{Counted, PageOf, recordIn, entryIn, heldIn, targetIn}
+use Rattle.node_check.specs.NodeCheck.{PageOf, entryIn, heldIn, targetIn, headExact, entryPlain, entryMade, heldPlain, heldMade, holdsNothing}
+use Rattle.buffer.specs.Check.{recordIn}
 use Rattle.node_check.proofs.SlotLaws.{swap-middle, slotsIn, passes, length-slots, slots-at, slotsPass, slots-pass, pass-more}
 use Rattle.buffer.proofs.BytesLaws.{two-zero}
+use Rattle.buffer.proofs.ReadyLaws.{counted}
 use Rattle.node_check.proofs.PieceBytes.{entry-in, held-in, entry-ordered, held-ordered}
 
-pub few-of : {s table : List ℕ} {steps : ℕ} → Counted s table steps → Few s
-few-of h = record { nodes = h .ready .nodes; channels = h .ready .channels }
-
-pub page-room : {s table : List ℕ} {steps n at : ℕ} → PageOf s table steps n at → at + 4096 ≤ length s
-page-room page = omega (arith, page .counted .ready .long, page .counted .ready .nodes, page .within, page .start)
+pub page-room : {s : List ℕ} {n at : ℕ} → PageOf s n at → at + 4096 ≤ length s
+page-room page = omega (arith, page .ready .long, page .ready .nodes, page .within, page .start)
 
 -- A pass over the slots of a list: those left, and that what is asked of all is what was found so far and what is left.
 pub record Going (room size start slot count left : ℕ) (whole now : Bool) : Type 0 where
@@ -73,15 +69,12 @@ module _ (l : Line) (n top : ℕ) where
 abbrev pub logPass : List ℕ → ℕ → ℕ → ℕ → ℕ → Bool
 logPass s n last a k = slotsPass entryIn entrySize s entryExact (entryPasses (lineOf s) n (nodeAt (lineOf s) n .time)) (entryNext (lineOf s) n (nodeAt (lineOf s) n .time)) last a k
 
-module _ (s table : List ℕ) (steps n at : ℕ) (page : PageOf s table steps n at) where
+module _ (s : List ℕ) (n : ℕ) where
   abbrev pub lineIn : Line
   lineIn = lineOf s
 
   abbrev pub nodeIn : Node
   nodeIn = nodeAt (lineOf s) n
-
-  pub time-in : (t : ℕ) → t ≡ wordAt (at + timeAt) s → t ≡ nodeIn .time
-  time-in t e = e ∙ rw (page .start) (sym (line-time s (few-of (page .counted)) n (page .within)))
 
   -- One entry more.
   module _ (last a k time top : ℕ) (e : time ≡ wordAt (a + 8) s) (f : top ≡ nodeIn .time) where
@@ -100,14 +93,17 @@ module _ (s table : List ℕ) (steps n at : ℕ) (page : PageOf s table steps n 
       pub entry-more : made ≡ true → logPass s n last a (suc k) ≡ logPass s n time (a + entrySize) k
       entry-more m = entries-turn ∙ rw (← g, h, ← i, m) refl
 
-  module _ (count : ℕ) (is : count ≡ wordAt (pageAt n + logAt) s) (small : count ≤ logLimit) where
+  pub time-in : (at : ℕ) → PageOf s n at → (t : ℕ) → t ≡ wordAt (at + timeAt) s → t ≡ nodeIn .time
+  time-in at page t e = e ∙ rw (page .start) (sym (line-time s (counted (page .ready)) n (page .within)))
+
+  module _ (at : ℕ) (page : PageOf s n at) (count : ℕ) (is : count ≡ wordAt (pageAt n + logAt) s) (small : count ≤ logLimit) where
     log-slots : nodeIn .log ≡ slotsIn entryIn entrySize (pageAt n + logAt + countSize) count s
     log-slots =
         list-slots entryIn noEntry entrySize (pageAt n + logAt + countSize) count s (nodeIn .log)
-        (line-log-count s (few-of (page .counted)) n (page .within) ∙ rw (← is) (omega arith))
+        (line-log-count s (counted (page .ready)) n (page .within) ∙ rw (← is) (omega arith))
         (λ i h.
         (let there : pageAt n + (logAt + countSize + entrySize * i) ≡ pageAt n + logAt + countSize + entrySize * i = omega arith in
-        line-log-at s (few-of (page .counted)) n (page .within) i noEntry (omega arith) (omega arith) ∙ ap (λ (a : ℕ). entryIn a s) there))
+        line-log-at s (counted (page .ready)) n (page .within) i noEntry (omega arith) (omega arith) ∙ ap (λ (a : ℕ). entryIn a s) there))
 
     pub log-whole : logPass s n 0 (pageAt n + logAt + countSize) count ≡ (slotsExact entryExact entrySize (pageAt n + logAt + countSize) count s && logRight lineIn n (nodeIn .log))
     unfolding logRight
@@ -137,7 +133,7 @@ module _ (l : Line) (n : ℕ) where
 abbrev pub heldPass : List ℕ → ℕ → List ℕ → ℕ → ℕ → Bool
 heldPass s n last a k = slotsPass heldIn heldSize s heldExact (heldPasses (lineOf s) n) (heldNext (lineOf s) n) last a k
 
-module _ (s table : List ℕ) (steps n at : ℕ) (page : PageOf s table steps n at) where
+module _ (s : List ℕ) (n : ℕ) where
   -- One held record more.
   module _ (last : List ℕ) (a k sender time row : ℕ) (d : sender ≡ getD s (a + 8) 0) (e : time ≡ wordAt (a + 9) s) (f : row ≡ getD last sender 0) where
     held-turn : heldPass s n last a (suc k) ≡ (((heldPlain a s && ltb row time) && (heldMade n a s && passedOn (planOf s) n (recordIn a s))) && heldPass s n (set last sender time) (a + heldSize) k)
@@ -156,14 +152,14 @@ module _ (s table : List ℕ) (steps n at : ℕ) (page : PageOf s table steps n 
       pub held-more : (after : List ℕ) → after ≡ set last sender time → (made && passed) ≡ true → heldPass s n last a (suc k) ≡ heldPass s n after (a + heldSize) k
       held-more after x m = held-turn ∙ rw (← g, h, ← i, ← j, m, x) refl
 
-  module _ (count : ℕ) (is : count ≡ wordAt (pageAt n + heldAt) s) (small : count ≤ heldLimit) where
+  module _ (at : ℕ) (page : PageOf s n at) (count : ℕ) (is : count ≡ wordAt (pageAt n + heldAt) s) (small : count ≤ heldLimit) where
     held-slots : nodeAt (lineOf s) n .held ≡ slotsIn heldIn heldSize (pageAt n + heldAt + countSize) count s
     held-slots =
         list-slots heldIn noHeld heldSize (pageAt n + heldAt + countSize) count s (nodeAt (lineOf s) n .held)
-        (line-held-count s (few-of (page .counted)) n (page .within) ∙ rw (← is) (omega arith))
+        (line-held-count s (counted (page .ready)) n (page .within) ∙ rw (← is) (omega arith))
         (λ i h.
         (let there : pageAt n + (heldAt + countSize + heldSize * i) ≡ pageAt n + heldAt + countSize + heldSize * i = omega arith in
-        line-held-at s (few-of (page .counted)) n (page .within) i noHeld (omega arith) (omega arith) ∙ ap (λ (a : ℕ). heldIn a s) there))
+        line-held-at s (counted (page .ready)) n (page .within) i noHeld (omega arith) (omega arith) ∙ ap (λ (a : ℕ). heldIn a s) there))
 
     pub held-whole : heldPass s n noneHeld (pageAt n + heldAt + countSize) count ≡ (slotsExact heldExact heldSize (pageAt n + heldAt + countSize) count s && heldAllRight (lineOf s) n (nodeAt (lineOf s) n .held))
     unfolding heldAllRight
@@ -191,19 +187,19 @@ module _ (l : Line) (n : ℕ) where
 abbrev pub targetPass : List ℕ → ℕ → ℕ → ℕ → Bool
 targetPass s n a k = slotsPass targetIn targetSize s targetExact (targetPasses (lineOf s) n) (targetNext (lineOf s) n) 0 a k
 
-module _ (s table : List ℕ) (steps n at : ℕ) (page : PageOf s table steps n at) where
+module _ (s : List ℕ) (n : ℕ) where
   -- One target more.
   pub target-more : (one : Bool) (a k : ℕ) → one ≡ (targetExact a s && targetRight (lineOf s) n (targetIn a s)) → targetPass s n a (suc k) ≡ (one && targetPass s n (a + targetSize) k)
   target-more one a k g = pass-more targetIn targetSize s targetExact (targetPasses (lineOf s) n) (targetNext (lineOf s) n) true 0 a k ∙ rw g refl
 
-  module _ (count : ℕ) (is : count ≡ wordAt (pageAt n + targetsAt) s) (small : count ≤ targetLimit) where
+  module _ (at : ℕ) (page : PageOf s n at) (count : ℕ) (is : count ≡ wordAt (pageAt n + targetsAt) s) (small : count ≤ targetLimit) where
     target-slots : nodeAt (lineOf s) n .targets ≡ slotsIn targetIn targetSize (pageAt n + targetsAt + countSize) count s
     target-slots =
         list-slots targetIn noTarget targetSize (pageAt n + targetsAt + countSize) count s (nodeAt (lineOf s) n .targets)
-        (line-targets-count s (few-of (page .counted)) n (page .within) ∙ rw (← is) (omega arith))
+        (line-targets-count s (counted (page .ready)) n (page .within) ∙ rw (← is) (omega arith))
         (λ i h.
         (let there : pageAt n + (targetsAt + countSize + targetSize * i) ≡ pageAt n + targetsAt + countSize + targetSize * i = omega arith in
-        line-target-at s (few-of (page .counted)) n (page .within) i noTarget (omega arith) (omega arith) ∙ ap (λ (a : ℕ). targetIn a s) there))
+        line-target-at s (counted (page .ready)) n (page .within) i noTarget (omega arith) (omega arith) ∙ ap (λ (a : ℕ). targetIn a s) there))
 
     pub target-whole : targetPass s n (pageAt n + targetsAt + countSize) count ≡ (slotsExact targetExact targetSize (pageAt n + targetsAt + countSize) count s && allOf (targetRight (lineOf s) n) (nodeAt (lineOf s) n .targets))
     target-whole =
@@ -260,21 +256,24 @@ nothing-replay zero time log held targets a b = absurd (a refl)
 nothing-replay (suc zero) time log held targets a b = absurd (b refl)
 nothing-replay (suc (suc n)) time log held targets a b = refl
 
-module _ (s table : List ℕ) (steps n at : ℕ) (page : PageOf s table steps n at) where
+pub head-tested : (s : List ℕ) (a steps time : ℕ) → a + 8 ≤ length s → time ≡ wordAt (a + timeAt) s
+    → (leb (getD s a 0) 2 && leb (getD s (a + 1) 0) 1 && eqb (bitOr (getD s (a + 2) 0) (getD s (a + 3) 0)) 0 && leb time steps) ≡ (headExact a s && leb (wordAt (a + timeAt) s) steps)
+head-tested s a steps time long e =
+    let next : a + 3 ≡ a + 2 + 1 = omega arith in
+    rw (next, ← two-zero (a + 2) s (omega arith), ← e, add-zero) refl
+
+module _ (s : List ℕ) (n at : ℕ) (page : PageOf s n at) where
   abbrev x : Node
   x = nodeAt (lineOf s) n
 
-  few : Few s
-  few = few-of (page .counted)
+  few : Counted s
+  few = counted (page .ready)
 
   at-page : (k v : ℕ) → v ≡ wordAt (at + k) s → v ≡ wordAt (pageAt n + k) s
   at-page k v e = rw (page .start) at e
 
-  pub head-tested : (time : ℕ) → time ≡ wordAt (at + timeAt) s → (leb (getD s at 0) 2 && leb (getD s (at + 1) 0) 1 && eqb (bitOr (getD s (at + 2) 0) (getD s (at + 3) 0)) 0 && leb time steps) ≡ (headExact (pageAt n) s && leb (x .time) (lineOf s .steps))
-  head-tested time e =
-      let same : time ≡ x .time = time-in s table steps n at page time e in
-      let next : at + 3 ≡ at + 2 + 1 = omega arith in
-      rw (next, ← two-zero (at + 2) s (omega (arith, page-room page)), ← same, ← page .counted .same, ← page .start, add-zero) refl
+  pub head-node : (steps : ℕ) → steps ≡ lineOf s .steps → (headExact at s && leb (wordAt (at + timeAt) s) steps) ≡ (headExact (pageAt n) s && leb (x .time) (lineOf s .steps))
+  head-node steps e = rw (← time-in s n at page (wordAt (at + timeAt) s) refl, ← e, ← page .start) refl
 
   pub status-tested : (status mark time log held targets : ℕ) (end nothing : Bool)
       → status ≡ getD s at 0 → mark ≡ getD s (at + 1) 0 → time ≡ wordAt (at + timeAt) s → log ≡ wordAt (at + logAt) s → held ≡ wordAt (at + heldAt) s → targets ≡ wordAt (at + targetsAt) s
@@ -284,7 +283,7 @@ module _ (s table : List ℕ) (steps n at : ℕ) (page : PageOf s table steps n 
   status-tested status mark time log held targets end nothing a b c d e f g h =
       let is : x .status ≡ statusOf status = line-status s few n (page .within) ∙ ap statusOf (rw (page .start, ← add-zero (pageAt n)) at (sym a)) in
       let marked : x .crashed ≡ not (eqb mark 0) = line-crashed s few n (page .within) ∙ ap crashOf (rw (page .start) at (sym b)) ∙ sym (crash-mark mark) in
-      let empty = holds-not x status time log held targets (time-in s table steps n at page time c) (empty-count (x .log) log (line-log-count s few n (page .within) ∙ rw (at-page logAt log d) refl)) (empty-count (x .held) held (line-held-count s few n (page .within) ∙ rw (at-page heldAt held e) refl)) (empty-count (x .targets) targets (line-targets-count s few n (page .within) ∙ rw (at-page targetsAt targets f) refl)) in
+      let empty = holds-not x status time log held targets (time-in s n at page time c) (empty-count (x .log) log (line-log-count s few n (page .within) ∙ rw (at-page logAt log d) refl)) (empty-count (x .held) held (line-held-count s few n (page .within) ∙ rw (at-page heldAt held e) refl)) (empty-count (x .targets) targets (line-targets-count s few n (page .within) ∙ rw (at-page targetsAt targets f) refl)) in
       rw (is, marked, line-plan s, h, empty, g, not-missing status (not (eqb mark 0))) refl
 
   counts-right : countsRight x ≡ true
@@ -324,8 +323,3 @@ module _ (s table : List ℕ) (steps n at : ℕ) (page : PageOf s table steps n 
       ∙ ap (λ (t : Bool). t && (T && tr) && (R && sr)) (swap-middle (E && L) (time && lr) H hr)
       ∙ ap (λ (t : Bool). t && (R && sr)) (swap-middle (E && L && H) (time && lr && hr) T tr)
       ∙ swap-middle (E && L && H && T) (time && lr && hr && tr) R sr)
-
--- What the check of a node is asked with.
-pub page-of : (s table : List ℕ) (steps n at : ℕ) → Ready s → Table s table → n < planNodes s → steps ≡ wordAt stepsAt s → at ≡ pageAt n → PageOf s table steps n at
-page-of s table steps n at ready tabled within e start =
-    record { counted = record { ready = ready; tabled = tabled; same = e ∙ sym (line-steps s (record { nodes = ready .nodes; channels = ready .channels })) }; within = within; start = start }

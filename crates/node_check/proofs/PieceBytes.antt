@@ -24,10 +24,10 @@ use Rattle.state.proofs.ReadLaws.{part-part, byte-part, entry-read, held-read, 
 use Rattle.items.specs.Items.{ifFound, fromSender, recordRight, originRight, entryRight, heldRight, targetRight}
 use Rattle.buffer.specs.Exact.{zeroAt, recordExact, timeNamed, originExact, entryExact, heldExact, targetExact}
 use Rattle.buffer.specs.Zero.{zeroBytes}
-use Rattle.buffer.specs.Check.{recordIn, entryIn, heldIn, targetIn}
+use Rattle.buffer.specs.Check.{recordIn}
 use Rattle.buffer.proofs.BytesLaws.{two-zero, three-zero}
 use Rattle.buffer.proofs.PieceReads.{origin-in}
-use Rattle.node_check.specs.NodeCheck.{entryPlain, entryMade, heldPlain, heldMade}
+use Rattle.node_check.specs.NodeCheck.{entryIn, heldIn, targetIn, entryPlain, entryMade, heldPlain, heldMade}
 
 -- ---- zero bytes
 

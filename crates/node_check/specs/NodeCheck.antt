@@ -1,15 +1,35 @@
--- What the check of a node's page goes by: its head, its slots one by one, and what a node of a status may not hold.
-use Prim.Native.Nat.{ℕ, zero, suc, _+_}
+-- What the check of a node's page goes by: where it starts, its head, its slots one by one, and what a node of a status may not hold.
+use Prim.Native.Nat.{ℕ, zero, suc, _+_, _<_}
+use mathlib.Core.Path.{_≡_}
 use mathlib.Core.Bool.{Bool, _&&_}
 use mathlib.Core.List.{List}
-use lib.ListN.{getD}
+use lib.ListN.{getD, take, drop}
 use lib.Dec.{leb, eqb}
-use Rattle.rules.specs.Line.{made}
-use Rattle.state.specs.Sizes.{statusAt, crashedAt}
+use Rattle.plan.specs.Plan.{planNodes}
+use Rattle.rules.specs.Line.{Entry, Held, Target, made}
+use Rattle.state.specs.Sizes.{pageAt, statusAt, crashedAt, entrySize, heldSize, targetSize}
+use Rattle.state.specs.Pieces.{entryLayout, heldLayout, targetLayout}
 use Rattle.state.specs.State.{lineOf}
 use Rattle.buffer.specs.Exact.{zeroAt, recordExact, originExact}
-use Rattle.buffer.specs.Check.{recordIn, entryIn, heldIn}
+use Rattle.buffer.specs.Check.{recordIn}
+use Rattle.buffer.specs.Ready.{Ready}
 use Rattle.items.specs.Items.{recordRight, originRight}
+
+-- A node of a state that is ready, and where its page starts.
+pub record PageOf (s : List ℕ) (n at : ℕ) : Type 0 where
+  pub ready : Ready s
+  pub within : n < planNodes s
+  pub start : at ≡ pageAt n
+
+-- What stands in a slot at a.
+abbrev pub entryIn : ℕ → List ℕ → Entry
+entryIn a s = entryLayout .read (take entrySize (drop a s))
+
+abbrev pub heldIn : ℕ → List ℕ → Held
+heldIn a s = heldLayout .read (take heldSize (drop a s))
+
+abbrev pub targetIn : ℕ → List ℕ → Target
+targetIn a s = targetLayout .read (take targetSize (drop a s))
 
 -- The head of a page at a: status, crash mark, two bytes unused.
 abbrev pub headExact : ℕ → List ℕ → Bool

@@ -9,13 +9,13 @@ ghost use Rattle.plan.specs.Mask.{planMask};
 ghost use Rattle.rules.specs.Lists.{allOf};
 ghost use Rattle.rules.specs.Line.{nodeAt, logLimit, heldLimit, targetLimit};
 ghost use Rattle.rules.specs.Replay.{passedOn};
-ghost use Rattle.state.specs.Sizes.{pageAt, countSize, logAt, entrySize, heldAt, heldSize, targetsAt, targetSize, stepsAt};
+ghost use Rattle.state.specs.Sizes.{pageAt, countSize, timeAt, logAt, entrySize, heldAt, heldSize, targetsAt, targetSize, stepsAt};
 ghost use Rattle.state.specs.State.{lineOf};
 ghost use Rattle.state.specs.Right.{wordAt};
 ghost use Rattle.items.specs.Items.{logRight, heldAllRight, targetRight, statusRight, nodePlain};
 ghost use Rattle.buffer.specs.Exact.{entryExact, heldExact, targetExact, slotsExact, listExact, pageExact};
-ghost use Rattle.node_check.specs.NodeCheck.{headExact, entryPlain, entryMade, heldPlain, heldMade, holdsNothing};
-ghost use Rattle.buffer.specs.Check.{Counted, PageOf, recordIn, targetIn};
+ghost use Rattle.node_check.specs.NodeCheck.{PageOf, targetIn, headExact, entryPlain, entryMade, heldPlain, heldMade, holdsNothing};
+ghost use Rattle.buffer.specs.Check.{Counted, recordIn};
 ghost use Rattle.buffer.specs.Ready.{Ready};
 ghost use Rattle.buffer.specs.Table.{Table};
 use buffer::Line;
@@ -47,8 +47,8 @@ fn entry_made(s: &[u8], t: &[u8; 156], n: usize, at: usize) -> bool
 }
 
 // The log's entries, so many: their times rise to the node's.
-fn entries_ok(s: &[u8], t: &[u8; 156], steps: u32, n: usize, at: usize, count: u32) -> bool
-    requires { ⌜ PageOf (now s) (now t) steps n at × (count ≡ wordAt (pageAt n + logAt) (now s)) × (count ≤ logLimit) ⌝ }
+fn entries_ok(s: &[u8], t: &[u8; 156], n: usize, at: usize, count: u32) -> bool
+    requires { ⌜ PageOf (now s) n at × Table (now s) (now t) × (count ≡ wordAt (pageAt n + logAt) (now s)) × (count ≤ logLimit) ⌝ }
     ensures { λ r. ⌜ r ≡ (slotsExact entryExact entrySize (pageAt n + logAt + countSize) count (now (s .entry)) && logRight (lineOf (now (s .entry))) n (nodeAt (lineOf (now (s .entry))) n .log)) ⌝ }
 {
     let top = bytes::get32(s, at + layout::TIME);
@@ -72,15 +72,15 @@ fn entries_ok(s: &[u8], t: &[u8; 156], steps: u32, n: usize, at: usize, count: u
 }
 
 // The log: its count, its entries, and zero bytes behind them.
-fn log_ok(s: &[u8], t: &[u8; 156], steps: u32, n: usize, at: usize) -> bool
-    requires { ⌜ PageOf (now s) (now t) steps n at ⌝ }
+fn log_ok(s: &[u8], t: &[u8; 156], n: usize, at: usize) -> bool
+    requires { ⌜ PageOf (now s) n at × Table (now s) (now t) ⌝ }
     ensures { λ r. ⌜ r ≡ (listExact entryExact logLimit entrySize (pageAt n + logAt) (now (s .entry)) && logRight (lineOf (now (s .entry))) n (nodeAt (lineOf (now (s .entry))) n .log)) ⌝ }
 {
     let count = bytes::get32(s, at + layout::LOG);
     if Line::LOG_LIMIT < count {
         return false;
     }
-    let used = entries_ok(s, t, steps, n, at, count);
+    let used = entries_ok(s, t, n, at, count);
     let unused = bytes::all_zero(
         s,
         at + layout::LOG_SLOTS + layout::ENTRY_SIZE * (count as usize),
@@ -149,8 +149,8 @@ fn row_set(last: &mut [u32; 12], sender: usize, time: u32)
 }
 
 // The held records, so many: the times of a row rise.
-fn held_each_ok(s: &[u8], t: &[u8; 156], steps: u32, n: usize, at: usize, count: u32) -> bool
-    requires { ⌜ PageOf (now s) (now t) steps n at × (count ≡ wordAt (pageAt n + heldAt) (now s)) × (count ≤ heldLimit) ⌝ }
+fn held_each_ok(s: &[u8], t: &[u8; 156], n: usize, at: usize, count: u32) -> bool
+    requires { ⌜ PageOf (now s) n at × Table (now s) (now t) × (count ≡ wordAt (pageAt n + heldAt) (now s)) × (count ≤ heldLimit) ⌝ }
     ensures { λ r. ⌜ r ≡ (slotsExact heldExact heldSize (pageAt n + heldAt + countSize) count (now (s .entry)) && heldAllRight (lineOf (now (s .entry))) n (nodeAt (lineOf (now (s .entry))) n .held)) ⌝ }
 {
     if count == 0 {
@@ -181,15 +181,15 @@ fn held_each_ok(s: &[u8], t: &[u8; 156], steps: u32, n: usize, at: usize, count:
 }
 
 // The list of held records: its count, the records, and zero bytes behind them.
-fn held_ok(s: &[u8], t: &[u8; 156], steps: u32, n: usize, at: usize) -> bool
-    requires { ⌜ PageOf (now s) (now t) steps n at ⌝ }
+fn held_ok(s: &[u8], t: &[u8; 156], n: usize, at: usize) -> bool
+    requires { ⌜ PageOf (now s) n at × Table (now s) (now t) ⌝ }
     ensures { λ r. ⌜ r ≡ (listExact heldExact heldLimit heldSize (pageAt n + heldAt) (now (s .entry)) && heldAllRight (lineOf (now (s .entry))) n (nodeAt (lineOf (now (s .entry))) n .held)) ⌝ }
 {
     let count = bytes::get32(s, at + layout::HELD);
     if Line::HELD_LIMIT < count {
         return false;
     }
-    let used = held_each_ok(s, t, steps, n, at, count);
+    let used = held_each_ok(s, t, n, at, count);
     let unused = bytes::all_zero(
         s,
         at + layout::HELD_SLOTS + layout::HELD_SIZE * (count as usize),
@@ -213,7 +213,7 @@ fn target_ok(s: &[u8], t: &[u8; 156], steps: u32, n: usize, at: usize) -> bool
 
 // The targets, so many.
 fn target_each_ok(s: &[u8], t: &[u8; 156], steps: u32, n: usize, at: usize, count: u32) -> bool
-    requires { ⌜ PageOf (now s) (now t) steps n at × (count ≡ wordAt (pageAt n + targetsAt) (now s)) × (count ≤ targetLimit) ⌝ }
+    requires { ⌜ PageOf (now s) n at × Counted (now s) (now t) steps × (count ≡ wordAt (pageAt n + targetsAt) (now s)) × (count ≤ targetLimit) ⌝ }
     ensures { λ r. ⌜ r ≡ (slotsExact targetExact targetSize (pageAt n + targetsAt + countSize) count (now (s .entry)) && allOf (targetRight (lineOf (now (s .entry))) n) (nodeAt (lineOf (now (s .entry))) n .targets)) ⌝ }
 {
     let mut slot = at + layout::TARGET_SLOTS;
@@ -230,7 +230,7 @@ fn target_each_ok(s: &[u8], t: &[u8; 156], steps: u32, n: usize, at: usize, coun
 
 // The list of targets: its count, the targets, and zero bytes behind them.
 fn targets_ok(s: &[u8], t: &[u8; 156], steps: u32, n: usize, at: usize) -> bool
-    requires { ⌜ PageOf (now s) (now t) steps n at ⌝ }
+    requires { ⌜ PageOf (now s) n at × Counted (now s) (now t) steps ⌝ }
     ensures { λ r. ⌜ r ≡ (listExact targetExact targetLimit targetSize (pageAt n + targetsAt) (now (s .entry)) && allOf (targetRight (lineOf (now (s .entry))) n) (nodeAt (lineOf (now (s .entry))) n .targets)) ⌝ }
 {
     let count = bytes::get32(s, at + layout::TARGETS);
@@ -247,9 +247,9 @@ fn targets_ok(s: &[u8], t: &[u8; 156], steps: u32, n: usize, at: usize) -> bool
 }
 
 // Status, crash mark, two bytes unused, time.
-fn head_ok(s: &[u8], t: &[u8; 156], steps: u32, n: usize, at: usize) -> bool
-    requires { ⌜ PageOf (now s) (now t) steps n at ⌝ }
-    ensures { λ r. ⌜ r ≡ (headExact (pageAt n) (now (s .entry)) && leb (nodeAt (lineOf (now (s .entry))) n .time) (lineOf (now (s .entry)) .steps)) ⌝ }
+fn head_ok(s: &[u8], steps: u32, at: usize) -> bool
+    requires { ⌜ at + 8 ≤ length (now s) ⌝ }
+    ensures { λ r. ⌜ r ≡ (headExact at (now (s .entry)) && leb (wordAt (at + timeAt) (now (s .entry))) steps) ⌝ }
 {
     let time = bytes::get32(s, at + layout::TIME);
     let unused = (s[at + 2] | s[at + 3]) == 0;
@@ -281,8 +281,8 @@ fn marks_an_end(s: &[u8], t: &[u8; 156], n: usize, crashed: bool) -> bool
 }
 
 // Status and crash mark, by what the node holds and where it stands in the plan.
-fn status_ok(s: &[u8], t: &[u8; 156], steps: u32, n: usize, at: usize) -> bool
-    requires { ⌜ PageOf (now s) (now t) steps n at ⌝ }
+fn status_ok(s: &[u8], t: &[u8; 156], n: usize, at: usize) -> bool
+    requires { ⌜ PageOf (now s) n at × Table (now s) (now t) ⌝ }
     ensures { λ r. ⌜ r ≡ statusRight (lineOf (now (s .entry)) .plan) n (nodeAt (lineOf (now (s .entry))) n) ⌝ }
 {
     let status = s[at];
@@ -302,11 +302,11 @@ pub fn node_ok(s: &[u8], t: &[u8; 156], n: usize, steps: u32) -> bool
     ensures { λ r. ⌜ r ≡ (pageExact (pageAt n) (now (s .entry)) && nodePlain (lineOf (now (s .entry))) n) ⌝ }
 {
     let at = layout::PAGE + layout::PAGE * n;
-    let head = head_ok(s, t, steps, n, at);
-    let log = log_ok(s, t, steps, n, at);
-    let held = held_ok(s, t, steps, n, at);
+    let head = head_ok(s, steps, at);
+    let log = log_ok(s, t, n, at);
+    let held = held_ok(s, t, n, at);
     let targets = targets_ok(s, t, steps, n, at);
     let rest = bytes::all_zero(s, at + layout::PAGE_REST, at + layout::PAGE);
-    let status = status_ok(s, t, steps, n, at);
+    let status = status_ok(s, t, n, at);
     head & log & held & targets & (rest & status)
 }

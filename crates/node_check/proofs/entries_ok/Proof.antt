@@ -9,11 +9,11 @@ use Rattle.node_check.proofs.entries_ok.Statement.{statement}
 use Rattle.node_check.proofs.entries_ok.Tie as tie
 
 abbrev Inv-loop : tie.InvT-loop
-Inv-loop s t steps n at count top last₀ slot₀ left₀ last slot left =
+Inv-loop s t n at count top last₀ slot₀ left₀ last slot left =
     Going (length s) entrySize (pageAt n + logAt + countSize) slot count left (logPass s n 0 (pageAt n + logAt + countSize) count) (logPass s n last slot left)
 
 abbrev μ-loop : tie.MeasureT-loop
-μ-loop s t steps n at count top last₀ slot₀ left₀ last slot left = left
+μ-loop s t n at count top last₀ slot₀ left₀ last slot left = left
 
 add-get32 : tie.Need-add-get32 Inv-loop μ-loop
 add-get32 c = omega (arith, page-room (c .before .pre .0))
@@ -29,7 +29,7 @@ loop-holds c =
     let a = c .before .before .args in
     let k = c .before .before .pre in
     let start : a .at + 12 ≡ pageAt (a .n) + logAt + countSize = omega (arith, k .0 .start) in
-    record { within = omega arith; there = omega (arith, start); fits = omega (arith, page-room (k .0), start, k .2); same = rw start refl }
+    record { within = omega arith; there = omega (arith, start); fits = omega (arith, page-room (k .0), start, k .3); same = rw start refl }
 
 get32-requires-2 : tie.Need-get32-requires-2 Inv-loop μ-loop
 get32-requires-2 c κs = let v = c .before .loop .inv in omega (arith, v .there, v .fits, v .within)
@@ -47,19 +47,19 @@ returns c =
     let a = start .args in
     let s = a .s .now in
     let page = start .pre .0 in
-    let top = time-in s (a .t .now) (a .steps) (a .n) (a .at) page (begun .get32 .result) (begun .get32 .ensures) in
+    let top = time-in s (a .n) (a .at) page (begun .get32 .result) (begun .get32 .ensures) in
     let more : suc (v .left - 1) ≡ v .left = omega arith in
     sym
-    (sym (log-whole s (a .t .now) (a .steps) (a .n) (a .at) page (a .count) (start .pre .1) (start .pre .2))
+    (sym (log-whole s (a .n) (a .at) page (a .count) (start .pre .2) (start .pre .3))
     ∙ v .inv .same
     ∙ ap (λ (k : ℕ). logPass s (a .n) (v .last) (v .slot) k) (sym more)
-    ∙ entry-bare s (a .t .now) (a .steps) (a .n) (a .at) page (v .last) (v .slot) (v .left - 1) (time .get322 .result) (begun .get32 .result) (time .get322 .ensures) top (plain .entry-plain .result) (plain .entry-plain .ensures) (not-true _ (c .if1 .taken)))
+    ∙ entry-bare s (a .n) (v .last) (v .slot) (v .left - 1) (time .get322 .result) (begun .get32 .result) (time .get322 .ensures) top (plain .entry-plain .result) (plain .entry-plain .ensures) (not-true _ (c .if1 .taken)))
 
 entry-made-requires : tie.Need-entry-made-requires Inv-loop μ-loop
 entry-made-requires c κs =
     let v = c .before .before .before .before .loop .inv in
-    let counted = c .before .before .before .before .before .before .before .pre .0 .counted in
-    (counted .ready, counted .tabled, omega (arith, v .there, v .fits, v .within))
+    let k = c .before .before .before .before .before .before .before .pre in
+    (k .0 .ready, k .1, omega (arith, v .there, v .fits, v .within))
 
 returns-2 : tie.Need-returns-2 Inv-loop μ-loop
 returns-2 c =
@@ -72,13 +72,13 @@ returns-2 c =
     let a = start .args in
     let s = a .s .now in
     let page = start .pre .0 in
-    let top = time-in s (a .t .now) (a .steps) (a .n) (a .at) page (begun .get32 .result) (begun .get32 .ensures) in
+    let top = time-in s (a .n) (a .at) page (begun .get32 .result) (begun .get32 .ensures) in
     let more : suc (v .left - 1) ≡ v .left = omega arith in
     sym
-    (sym (log-whole s (a .t .now) (a .steps) (a .n) (a .at) page (a .count) (start .pre .1) (start .pre .2))
+    (sym (log-whole s (a .n) (a .at) page (a .count) (start .pre .2) (start .pre .3))
     ∙ v .inv .same
     ∙ ap (λ (k : ℕ). logPass s (a .n) (v .last) (v .slot) k) (sym more)
-    ∙ entry-unmade s (a .t .now) (a .steps) (a .n) (a .at) page (v .last) (v .slot) (v .left - 1) (time .get322 .result) (begun .get32 .result) (time .get322 .ensures) top (plain .entry-plain .result) (made .entry-made .result) (plain .entry-plain .ensures) (not-false _ (made .before .if1 .left)) (made .entry-made .ensures) (not-true _ (c .if2 .taken)))
+    ∙ entry-unmade s (a .n) (v .last) (v .slot) (v .left - 1) (time .get322 .result) (begun .get32 .result) (time .get322 .ensures) top (plain .entry-plain .result) (made .entry-made .result) (plain .entry-plain .ensures) (not-false _ (made .before .if1 .left)) (made .entry-made .ensures) (not-true _ (c .if2 .taken)))
 
 loop-again : tie.Need-loop-again Inv-loop μ-loop
 loop-again c =
@@ -91,7 +91,7 @@ loop-again c =
     let a = start .args in
     let s = a .s .now in
     let page = start .pre .0 in
-    let top = time-in s (a .t .now) (a .steps) (a .n) (a .at) page (begun .get32 .result) (begun .get32 .ensures) in
+    let top = time-in s (a .n) (a .at) page (begun .get32 .result) (begun .get32 .ensures) in
     let more : suc (v .left - 1) ≡ v .left = omega arith in
     record {
       within = omega (arith, v .inv .within);
@@ -100,7 +100,7 @@ loop-again c =
       same =
           v .inv .same
           ∙ ap (λ (k : ℕ). logPass s (a .n) (v .last) (v .slot) k) (sym more)
-          ∙ entry-more s (a .t .now) (a .steps) (a .n) (a .at) page (v .last) (v .slot) (v .left - 1) (time .get322 .result) (begun .get32 .result) (time .get322 .ensures) top (plain .entry-plain .result) (made .entry-made .result) (plain .entry-plain .ensures) (not-false _ (made .before .if1 .left)) (made .entry-made .ensures) (not-false _ (c .if2 .left));
+          ∙ entry-more s (a .n) (v .last) (v .slot) (v .left - 1) (time .get322 .result) (begun .get32 .result) (time .get322 .ensures) top (plain .entry-plain .result) (made .entry-made .result) (plain .entry-plain .ensures) (not-false _ (made .before .if1 .left)) (made .entry-made .ensures) (not-false _ (c .if2 .left));
     }
 
 returns-3 : tie.Need-returns-3 Inv-loop μ-loop
@@ -111,7 +111,7 @@ returns-3 c =
     let none : v .left ≡ 0 = omega arith in
     ap (λ (k : ℕ). logPass (a .s .now) (a .n) (v .last) (v .slot) k) (sym none)
     ∙ sym (v .inv .same)
-    ∙ log-whole (a .s .now) (a .t .now) (a .steps) (a .n) (a .at) (start .pre .0) (a .count) (start .pre .1) (start .pre .2)
+    ∙ log-whole (a .s .now) (a .n) (a .at) (start .pre .0) (a .count) (start .pre .2) (start .pre .3)
 
 pub entries-ok-spec : {M : Type 1} → statement M
 entries-ok-spec =

@@ -11,17 +11,17 @@ use Rattle.node_check.proofs.held_each_ok.Statement.{statement}
 use Rattle.node_check.proofs.held_each_ok.Tie as tie
 
 abbrev Inv-loop : tie.InvT-loop
-Inv-loop s t steps n at count mask last₀ slot₀ left₀ last slot left =
+Inv-loop s t n at count mask last₀ slot₀ left₀ last slot left =
     (length last ≡ 12) × Going (length s) heldSize (pageAt n + heldAt + countSize) slot count left (heldPass s n noneHeld (pageAt n + heldAt + countSize) count) (heldPass s n last slot left)
 
 abbrev μ-loop : tie.MeasureT-loop
-μ-loop s t steps n at count mask last₀ slot₀ left₀ last slot left = left
+μ-loop s t n at count mask last₀ slot₀ left₀ last slot left = left
 
 returns : tie.Need-returns Inv-loop μ-loop
 returns c =
     let start = c .before .before in
     let a = start .args in
-    ap (λ (k : ℕ). heldPass (a .s .now) (a .n) noneHeld (pageAt (a .n) + heldAt + countSize) k) (sym (c .if1 .taken)) ∙ held-whole (a .s .now) (a .t .now) (a .steps) (a .n) (a .at) (start .pre .0) (a .count) (start .pre .1) (start .pre .2)
+    ap (λ (k : ℕ). heldPass (a .s .now) (a .n) noneHeld (pageAt (a .n) + heldAt + countSize) k) (sym (c .if1 .taken)) ∙ held-whole (a .s .now) (a .n) (a .at) (start .pre .0) (a .count) (start .pre .2) (start .pre .3)
 
 add-slot : tie.Need-add-slot Inv-loop μ-loop
 add-slot c = omega (arith, page-room (c .before .before .before .pre .0))
@@ -32,7 +32,7 @@ loop-holds c =
     let a = c .before .before .before .args in
     let k = c .before .before .before .pre in
     let start : a .at + 1552 ≡ pageAt (a .n) + heldAt + countSize = omega (arith, k .0 .start) in
-    (refl, record { within = omega arith; there = omega (arith, start); fits = omega (arith, page-room (k .0), start, k .2); same = rw start refl })
+    (refl, record { within = omega arith; there = omega (arith, start); fits = omega (arith, page-room (k .0), start, k .3); same = rw start refl })
 
 get32-requires : tie.Need-get32-requires Inv-loop μ-loop
 get32-requires c κs = let v = c .before .before .before .loop .inv .1 in omega (arith, v .there, v .fits, v .within)
@@ -53,23 +53,23 @@ returns-2 c =
     let page = start .pre .0 in
     let more : suc (v .left - 1) ≡ v .left = omega arith in
     sym
-    (sym (held-whole s (a .t .now) (a .steps) (a .n) (a .at) page (a .count) (start .pre .1) (start .pre .2))
+    (sym (held-whole s (a .n) (a .at) page (a .count) (start .pre .2) (start .pre .3))
     ∙ v .inv .1 .same
     ∙ ap (λ (k : ℕ). heldPass s (a .n) (v .last) (v .slot) k) (sym more)
-    ∙ held-bare s (a .t .now) (a .steps) (a .n) (a .at) page (v .last) (v .slot) (v .left - 1) (sender .index .result) (time .get32 .result) (row .row-last .result) (sender .index .ensures .0) (time .get32 .ensures) (row .row-last .ensures) (plain .held-plain .result) (plain .held-plain .ensures) (not-true _ (c .if2 .taken)))
+    ∙ held-bare s (a .n) (v .last) (v .slot) (v .left - 1) (sender .index .result) (time .get32 .result) (row .row-last .result) (sender .index .ensures .0) (time .get32 .ensures) (row .row-last .ensures) (plain .held-plain .result) (plain .held-plain .ensures) (not-true _ (c .if2 .taken)))
 
 held-made-requires : tie.Need-held-made-requires Inv-loop μ-loop
 held-made-requires c κs =
     let loop = c .before .before .before .before .before .before .before .before in
     let v = loop .loop .inv .1 in
-    let counted = loop .before .before .before .before .pre .0 .counted in
-    (counted .ready, counted .tabled, omega (arith, v .there, v .fits, v .within))
+    let k = loop .before .before .before .before .pre in
+    (k .0 .ready, k .1, omega (arith, v .there, v .fits, v .within))
 
 passed-on-requires : tie.Need-passed-on-requires Inv-loop μ-loop
 passed-on-requires c κs =
     let loop = c .before .before .before .before .before .before .before .before .before in
     let v = loop .loop .inv .1 in
-    (loop .before .before .before .before .pre .0 .counted .ready, loop .before .leaving-mask .ensures, omega (arith, v .there, v .fits, v .within))
+    (loop .before .before .before .before .pre .0 .ready, loop .before .leaving-mask .ensures, omega (arith, v .there, v .fits, v .within))
 
 returns-3 : tie.Need-returns-3 Inv-loop μ-loop
 returns-3 c =
@@ -86,10 +86,10 @@ returns-3 c =
     let page = start .pre .0 in
     let more : suc (v .left - 1) ≡ v .left = omega arith in
     sym
-    (sym (held-whole s (a .t .now) (a .steps) (a .n) (a .at) page (a .count) (start .pre .1) (start .pre .2))
+    (sym (held-whole s (a .n) (a .at) page (a .count) (start .pre .2) (start .pre .3))
     ∙ v .inv .1 .same
     ∙ ap (λ (k : ℕ). heldPass s (a .n) (v .last) (v .slot) k) (sym more)
-    ∙ held-unmade s (a .t .now) (a .steps) (a .n) (a .at) page (v .last) (v .slot) (v .left - 1) (sender .index .result) (time .get32 .result) (row .row-last .result) (sender .index .ensures .0) (time .get32 .ensures) (row .row-last .ensures) (plain .held-plain .result) (made .held-made .result) (passed .passed-on .result) (plain .held-plain .ensures) (not-false _ (made .before .if2 .left)) (made .held-made .ensures) (passed .passed-on .ensures) (not-true _ (c .if3 .taken)))
+    ∙ held-unmade s (a .n) (v .last) (v .slot) (v .left - 1) (sender .index .result) (time .get32 .result) (row .row-last .result) (sender .index .ensures .0) (time .get32 .ensures) (row .row-last .ensures) (plain .held-plain .result) (made .held-made .result) (passed .passed-on .result) (plain .held-plain .ensures) (not-false _ (made .before .if2 .left)) (made .held-made .ensures) (passed .passed-on .ensures) (not-true _ (c .if3 .taken)))
 
 loop-again : tie.Need-loop-again Inv-loop μ-loop
 loop-again c =
@@ -113,7 +113,7 @@ loop-again c =
         same =
             v .inv .1 .same
             ∙ ap (λ (k : ℕ). heldPass s (a .n) (v .last) (v .slot) k) (sym more)
-            ∙ held-more s (a .t .now) (a .steps) (a .n) (a .at) page (v .last) (v .slot) (v .left - 1) (sender .index .result) (time .get32 .result) (row .row-last .result) (sender .index .ensures .0) (time .get32 .ensures) (row .row-last .ensures) (plain .held-plain .result) (made .held-made .result) (passed .passed-on .result) (plain .held-plain .ensures) (not-false _ (made .before .if2 .left)) (made .held-made .ensures) (passed .passed-on .ensures) (c .row-set .last .0) (c .row-set .ensures) (not-false _ (c .before .before .if3 .left));
+            ∙ held-more s (a .n) (v .last) (v .slot) (v .left - 1) (sender .index .result) (time .get32 .result) (row .row-last .result) (sender .index .ensures .0) (time .get32 .ensures) (row .row-last .ensures) (plain .held-plain .result) (made .held-made .result) (passed .passed-on .result) (plain .held-plain .ensures) (not-false _ (made .before .if2 .left)) (made .held-made .ensures) (passed .passed-on .ensures) (c .row-set .last .0) (c .row-set .ensures) (not-false _ (c .before .before .if3 .left));
       },
     )
 
@@ -125,7 +125,7 @@ returns-4 c =
     let none : v .left ≡ 0 = omega arith in
     ap (λ (k : ℕ). heldPass (a .s .now) (a .n) (v .last) (v .slot) k) (sym none)
     ∙ sym (v .inv .1 .same)
-    ∙ held-whole (a .s .now) (a .t .now) (a .steps) (a .n) (a .at) (start .pre .0) (a .count) (start .pre .1) (start .pre .2)
+    ∙ held-whole (a .s .now) (a .n) (a .at) (start .pre .0) (a .count) (start .pre .2) (start .pre .3)
 
 pub held-each-ok-spec : {M : Type 1} → statement M
 held-each-ok-spec =

@@ -16,26 +16,26 @@ use Rattle.node_check.proofs.log_ok.Tie as tie
 returns : tie.Need-returns
 returns c =
     let a = c .before .before .before .args in
-    let page = c .before .before .before .pre in
+    let page = c .before .before .before .pre .0 in
     let s = a .s .now in
     let count : c .before .get32 .result ≡ wordAt (pageAt (a .n) + logAt) s = rw (page .start) at (c .before .get32 .ensures) in
     sym (list-many entryExact logLimit entrySize (pageAt (a .n) + logAt) s (logRight (lineOf s) (a .n) (nodeAt (lineOf s) (a .n) .log)) (omega (arith, c .if1 .taken, count)))
 
 entries-ok-requires : tie.Need-entries-ok-requires
 entries-ok-requires c κs =
-    let page = c .before .before .before .pre in
-    (page, rw (page .start) at (c .before .get32 .ensures), omega (arith, c .if1 .left))
+    let k = c .before .before .before .pre in
+    (k .0, k .1, rw (k .0 .start) at (c .before .get32 .ensures), omega (arith, c .if1 .left))
 
 all-zero-requires : tie.Need-all-zero-requires
 all-zero-requires c κs =
     let start = c .before .before .before .before in
-    (omega (arith, c .before .if1 .left), omega (arith, page-room (start .pre)))
+    (omega (arith, c .before .if1 .left), omega (arith, page-room (start .pre .0)))
 
 returns-2 : tie.Need-returns-2
 returns-2 c =
     let start = c .before .before .before .before .before in
     let a = start .args in
-    let page = start .pre in
+    let page = start .pre .0 in
     let s = a .s .now in
     let n : ℕ = c .before .before .before .get32 .result in
     let at : ℕ = pageAt (a .n) + logAt in

@@ -1,32 +1,38 @@
 use Prim.Native.Nat.{ℕ, _+_, _*_, _-_}
-use mathlib.Core.Path.{_≡_, _∙_}
+use mathlib.Core.Path.{_≡_, sym, _∙_}
 use native.Mathlib.Omega.{arith}
 use borrow.Author.Needs.{needs}
 use Rattle.state.specs.Sizes.{pageAt, nodeRestAt, nodeRest}
+use Rattle.state.proofs.InPlace.{line-steps}
+use Rattle.buffer.proofs.ReadyLaws.{counted}
+use Rattle.node_check.specs.NodeCheck.{PageOf}
 use Rattle.node_check.proofs.PieceBytes.{zero-part}
-use Rattle.node_check.proofs.NodeLaws.{page-of, page-room, node-tested}
+use Rattle.node_check.proofs.NodeLaws.{head-node, node-tested}
 use Rattle.node_check.proofs.node_ok.Statement.{statement}
 use Rattle.node_check.proofs.node_ok.Tie as tie
 
 head-ok-requires : tie.Need-head-ok-requires
-head-ok-requires c κs = let start = c .before in page-of (start .args .s .now) (start .args .t .now) (start .args .steps) (start .args .n) (4096 + 4096 * start .args .n) (start .pre .0) (start .pre .1) (start .pre .2) (start .pre .3) (omega arith)
+head-ok-requires c κs = let k = c .before .pre in omega (arith, k .0 .long, k .0 .nodes, k .2)
 
 log-ok-requires : tie.Need-log-ok-requires
-log-ok-requires c κs = let start = c .before .before in page-of (start .args .s .now) (start .args .t .now) (start .args .steps) (start .args .n) (4096 + 4096 * start .args .n) (start .pre .0) (start .pre .1) (start .pre .2) (start .pre .3) (omega arith)
+log-ok-requires c κs = let k = c .before .before .pre in (record { ready = k .0; within = k .2; start = omega arith }, k .1)
 
 held-ok-requires : tie.Need-held-ok-requires
-held-ok-requires c κs = let start = c .before .before .before in page-of (start .args .s .now) (start .args .t .now) (start .args .steps) (start .args .n) (4096 + 4096 * start .args .n) (start .pre .0) (start .pre .1) (start .pre .2) (start .pre .3) (omega arith)
+held-ok-requires c κs = let k = c .before .before .before .pre in (record { ready = k .0; within = k .2; start = omega arith }, k .1)
 
 targets-ok-requires : tie.Need-targets-ok-requires
-targets-ok-requires c κs = let start = c .before .before .before .before in page-of (start .args .s .now) (start .args .t .now) (start .args .steps) (start .args .n) (4096 + 4096 * start .args .n) (start .pre .0) (start .pre .1) (start .pre .2) (start .pre .3) (omega arith)
+targets-ok-requires c κs =
+    let start = c .before .before .before .before in
+    let k = start .pre in
+    (record { ready = k .0; within = k .2; start = omega arith }, record { ready = k .0; tabled = k .1; same = k .3 ∙ sym (line-steps (start .args .s .now) (counted (k .0))) })
 
 all-zero-requires : tie.Need-all-zero-requires
 all-zero-requires c κs =
-    let start = c .before .before .before .before .before in
-    (omega arith, omega (arith, page-room (page-of (start .args .s .now) (start .args .t .now) (start .args .steps) (start .args .n) (4096 + 4096 * start .args .n) (start .pre .0) (start .pre .1) (start .pre .2) (start .pre .3) (omega arith))))
+    let k = c .before .before .before .before .before .pre in
+    (omega arith, omega (arith, k .0 .long, k .0 .nodes, k .2))
 
 status-ok-requires : tie.Need-status-ok-requires
-status-ok-requires c κs = let start = c .before .before .before .before .before .before in page-of (start .args .s .now) (start .args .t .now) (start .args .steps) (start .args .n) (4096 + 4096 * start .args .n) (start .pre .0) (start .pre .1) (start .pre .2) (start .pre .3) (omega arith)
+status-ok-requires c κs = let k = c .before .before .before .before .before .before .pre in (record { ready = k .0; within = k .2; start = omega arith }, k .1)
 
 returns : tie.Need-returns
 returns c =
@@ -42,7 +48,9 @@ returns c =
     let same : at ≡ pageAt (a .n) = omega arith in
     let from : at + 3604 ≡ pageAt (a .n) + nodeRestAt = omega arith in
     let wide : at + 4096 - (at + 3604) ≡ nodeRest = omega arith in
-    node-tested s (a .t .now) (a .steps) (a .n) at (page-of s (a .t .now) (a .steps) (a .n) at (start .pre .0) (start .pre .1) (start .pre .2) (start .pre .3) same) (head .head-ok .result) (log .log-ok .result) (held .held-ok .result) (targets .targets-ok .result) (rest .all-zero .result) (c .status-ok .result) (head .head-ok .ensures) (log .log-ok .ensures) (held .held-ok .ensures) (targets .targets-ok .ensures)
+    let page : PageOf s (a .n) at = record { ready = start .pre .0; within = start .pre .2; start = same } in
+    let steps = start .pre .3 ∙ sym (line-steps s (counted (start .pre .0))) in
+    node-tested s (a .n) at page (head .head-ok .result) (log .log-ok .result) (held .held-ok .result) (targets .targets-ok .result) (rest .all-zero .result) (c .status-ok .result) (head .head-ok .ensures ∙ head-node s (a .n) at page (a .steps) steps) (log .log-ok .ensures) (held .held-ok .ensures) (targets .targets-ok .ensures)
     (rest .all-zero .ensures ∙ zero-part (at + 3604) (at + 4096) (pageAt (a .n) + nodeRestAt) nodeRest s from wide)
     (c .status-ok .ensures)
 

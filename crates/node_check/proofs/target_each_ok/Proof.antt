@@ -24,10 +24,10 @@ loop-holds c =
     let a = c .before .args in
     let k = c .before .pre in
     let start : a .at + 2836 ≡ pageAt (a .n) + targetsAt + countSize = omega (arith, k .0 .start) in
-    record { within = omega arith; there = omega (arith, start); fits = omega (arith, page-room (k .0), start, k .2); same = rw start refl }
+    record { within = omega arith; there = omega (arith, start); fits = omega (arith, page-room (k .0), start, k .3); same = rw start refl }
 
 target-ok-requires : tie.Need-target-ok-requires Inv-loop μ-loop
-target-ok-requires c κs = let v = c .before .loop .inv in (c .before .before .before .pre .0 .counted, omega (arith, v .there, v .fits, v .within))
+target-ok-requires c κs = let v = c .before .loop .inv in (c .before .before .before .pre .1, omega (arith, v .there, v .fits, v .within))
 
 returns : tie.Need-returns Inv-loop μ-loop
 returns c =
@@ -37,10 +37,10 @@ returns c =
     let a = start .args in
     let more : suc (v .left - 1) ≡ v .left = omega arith in
     sym
-    (sym (target-whole (a .s .now) (a .t .now) (a .steps) (a .n) (a .at) (start .pre .0) (a .count) (start .pre .1) (start .pre .2))
+    (sym (target-whole (a .s .now) (a .n) (a .at) (start .pre .0) (a .count) (start .pre .2) (start .pre .3))
     ∙ v .inv .same
     ∙ ap (λ (k : ℕ). targetPass (a .s .now) (a .n) (v .slot) k) (sym more)
-    ∙ target-more (a .s .now) (a .t .now) (a .steps) (a .n) (a .at) (start .pre .0) (one .target-ok .result) (v .slot) (v .left - 1) (one .target-ok .ensures)
+    ∙ target-more (a .s .now) (a .n) (one .target-ok .result) (v .slot) (v .left - 1) (one .target-ok .ensures)
     ∙ ap (λ (t : Bool). t && targetPass (a .s .now) (a .n) (v .slot + targetSize) (v .left - 1)) (not-true (one .target-ok .result) (c .if1 .taken)))
 
 loop-again : tie.Need-loop-again Inv-loop μ-loop
@@ -57,7 +57,7 @@ loop-again c =
       same =
           v .inv .same
           ∙ ap (λ (k : ℕ). targetPass (a .s .now) (a .n) (v .slot) k) (sym more)
-          ∙ target-more (a .s .now) (a .t .now) (a .steps) (a .n) (a .at) (start .pre .0) (one .target-ok .result) (v .slot) (v .left - 1) (one .target-ok .ensures)
+          ∙ target-more (a .s .now) (a .n) (one .target-ok .result) (v .slot) (v .left - 1) (one .target-ok .ensures)
           ∙ ap (λ (t : Bool). t && targetPass (a .s .now) (a .n) (v .slot + targetSize) (v .left - 1)) (not-false (one .target-ok .result) (c .if1 .left));
     }
 
@@ -69,7 +69,7 @@ returns-2 c =
     let none : v .left ≡ 0 = omega arith in
     ap (λ (k : ℕ). targetPass (a .s .now) (a .n) (v .slot) k) (sym none)
     ∙ sym (v .inv .same)
-    ∙ target-whole (a .s .now) (a .t .now) (a .steps) (a .n) (a .at) (start .pre .0) (a .count) (start .pre .1) (start .pre .2)
+    ∙ target-whole (a .s .now) (a .n) (a .at) (start .pre .0) (a .count) (start .pre .2) (start .pre .3)
 
 pub target-each-ok-spec : {M : Type 1} → statement M
 target-each-ok-spec =
