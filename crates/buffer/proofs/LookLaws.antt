@@ -13,7 +13,7 @@ use lib.Seq.{drop-cons}
 use Rattle.plan.specs.declared.Channel.{Channel}
 use Rattle.plan.specs.Plan.{Plan, planOf, planChannels, channelAt, channelCount, noChannel, keepIf, numbersFrom}
 use Rattle.plan.proofs.ReadLaws.{channel-at}
-use Rattle.rules.proofs.Options.{none-some, some-same}
+use Rattle.rules.proofs.lists.Options.{none-some, some-same}
 use Rattle.items.specs.Items.{fromSender, placeFrom}
 use Rattle.buffer.specs.Look.{channelFrom}
 

@@ -14,7 +14,7 @@ use Rattle.plan.proofs.PlanLaws.{node-count, channel-count}
 use Rattle.plan.proofs.ReadLaws.{byte-field}
 use Rattle.rules.specs.Line.{nodeAt, isDown, isReplay, parents}
 use Rattle.rules.specs.Step.{nodeDown, replaying}
-use Rattle.rules.proofs.PlanOrder.{ordered-channels}
+use Rattle.rules.proofs.steps.PlanOrder.{ordered-channels}
 use Rattle.state.specs.Sizes.{pageAt}
 use Rattle.state.specs.Node.{statusOf, crashOf}
 use Rattle.state.specs.Lane.{heardCount}

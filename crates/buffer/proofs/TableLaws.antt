@@ -16,10 +16,10 @@ use Rattle.plan.specs.Plan.{Plan, planOf, planChannels, nodeCount, channelAt, c
 use Rattle.plan.proofs.PlanLaws.{channel-count}
 use Rattle.plan.proofs.FitsLaws.{fitting}
 use Rattle.plan.proofs.AcceptedLaws.{four-at}
-use Rattle.rules.proofs.Members.{here as first}
-use Rattle.rules.proofs.Inv.{Ordered}
-use Rattle.rules.proofs.PlanOrder.{ordered-channels}
-use Rattle.rules.proofs.Joins.{entering-in}
+use Rattle.rules.proofs.lists.Members.{here as first}
+use Rattle.rules.proofs.invariant.Inv.{Ordered}
+use Rattle.rules.proofs.steps.PlanOrder.{ordered-channels}
+use Rattle.rules.proofs.line.Joins.{entering-in}
 use Rattle.items.specs.Items.{fromSender, placeFrom, ifFound}
 use Rattle.items.proofs.Lookup.{found-in, sender-found, sender-placed}
 use Rattle.buffer.specs.Ready.{Ready}

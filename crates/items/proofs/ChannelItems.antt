@@ -12,7 +12,7 @@ use Rattle.rules.specs.Lists.{isEmpty, allOf, anyOf}
 use Rattle.rules.specs.Line.{queueLimit, Message, Lane, Line, laneAt, senderOf, receiverOf}
 use Rattle.rules.specs.Step.{nodeDown, endDown, replaying}
 use Rattle.rules.specs.Damaged.{recordPastLimits, channelPastLimits, notParent, channelWrongParent, originTimes, channelNamedTimes, channelOtherTimes, channelTimePast, channelTimeZero, originWrong, channelMakerWrong, risesTo, queueWrong, marksJoined, channelHolds, channelDamaged}
-use Rattle.rules.proofs.Members.{In, in-none, none-any, all-in}
+use Rattle.rules.proofs.lists.Members.{In, in-none, none-any, all-in}
 use Rattle.items.specs.Items.{recordRight, namedRight, timesRise, messageRight, clockRight, queueRight, channelRight}
 use Rattle.items.proofs.Tests.{opposite, not-above, above, all-true, all-false, false-all, each-all, each-none, any-opposite, any-append, any-joined}
 use Rattle.items.proofs.Origins.{Named, named-right, right-named}

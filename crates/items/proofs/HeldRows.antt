@@ -17,8 +17,8 @@ use Rattle.rules.specs.Lists.{keep, keepOne, anyOf}
 use Rattle.rules.specs.Line.{Held, Line, nodeAt}
 use Rattle.rules.specs.Replay.{heldByRow}
 use Rattle.rules.specs.Damaged.{isParent, rises, heldWrong}
-use Rattle.rules.proofs.Members.{In, here, there, none-any}
-use Rattle.rules.proofs.Joins.{entering-in}
+use Rattle.rules.proofs.lists.Members.{In, here, there, none-any}
+use Rattle.rules.proofs.line.Joins.{entering-in}
 use Rattle.items.specs.Items.{fromSender, ifFound, heldRise, noneHeld}
 use Rattle.items.proofs.Tests.{opposite, each-none}
 use Rattle.items.proofs.Lookup.{found-in}

@@ -11,7 +11,7 @@ use Rattle.plan.specs.Check.{planFits}
 use Rattle.rules.specs.Lists.{allOf, upTo}
 use Rattle.rules.specs.Line.{stepLimit, Line, laneAt, nodeNumbers, channelNumbersOf, senderOf, parents}
 use Rattle.rules.specs.Damaged.{someNode, someChannel, planBroken, misshapen, stepsPast, nodeDamaged, channelDamaged, damaged}
-use Rattle.rules.proofs.Members.{In, in-none, in-first}
+use Rattle.rules.proofs.lists.Members.{In, in-none, in-first}
 use Rattle.items.specs.Items.{shapeRight, nodeRight, channelRight, lineRight}
 use Rattle.items.proofs.Tests.{above, any-opposite}
 use Rattle.items.proofs.Origins.{Formed, formed}

@@ -11,14 +11,14 @@ use lib.Dec.{ltb, eqb}
 use borrow.Author.Tests.{eqb-true, ne-eqb}
 use Rattle.plan.specs.declared.Channel.{Channel}
 use Rattle.plan.specs.Plan.{Plan, channelAt, entering}
-use Rattle.rules.proofs.Options.{none-some, some-same}
+use Rattle.rules.proofs.lists.Options.{none-some, some-same}
 use Rattle.rules.specs.Lists.{anyOf}
 use Rattle.rules.specs.Line.{made}
 use Rattle.rules.specs.Damaged.{pastHeard}
-use Rattle.rules.proofs.Members.{In, here, there}
-use Rattle.rules.proofs.LanesLaws.{Rising, none, more, in-above, numbers-rise}
-use Rattle.rules.proofs.Inv.{Ordered, Enters}
-use Rattle.rules.proofs.Joins.{entering-in}
+use Rattle.rules.proofs.lists.Members.{In, here, there}
+use Rattle.rules.proofs.line.LanesLaws.{Rising, none, more, in-above, numbers-rise}
+use Rattle.rules.proofs.invariant.Inv.{Ordered, Enters}
+use Rattle.rules.proofs.line.Joins.{entering-in}
 use Rattle.items.specs.Items.{fromSender, placeFrom, ifFound}
 use Rattle.items.proofs.Tests.{each-none}
 

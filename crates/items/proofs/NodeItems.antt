@@ -14,7 +14,7 @@ use Rattle.rules.specs.Line.{made, Entry, Held, Target, Node, Line, nodeAt}
 use Rattle.rules.specs.Replay.{entryAt, passedOn}
 use Rattle.rules.specs.Step.{replaying}
 use Rattle.rules.specs.Damaged.{workedOn, recordPastLimits, isParent, notParent, markMissing, markOnEnd, replayWrong, nodeHolds, nodeDamaged}
-use Rattle.rules.proofs.Members.{In, in-left, in-right, in-map, map-in, append-in, none-any, all-in}
+use Rattle.rules.proofs.lists.Members.{In, in-left, in-right, in-map, map-in, append-in, none-any, all-in}
 use Rattle.items.specs.Items.{ifFound, fromSender, recordRight, originRight, timesRise, entryRight, heldRight, heldRise, noneHeld, targetRight, countsRight, logRight, heldAllRight, statusRight, replayRight, nodeRight}
 use Rattle.items.proofs.Tests.{opposite, not-above, all-true, all-false, each-all, each-none}
 use Rattle.items.proofs.Rises.{rise-within}

@@ -12,13 +12,13 @@ use Rattle.basics.specs.Bools.{both-true, neither-true}
 use Rattle.plan.specs.Plan.{Plan, isNone, channelAt, nodeCount, channelCount, entering, isSource}
 use Rattle.plan.specs.Check.{planFits}
 use Rattle.plan.proofs.FitsLaws.{fitting}
-use Rattle.rules.proofs.Members.{none-any, all-in, in-up-to}
+use Rattle.rules.proofs.lists.Members.{none-any, all-in, in-up-to}
 use Rattle.rules.specs.Lists.{allOf, anyOf}
 use Rattle.rules.specs.Line.{Origin, fed, made, Line, laneAt, channelNumbersOf, senderOf, parents}
 use Rattle.rules.specs.Damaged.{isParent, notParent, beforeNotParent, originTimes, originWrong, isFed, beforeWrong, pastHeard, pastLane, marksJoined, channelHolds, misshapen}
-use Rattle.rules.proofs.Inv.{Ordered}
-use Rattle.rules.proofs.PlanOrder.{ordered-channels}
-use Rattle.rules.proofs.Joins.{entering-in}
+use Rattle.rules.proofs.invariant.Inv.{Ordered}
+use Rattle.rules.proofs.steps.PlanOrder.{ordered-channels}
+use Rattle.rules.proofs.line.Joins.{entering-in}
 use Rattle.items.specs.Items.{fromSender, placeFrom, ifFound, timeRight, namedRight, beforeRight, originRight, clockRight, queueRight, channelRight}
 use Rattle.items.proofs.Tests.{not-above, all-true, all-false, all-at, each-none}
 use Rattle.items.proofs.Lookup.{sender-found, sender-placed, found-in, only-found, heard-placed, entering-apart}

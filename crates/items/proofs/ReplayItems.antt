@@ -13,12 +13,12 @@ use Rattle.rules.specs.Recover.{lowOf, restored, targetsOf, conflict, rowGoal, 
 use Rattle.rules.specs.Replay.{isHeld, replayEnd, endedIfComplete}
 use Rattle.rules.specs.Step.{replaying, recoveredLine, recoverGives}
 use Rattle.rules.specs.Damaged.{sameTargets, replaysAs, replayWrong}
-use Rattle.rules.proofs.Members.{In}
-use Rattle.rules.proofs.LineLaws.{node-there, plan-kept}
-use Rattle.rules.proofs.LanesLaws.{lanes-node, lanes-plan}
-use Rattle.rules.proofs.Swept.{swept-enters}
-use Rattle.rules.proofs.Joins.{entering-in}
-use Rattle.rules.proofs.Restored.{all-same}
+use Rattle.rules.proofs.lists.Members.{In}
+use Rattle.rules.proofs.line.LineLaws.{node-there, plan-kept}
+use Rattle.rules.proofs.line.LanesLaws.{lanes-node, lanes-plan}
+use Rattle.rules.proofs.invariant.Swept.{swept-enters}
+use Rattle.rules.proofs.line.Joins.{entering-in}
+use Rattle.rules.proofs.undamaged.Restored.{all-same}
 use Rattle.items.specs.Items.{rowRestored, replayRight}
 use Rattle.items.proofs.Tests.{not-above}
 use Rattle.items.proofs.Origins.{Formed}

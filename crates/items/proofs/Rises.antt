@@ -8,7 +8,7 @@ use lib.Dec.{leb, ltb}
 use borrow.Author.Tests.{ltb-true, leb-true}
 use Rattle.rules.specs.Lists.{allOf}
 use Rattle.rules.specs.Damaged.{rises, risesTo}
-use Rattle.rules.proofs.Members.{In, here, there}
+use Rattle.rules.proofs.lists.Members.{In, here, there}
 use Rattle.items.specs.Items.{timesRise}
 use Rattle.items.proofs.Tests.{all-true}
 

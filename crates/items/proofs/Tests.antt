@@ -8,7 +8,7 @@ use lib.Dec.{leb, ltb}
 use borrow.Author.Tests.{ltb-true, leb-false, lt-ltb, lt-leb}
 use Rattle.basics.specs.Bools.{both-true, neither-true}
 use Rattle.rules.specs.Lists.{allOf, anyOf, joined}
-use Rattle.rules.proofs.Members.{In, here, there}
+use Rattle.rules.proofs.lists.Members.{In, here, there}
 
 pub opposite : (a b : Bool) → (a ≡ false → b ≡ true) → (b ≡ true → a ≡ false) → a ≡ not b
 opposite false b f g = sym (ap not (f refl))

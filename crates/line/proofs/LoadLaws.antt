@@ -14,7 +14,7 @@ use Rattle.plan.specs.Check.{planRefusal}
 use Rattle.plan.proofs.CheckLaws.{accepted}
 use Rattle.plan.proofs.PlanLaws.{plan-size}
 use Rattle.rules.specs.Line.{Line, initialLine}
-use Rattle.rules.proofs.StartSound.{start-undamaged}
+use Rattle.rules.proofs.undamaged.StartSound.{start-undamaged}
 use Rattle.state.specs.Sizes.{stateSize, planArea}
 use Rattle.state.specs.State.{lineBytes, lineOf, stateAnswer}
 use Rattle.state.proofs.StartLaws.{start-bytes}

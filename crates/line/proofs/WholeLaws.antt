@@ -15,7 +15,7 @@ use Rattle.basics.specs.Bools.{both-true}
 use Rattle.rules.specs.Lists.{allOf, upTo}
 use Rattle.rules.specs.Line.{stepLimit, Line, laneAt, nodeNumbers, channelNumbersOf, parents, senderOf}
 use Rattle.rules.specs.Damaged.{damaged}
-use Rattle.rules.proofs.Members.{all-in, in-up-to}
+use Rattle.rules.proofs.lists.Members.{all-in, in-up-to}
 use Rattle.state.specs.Sizes.{stateSize, planArea, stepsAt, countSize, stepsRest, pageAt, pageSize, blockAt, blockSize, nodePages, laneBlocks, tailAt, tailSize}
 use Rattle.state.specs.Lane.{heardCount}
 use Rattle.state.specs.State.{lineOf, stateAnswer}

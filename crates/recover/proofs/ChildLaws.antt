@@ -15,7 +15,7 @@ use Rattle.plan.proofs.PlanLaws.{channel-count}
 use Rattle.rules.specs.Lists.{keepOne, isEmpty, greatestOf, leastOf}
 use Rattle.rules.specs.Line.{laneAt}
 use Rattle.rules.specs.Recover.{childTimes, lowOf, highOf}
-use Rattle.rules.proofs.ListLaws.{nil-right, map-more}
+use Rattle.rules.proofs.lists.ListLaws.{nil-right, map-more}
 use Rattle.state.specs.State.{lineOf}
 use Rattle.state.proofs.InPlace.{line-plan}
 use Rattle.recover.specs.Found.{lowWith}

@@ -13,7 +13,7 @@ use Rattle.basics.specs.Bools.{both-true, neither-true}
 use Rattle.rules.specs.Lists.{keep, keepOne, anyOf, greatestOf}
 use Rattle.rules.specs.Line.{Target}
 use Rattle.rules.specs.Recover.{clash, conflict, rowGoal}
-use Rattle.rules.proofs.ListLaws.{keep-append, map-append, map-more}
+use Rattle.rules.proofs.lists.ListLaws.{keep-append, map-append, map-more}
 use Rattle.items.proofs.Tests.{any-append}
 use Rattle.recover.specs.Found.{targetAt, targetsIn, rowsLong, Rows, raisedAt, isAbove}
 use Rattle.recover.proofs.ChildLaws.{greatest-append, high-snoc}

@@ -17,7 +17,7 @@ use Rattle.plan.proofs.ReadLaws.{byte-field}
 use Rattle.rules.specs.Lists.{keep, keepOne, joined, greatestOf}
 use Rattle.rules.specs.Line.{Entry, Target, Line, nodeAt}
 use Rattle.rules.specs.Recover.{lowOf, triple, triples, childTriples, restored}
-use Rattle.rules.proofs.ListLaws.{nil-right, keep-append, map-append, map-more}
+use Rattle.rules.proofs.lists.ListLaws.{nil-right, keep-append, map-append, map-more}
 use Rattle.state.specs.Sizes.{countSize, entrySize, pageAt, logAt}
 use Rattle.state.specs.Pieces.{originFrom, originLayout, entryLayout}
 use Rattle.state.specs.Right.{wordAt}

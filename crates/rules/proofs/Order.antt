@@ -11,13 +11,13 @@ use Rattle.rules.specs.Frame.{frameOf}
 use Rattle.rules.specs.Step.{refusal, step}
 use Rattle.rules.specs.Claim.{Story, startOf, ifZero, told, storyFrom, feedOf, receiptOf, crashOf}
 use Rattle.rules.specs.Order.{OneRun, InOrder}
-use Rattle.rules.proofs.ListLaws.{nil-right}
-use Rattle.rules.proofs.Conclusion.{run, run-gives}
-use Rattle.rules.proofs.QuietRest.{quiet-rests}
-use Rattle.rules.proofs.LoadInv.{load-inv}
-use Rattle.rules.proofs.Accepted.{step-accepted, step-refused}
-use Rattle.rules.proofs.PlanKept.{step-plan}
-use Rattle.rules.proofs.StepInv.{Kept, kept-same, step-inv}
+use Rattle.rules.proofs.lists.ListLaws.{nil-right}
+use Rattle.rules.proofs.invariant.Conclusion.{run, run-gives}
+use Rattle.rules.proofs.theorem.QuietRest.{quiet-rests}
+use Rattle.rules.proofs.steps.LoadInv.{load-inv}
+use Rattle.rules.proofs.theorem.Accepted.{step-accepted, step-refused}
+use Rattle.rules.proofs.theorem.PlanKept.{step-plan}
+use Rattle.rules.proofs.theorem.StepInv.{Kept, kept-same, step-inv}
 
 -- What an accepted frame adds, and a refused one does not.
 if-accepted : {A : Type 0} (n : ℕ) (xs ys : List A) → n ≡ 0 → ys ++ ifZero n xs ≡ ys ++ xs

@@ -14,7 +14,7 @@ use Rattle.plan.proofs.BytesLaws.{each-take}
 use Rattle.plan.proofs.FitsLaws.{fitting}
 use Rattle.plan.proofs.AcceptedLaws.{four-at}
 use Rattle.rules.specs.Line.{Lane, noLane}
-use Rattle.rules.proofs.PlanOrder.{ordered-channels}
+use Rattle.rules.proofs.steps.PlanOrder.{ordered-channels}
 use Rattle.state.specs.Sizes.{parentLimit}
 use Rattle.state.specs.Lane.{withHeard, padHeard, cutHeard, heardCount, cutLanes}
 use Rattle.state.specs.Fits.{TimeFits, LaneFits, PaddedFits}

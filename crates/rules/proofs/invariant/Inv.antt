@@ -1,0 +1,129 @@
+-- What holds of a line, its ghost history and what was done, after every list of frames.
+use Prim.Native.Nat.{ℕ, max, _<_, _≤_}
+use mathlib.Core.Path.{_≡_}
+use mathlib.Core.Logic.{_≢_}
+use mathlib.Core.Bool.{true, false}
+use mathlib.Core.List.{List, [], map}
+use lib.ListN.{length}
+use lib.Dec.{eqb}
+use Rattle.plan.specs.Plan.{Plan, ruleAt, channelAt, nodeCount, channelCount, isSource, isSink}
+use Rattle.plan.specs.Rule.{applied}
+use Rattle.plan.specs.Channel.{takes}
+use Rattle.rules.specs.Lists.{keep, greatestOf}
+use Rattle.rules.specs.Line.{Message, Held, Target, up, down, replay, Lane, Line, nodeAt, laneAt}
+use Rattle.rules.specs.Recover.{rowGoal}
+use Rattle.rules.specs.Plain.{Act, Receipt}
+use Rattle.rules.specs.Claim.{receivedBy}
+pub use Rattle.rules.specs.Claim.{named}
+use Rattle.rules.proofs.lists.Rising.{until, past, Rises, Within}
+use Rattle.rules.proofs.histories.PlainRun.{receiptsIn}
+use Rattle.rules.proofs.histories.Witness.{fedOnto, noInputs, Feeds, Taken}
+use Rattle.rules.proofs.histories.Ghost.{tookAt, Ghost, entryOf, inputOf, put, got, logPut}
+use Rattle.rules.proofs.lists.Members.{In}
+use Rattle.rules.proofs.histories.Passing.{passing, goesOn, heldOf}
+
+abbrev pub timeOf : Message → ℕ
+timeOf m = m .time
+
+-- What an accepted plan says of its channels.
+pub record Ordered (p : Plan) : Type 0 where
+  pub forward : (b : ℕ) → b < channelCount p → channelAt p b .sender < channelAt p b .receiver
+  pub inside : (b : ℕ) → b < channelCount p → channelAt p b .receiver < nodeCount p
+  pub alone : (b c : ℕ) → b < channelCount p → c < channelCount p → channelAt p b .sender ≡ channelAt p c .sender → channelAt p b .receiver ≡ channelAt p c .receiver → b ≡ c
+
+abbrev pub isUp : Line → ℕ → Type 0
+isUp l n = nodeAt l n .status ≡ up
+
+-- The crash marks, as far as refusals 14 and 16 keep them apart.
+pub record Marks (l : Line) (crashes : List ℕ) : Type 0 where
+  pub were-named : (n : ℕ) → named n crashes ≡ false → nodeAt l n .crashed ≡ false
+  pub not-joined : (b : ℕ) → b < channelCount (l .plan) → nodeAt l (channelAt (l .plan) b .sender) .crashed ≡ true → nodeAt l (channelAt (l .plan) b .receiver) .crashed ≡ false
+  pub between : (n : ℕ) → nodeAt l n .crashed ≡ true → (isSource (l .plan) n ≡ false) × (isSink (l .plan) n ≡ false)
+  pub stopped : (n : ℕ) → nodeAt l n .crashed ≡ false → isUp l n
+
+-- The nodes: what they were given, received and logged.
+pub record Nodes (l : Line) (g : Ghost) (fed : List Act) (receipts : List Receipt) : Type 0 where
+  pub only-feeds : Feeds fed
+  pub sources : (n : ℕ) → isSource (l .plan) n ≡ true → map inputOf (g n) ≡ fedOnto noInputs fed n
+  pub others : (n : ℕ) → isSource (l .plan) n ≡ false → (fedOnto noInputs fed n ≡ []) × Taken (l .plan) n (map inputOf (g n))
+  pub beyond : (n : ℕ) → nodeCount (l .plan) ≤ n → g n ≡ []
+  pub received : (n : ℕ) → nodeAt l n .crashed ≡ false → receivedBy n receipts ≡ receiptsIn (l .plan) n (map inputOf (g n))
+  pub logged : (n : ℕ) → nodeAt l n .crashed ≡ false → nodeAt l n .log ≡ map (entryOf (l .plan) n) (g n)
+
+-- A channel whose sender is up, by the sender's time, the lane, the messages of the log that it takes, those put on it, the cut and whether the receiver is not down:
+-- no time on it is past the sender's; while the receiver is not down, the log holds all that is still to come, and the queue what lies between the receiver's entry and the mark.
+pub record SenderUp (time : ℕ) (lane : Lane) (log puts : List Message) (cut : ℕ) (receiving : Type 0) : Type 0 where
+  pub within : Within timeOf time puts
+  pub cut-within : cut ≤ time
+  pub taken-within : lane .taken ≤ time
+  pub to-come : receiving → past timeOf (lane .taken) log ≡ past timeOf (lane .taken) puts
+  pub queue : receiving → (lane .taken ≤ lane .mark) × (lane .mark ≤ time) × (lane .queue ≡ until timeOf (lane .mark) (past timeOf (lane .taken) log))
+
+-- A channel: what was put on it rises; what was got of it is what lies up to a time, the receiver's clock entry while the receiver is up.
+pub record Channels (l : Line) (g : Ghost) (cut : ℕ → ℕ) (b : ℕ) : Type 0 where
+  pub rises : Rises timeOf 0 (put (l .plan) g b)
+  pub cut-is : got (l .plan) g b ≡ until timeOf (cut b) (put (l .plan) g b)
+  pub cut-up : isUp l (channelAt (l .plan) b .receiver) → cut b ≡ laneAt l b .taken
+  pub sender-up : isUp l (channelAt (l .plan) b .sender) → SenderUp (nodeAt l (channelAt (l .plan) b .sender) .time) (laneAt l b) (logPut l b) (put (l .plan) g b) (cut b) (nodeAt l (channelAt (l .plan) b .receiver) .status ≢ down)
+
+-- The lists of nodes and lanes are as long as the plan says.
+pub record Shape (l : Line) : Type 0 where
+  pub nodes-long : length (l .nodes) ≡ nodeCount (l .plan)
+  pub lanes-long : length (l .lanes) ≡ channelCount (l .plan)
+
+-- A node's events: the times of what it passes on rise, and while it is up none is past its own time.
+pub record Events (l : Line) (g : Ghost) (n : ℕ) : Type 0 where
+  pub rise : Rises timeOf 0 (passing (l .plan) n (g n))
+  pub within : isUp l n → Within timeOf (nodeAt l n .time) (passing (l .plan) n (g n))
+
+-- A channel's ends: the entry of a receiver that never crashed is the last time that it got; a sender that is not up has nothing on the channel, and in a replay its mark is the receiver's entry.
+pub record Ends (l : Line) (g : Ghost) (b : ℕ) : Type 0 where
+  pub exact : nodeAt l (channelAt (l .plan) b .receiver) .crashed ≡ false → laneAt l b .taken ≡ greatestOf (map timeOf (got (l .plan) g b))
+  pub stopped : nodeAt l (channelAt (l .plan) b .sender) .status ≢ up → laneAt l b .queue ≡ []
+  pub waiting : nodeAt l (channelAt (l .plan) b .sender) .status ≡ replay → laneAt l b .mark ≡ laneAt l b .taken
+
+-- A target, as an event of the node gives it.
+abbrev pub targetFrom : Plan → ℕ → Message → ℕ → Target
+targetFrom p b m t = record { time = t; parent = channelAt p b .sender; parentTime = m .time }
+
+-- Channel c leaves node n, or enters it.
+abbrev pub Leaves : Plan → ℕ → ℕ → Type 0
+Leaves p n c = (c < channelCount p) × (channelAt p c .sender ≡ n)
+
+abbrev pub Enters : Plan → ℕ → ℕ → Type 0
+Enters p n b = (b < channelCount p) × (channelAt p b .receiver ≡ n)
+
+-- What node n made of message m at time t has reached a child: some leaving channel takes it, and the child's entry is not below t.
+pub record Reached (l : Line) (n : ℕ) (m : Message) (t : ℕ) : Type 0 where
+  pub channel : ℕ
+  pub on-plan : channel < channelCount (l .plan)
+  pub leaves : channelAt (l .plan) channel .sender ≡ n
+  pub takes-it : takes (channelAt (l .plan) channel) (applied (ruleAt (l .plan) n) (m .what)) ≡ true
+  pub in-time : t ≤ laneAt l channel .taken
+
+-- A row of a replay, by what was put on its channel: the entry lies between the restored one and the row's goal, and what is held is what goes on of the messages between the restored entry and the entry.
+pub record Row (l : Line) (g : Ghost) (cut base : ℕ) (n b : ℕ) : Type 0 where
+  pub base-got : base ≤ cut
+  pub base-taken : base ≤ laneAt l b .taken
+  pub to-goal : laneAt l b .taken ≤ max base (rowGoal (nodeAt l n .targets) (channelAt (l .plan) b .sender))
+  pub held : keep (λ (h : Held). eqb (h .sender) (channelAt (l .plan) b .sender)) (nodeAt l n .held) ≡ map (heldOf (l .plan) n b) (keep (goesOn (l .plan) n) (past timeOf base (until timeOf (laneAt l b .taken) (put (l .plan) g b))))
+
+-- A node that replays: its time is low; its targets are the events past low that have reached a child; up to low, what it passed on came of messages up to the restored entries.
+pub record Replays (l : Line) (g : Ghost) (cut base : ℕ → ℕ) (n : ℕ) : Type 0 where
+  pub log-none : nodeAt l n .log ≡ []
+  pub low : (c : ℕ) → Leaves (l .plan) n c → nodeAt l n .time ≤ laneAt l c .taken
+  pub target-from : (u : Target) → In u (nodeAt l n .targets) → (b : ℕ) × (m : Message) × (t : ℕ) × In (tookAt b m t) (g n) × (u ≡ targetFrom (l .plan) b m t) × (nodeAt l n .time < t) × Reached l n m t
+  pub target-of : (b : ℕ) (m : Message) (t : ℕ) → In (tookAt b m t) (g n) → nodeAt l n .time < t → Reached l n m t → In (targetFrom (l .plan) b m t) (nodeAt l n .targets)
+  pub base-cuts : (b : ℕ) (m : Message) (t : ℕ) → In (tookAt b m t) (g n) → goesOn (l .plan) n m ≡ true → (m .time ≤ base b → t ≤ nodeAt l n .time) × (t ≤ nodeAt l n .time → m .time ≤ base b)
+  pub rows : (b : ℕ) → Enters (l .plan) n b → Row l g (cut b) (base b) n b
+
+-- All of it.
+pub record Inv (l : Line) (g : Ghost) (cut base : ℕ → ℕ) (fed : List Act) (receipts : List Receipt) (crashes : List ℕ) : Type 0 where
+  pub shape : Shape l
+  pub ordered : Ordered (l .plan)
+  pub marks : Marks l crashes
+  pub nodes : Nodes l g fed receipts
+  pub events : (n : ℕ) → Events l g n
+  pub channels : (b : ℕ) → b < channelCount (l .plan) → Channels l g cut b
+  pub ends : (b : ℕ) → b < channelCount (l .plan) → Ends l g b
+  pub replays : (n : ℕ) → nodeAt l n .status ≡ replay → Replays l g cut base n

@@ -1,0 +1,59 @@
+-- What follows from the invariant at once: who is up, and where a node's events came from.
+use Prim.Native.Nat.{ℕ}
+use mathlib.Core.Path.{_≡_, refl, sym, _∙_}
+use mathlib.Core.Logic.{_≢_}
+use mathlib.Core.Bool.{Bool, true, false, true≢false}
+use mathlib.Core.List.{List, _∷_, map}
+use native.Mathlib.Omega.{arith}
+use Rattle.plan.specs.Rule.{applied}
+use Rattle.plan.specs.Plan.{Plan, ruleAt, channelAt, isSource}
+use Rattle.rules.specs.Lists.{greatestOf}
+use Rattle.rules.specs.Line.{Message, up, down, replay, Line, nodeAt, laneAt}
+use Rattle.rules.specs.Plain.{Act, Receipt}
+use Rattle.rules.proofs.lists.Members.{In, here, there}
+use Rattle.rules.proofs.histories.Witness.{Taken, more}
+use Rattle.rules.proofs.histories.Ghost.{Event, tookAt, Ghost, inputOf, got}
+use Rattle.rules.proofs.histories.Passing.{goesOn}
+use Rattle.rules.proofs.line.Joins.{takes-passed}
+use Rattle.rules.proofs.invariant.Inv.{timeOf, isUp, Enters, Reached, Marks, Nodes, Ends}
+
+pub up-not-replay : up ≡ replay → ⊥
+up-not-replay e = let z : _≡_ {A = ℕ} 0 1 = cc in omega arith
+
+pub up-not-down : up ≡ down → ⊥
+up-not-down e = let z : _≡_ {A = ℕ} 0 1 = cc in omega arith
+
+pub replay-not-down : replay ≡ down → ⊥
+replay-not-down e = let z : _≡_ {A = ℕ} 0 1 = cc in omega arith
+
+-- A mark is there or not.
+pub if-marked : {A : Type 0} (b : Bool) → (b ≡ true → A) → (b ≡ false → A) → A
+if-marked true f g = f refl
+if-marked false f g = g refl
+
+-- What a node took came by a channel that enters it.
+pub took-enters : {p : Plan} {n : ℕ} (es : List Event) (b : ℕ) (m : Message) (t : ℕ) → Taken p n (map inputOf es) → In (tookAt b m t) es → Enters p n b
+took-enters (tookAt c x u ∷ es) b m t (more h q s r) here = (h, q)
+took-enters (tookAt c x u ∷ es) b m t (more h q s r) (there i) = took-enters es b m t r i
+
+-- The ends of a channel whose sender is up.
+pub ends-up : {l : Line} {g : Ghost} {b : ℕ} → isUp l (channelAt (l .plan) b .sender) → (nodeAt l (channelAt (l .plan) b .receiver) .crashed ≡ false → laneAt l b .taken ≡ greatestOf (map timeOf (got (l .plan) g b))) → Ends l g b
+ends-up alive exact = record { exact = exact; stopped = λ d. absurd (d alive); waiting = λ e. absurd (up-not-replay (sym alive ∙ e)) }
+
+-- What has reached a child goes on.
+pub reached-goes : {l : Line} {n : ℕ} {m : Message} {t : ℕ} → Reached l n m t → goesOn (l .plan) n m ≡ true
+reached-goes {l} {n} {m} r = takes-passed (l .plan) n (applied (ruleAt (l .plan) n) (m .what)) (r .channel) (r .on-plan) (r .leaves) (r .takes-it)
+
+module _ {l : Line} {crashes : List ℕ} (marks : Marks l crashes) (n : ℕ) where
+  pub marked-unless-up : nodeAt l n .status ≢ up → nodeAt l n .crashed ≡ true
+  marked-unless-up d = if-marked (nodeAt l n .crashed) (λ e. e) (λ e. absurd (d (marks .stopped n e)))
+
+  pub replay-marked : nodeAt l n .status ≡ replay → nodeAt l n .crashed ≡ true
+  replay-marked e = marked-unless-up (λ z. up-not-replay (sym z ∙ e))
+
+  pub source-up : isSource (l .plan) n ≡ true → isUp l n
+  source-up e = marks .stopped n (if-marked (nodeAt l n .crashed) (λ z. absurd (true≢false (sym e ∙ marks .between n z .0))) (λ z. z))
+
+-- A marked node's events were taken.
+pub marked-took : {l : Line} {g : Ghost} {fed : List Act} {receipts : List Receipt} {crashes : List ℕ} → Marks l crashes → Nodes l g fed receipts → (n : ℕ) → nodeAt l n .crashed ≡ true → Taken (l .plan) n (map inputOf (g n))
+marked-took marks nodes n e = nodes .others n (marks .between n e .0) .1

@@ -1,0 +1,5 @@
+-- Lists.
+pub mod ListLaws
+pub mod Options
+pub mod Rising
+pub mod Members

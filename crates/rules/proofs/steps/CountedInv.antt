@@ -1,0 +1,27 @@
+-- One more step counted keeps the invariant.
+use Prim.Native.Nat.{ℕ, suc}
+use mathlib.Core.Path.{refl}
+use mathlib.Core.List.{List}
+use native.Mathlib.Omega.{arith}
+use Rattle.rules.specs.Line.{Line, counted}
+use Rattle.rules.specs.Plain.{Act, Receipt}
+use Rattle.rules.proofs.histories.Ghost.{Ghost}
+use Rattle.rules.proofs.invariant.Inv.{Inv}
+use Rattle.rules.proofs.invariant.Stays.{marks-stay, nodes-stay, events-stay, channel-stays, ends-stay, replays-stay}
+
+pub counted-inv : {l : Line} {g : Ghost} {cut base : ℕ → ℕ} {fed : List Act} {receipts : List Receipt} {crashes : List ℕ} → Inv l g cut base fed receipts crashes → Inv (counted l) g cut base fed receipts crashes
+unfolding counted
+counted-inv {l} {g} {cut} {base} {fed} {receipts} {crashes} inv =
+    let steps = suc (l .steps) in
+    let nodes = l .nodes in
+    let lanes = l .lanes in
+    record {
+      shape = record { nodes-long = inv .shape .nodes-long; lanes-long = inv .shape .lanes-long };
+      ordered = inv .ordered;
+      marks = marks-stay l steps nodes lanes crashes (λ m. refl) (λ m. refl) (inv .marks);
+      nodes = nodes-stay l steps nodes lanes (λ m e. refl) (λ m e. refl) (inv .nodes);
+      events = λ m. events-stay l steps nodes lanes g g m (λ _. refl) refl (inv .events m);
+      channels = λ b h. channel-stays l steps nodes lanes g g b refl refl refl refl (λ _. refl) cut cut refl refl (inv .channels b h);
+      ends = λ b h. ends-stay l steps nodes lanes g g b refl refl refl refl refl (inv .ends b h);
+      replays = λ m e. replays-stay l steps nodes lanes g g m refl refl cut cut base base (λ c h. refl) (λ b x t i. refl) (λ b h. (refl, omega arith, refl, refl)) (inv .replays m e);
+    }

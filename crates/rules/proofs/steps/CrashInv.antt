@@ -1,0 +1,137 @@
+-- Crash keeps the invariant: histories do not move, and what the node and its channels held is gone.
+use Prim.Native.Nat.{ℕ, _<_}
+use mathlib.Core.Path.{_≡_, refl, sym, ap, subst, _∙_}
+use mathlib.Core.Logic.{_≢_, _⊎_, inl, inr}
+use mathlib.Core.Bool.{true, false, true≢false}
+use mathlib.Core.List.{List, [], _∷_, _++_}
+use native.Mathlib.Omega.{arith}
+use native.Mathlib.Decide.{ℕ-discrete}
+use lib.Dec.{eqb}
+use borrow.Author.Tests.{eq-eqb}
+use Rattle.plan.specs.Plan.{channelAt, nodeCount, isSource, isSink}
+use Rattle.basics.specs.Bools.{neither-true}
+use Rattle.rules.specs.Line.{up, down, replay, Node, Lane, Line, nodeAt, laneAt, freshLane}
+use Rattle.rules.specs.Step.{crashedLine}
+use Rattle.rules.specs.Plain.{Act, Receipt}
+use Rattle.rules.proofs.lists.Rising.{Within}
+use Rattle.rules.proofs.histories.Ghost.{Ghost, put, logPut}
+use Rattle.rules.proofs.invariant.Inv.{Inv, isUp, named, timeOf, Enters, Leaves, Marks, Channels, Ends, Replays}
+use Rattle.rules.proofs.invariant.InvLaws.{up-not-down, replay-not-down, replay-marked, ends-up}
+use Rattle.rules.proofs.invariant.MarkedLaws.{sender-other, receiver-other}
+use Rattle.rules.proofs.invariant.Stays.{unmarked-other, nodes-stay, channels-beside, ends-beside, events-stay, replays-stay}
+use Rattle.rules.proofs.undamaged.Crashed.{crashedAfter, crashed-is, crashed-node, crashed-else, crashed-shape, crashed-enters, crashed-leaves, crashed-beside}
+
+-- Names joined to a list.
+named-left : (n : ℕ) (ns ms : List ℕ) → named n (ns ++ ms) ≡ false → (named n ns ≡ false) × (named n ms ≡ false)
+named-left n [] ms e = (refl, e)
+named-left n (k ∷ ns) ms e = let (a, b) = neither-true (eqb n k) (named n (ns ++ ms)) e in let (c, d) = named-left n ns ms b in (rw a c, d)
+
+module _ (l : Line) (g : Ghost) (cut base : ℕ → ℕ) (fed : List Act) (receipts : List Receipt) (crashes : List ℕ) (inv : Inv l g cut base fed receipts crashes) (n : ℕ) (here : n < nodeCount (l .plan))
+    (no-source : isSource (l .plan) n ≡ false) (no-sink : isSink (l .plan) n ≡ false)
+    (parents : (c : ℕ) → Enters (l .plan) n c → nodeAt l (channelAt (l .plan) c .sender) .crashed ≡ false) (children : (c : ℕ) → Leaves (l .plan) n c → nodeAt l (channelAt (l .plan) c .receiver) .crashed ≡ false) where
+  parent-up : (c : ℕ) → Enters (l .plan) n c → isUp l (channelAt (l .plan) c .sender)
+  parent-up c h = inv .marks .stopped (channelAt (l .plan) c .sender) (parents c h)
+
+  down-not-up : nodeAt (crashedAfter l n) n .status ≢ up
+  down-not-up e = up-not-down (sym e ∙ ap (λ (x : Node). x .status) (crashed-node l n (inv .ordered) (inv .shape) here))
+
+  channel-enters : (c : ℕ) → Enters (l .plan) n c → Channels (crashedAfter l n) g cut c
+  unfolding freshLane logPut
+  channel-enters c (h, q) =
+      let old = inv .channels c h in
+      let s = old .sender-up (parent-up c (h, q)) in
+      let d = sender-other inv n c (h, q) in
+      let node = (crashed-else l n (inv .ordered) (inv .shape)) (channelAt (l .plan) c .sender) d in
+      let gone : nodeAt (crashedAfter l n) (channelAt (l .plan) c .receiver) .status ≡ down = ap (λ (x : ℕ). nodeAt (crashedAfter l n) x .status) q ∙ ap (λ (x : Node). x .status) (crashed-node l n (inv .ordered) (inv .shape) here) in
+      let empty = ap (λ (x : Lane). x .taken) ((crashed-enters l n (inv .ordered) (inv .shape)) c (h, q)) in
+      record {
+        rises = old .rises;
+        cut-is = old .cut-is;
+        cut-up = λ e. absurd (up-not-down (sym e ∙ gone));
+        sender-up = λ e.
+            record {
+              within = subst (λ (x : Node). Within timeOf (x .time) (put (l .plan) g c)) (sym node) (s .within);
+              cut-within = rw node (s .cut-within);
+              taken-within = omega (arith, empty);
+              to-come = λ r. absurd (r gone);
+              queue = λ r. absurd (r gone);
+            };
+      }
+
+  channel-leaves : (c : ℕ) → Leaves (l .plan) n c → Channels (crashedAfter l n) g cut c
+  channel-leaves c (h, q) =
+      let old = inv .channels c h in
+      let node = (crashed-else l n (inv .ordered) (inv .shape)) (channelAt (l .plan) c .receiver) (receiver-other inv n c (h, q)) in
+      record {
+        rises = old .rises;
+        cut-is = old .cut-is;
+        cut-up = λ e. old .cut-up (ap (λ (x : Node). x .status) (sym node) ∙ e) ∙ ap (λ (x : Lane). x .taken) (sym ((crashed-leaves l n (inv .ordered) (inv .shape)) c (h, q)));
+        sender-up = λ e. absurd (down-not-up (ap (λ (x : ℕ). nodeAt (crashedAfter l n) x .status) (sym q) ∙ e));
+      }
+
+  ends-leaves : (c : ℕ) → Leaves (l .plan) n c → Ends (crashedAfter l n) g c
+  ends-leaves c (h, q) =
+      let lane = (crashed-leaves l n (inv .ordered) (inv .shape)) c (h, q) in
+      let node = (crashed-else l n (inv .ordered) (inv .shape)) (channelAt (l .plan) c .receiver) (receiver-other inv n c (h, q)) in
+      let gone : nodeAt (crashedAfter l n) (channelAt (l .plan) c .sender) .status ≡ down = ap (λ (x : ℕ). nodeAt (crashedAfter l n) x .status) q ∙ ap (λ (x : Node). x .status) (crashed-node l n (inv .ordered) (inv .shape) here) in
+      record {
+        exact = λ e. ap (λ (x : Lane). x .taken) lane ∙ inv .ends c h .exact (ap (λ (x : Node). x .crashed) (sym node) ∙ e);
+        stopped = λ e. ap (λ (x : Lane). x .queue) lane;
+        waiting = λ e. absurd (replay-not-down (sym e ∙ gone));
+      }
+
+  marked-now : (m : ℕ) → nodeAt (crashedAfter l n) m .crashed ≡ true → ((m ≢ n) × (nodeAt l m .crashed ≡ true)) ⊎ (m ≡ n)
+  marked-now m e = elim (ℕ-discrete m n) [ yes q ↦ inr q | no d ↦ inl (d, ap (λ (x : Node). x .crashed) (sym ((crashed-else l n (inv .ordered) (inv .shape)) m d)) ∙ e) ]
+
+  other-unmarked : (m : ℕ) → nodeAt (crashedAfter l n) m .crashed ≡ false → m ≢ n
+  other-unmarked = unmarked-other l (l .steps) (crashedAfter l n .nodes) (crashedAfter l n .lanes) n (ap (λ (x : Node). x .crashed) (crashed-node l n (inv .ordered) (inv .shape) here)) (crashed-else l n (inv .ordered) (inv .shape))
+
+  unmarked-old : (m : ℕ) → nodeAt (crashedAfter l n) m .crashed ≡ false → nodeAt (crashedAfter l n) m ≡ nodeAt l m
+  unmarked-old m e = (crashed-else l n (inv .ordered) (inv .shape)) m (other-unmarked m e)
+
+  ends-enters : (c : ℕ) → Enters (l .plan) n c → Ends (crashedAfter l n) g c
+  ends-enters c (h, q) = ends-up (ap (λ (x : Node). x .status) ((crashed-else l n (inv .ordered) (inv .shape)) (channelAt (l .plan) c .sender) (sender-other inv n c (h, q))) ∙ parent-up c (h, q)) (λ e. absurd (other-unmarked (channelAt (l .plan) c .receiver) e q))
+
+  crash-marks : Marks (crashedAfter l n) (crashes ++ n ∷ [])
+  crash-marks =
+      record {
+        were-named = λ m e.
+            (let (old, new) = named-left m crashes (n ∷ []) e in
+            ap (λ (x : Node). x .crashed) ((crashed-else l n (inv .ordered) (inv .shape)) m (λ q. true≢false (sym (eq-eqb m n q) ∙ neither-true (eqb m n) false new .0))) ∙ inv .marks .were-named m old);
+        not-joined = λ b h e. elim (marked-now (channelAt (l .plan) b .sender) e) [
+          | inr q ↦ ap (λ (x : Node). x .crashed) ((crashed-else l n (inv .ordered) (inv .shape)) (channelAt (l .plan) b .receiver) (receiver-other inv n b (h, q))) ∙ children b (h, q)
+          | inl old ↦ ap (λ (x : Node). x .crashed) ((crashed-else l n (inv .ordered) (inv .shape)) (channelAt (l .plan) b .receiver) (λ q. true≢false (sym (old .1) ∙ parents b (h, q)))) ∙ inv .marks .not-joined b h (old .1)
+        ];
+        between = λ m e. elim (marked-now m e) [
+          | inr q ↦ (ap (isSource (l .plan)) q ∙ no-source, ap (isSink (l .plan)) q ∙ no-sink)
+          | inl old ↦ inv .marks .between m (old .1)
+        ];
+        stopped = λ m e. ap (λ (x : Node). x .status) (unmarked-old m e) ∙ inv .marks .stopped m (ap (λ (x : Node). x .crashed) (sym (unmarked-old m e)) ∙ e);
+      }
+
+  -- A replaying node is not joined to the crashed one.
+  crash-replays : (m : ℕ) → nodeAt (crashedAfter l n) m .status ≡ replay → Replays (crashedAfter l n) g cut base m
+  crash-replays m e =
+      let d : m ≢ n = λ q. replay-not-down (sym e ∙ ap (λ (x : ℕ). nodeAt (crashedAfter l n) x .status) q ∙ ap (λ (x : Node). x .status) (crashed-node l n (inv .ordered) (inv .shape) here)) in
+      let same = (crashed-else l n (inv .ordered) (inv .shape)) m d in
+      let old : nodeAt l m .status ≡ replay = ap (λ (x : Node). x .status) (sym same) ∙ e in
+      let mark = replay-marked (inv .marks) m old in
+      let into : (c : ℕ) → Enters (l .plan) m c → laneAt (crashedAfter l n) c ≡ laneAt l c =
+      λ c h. (crashed-beside l n (inv .ordered) (inv .shape)) c (λ q. d (sym (h .1) ∙ q)) (λ q. true≢false (sym (ap (λ (x : ℕ). nodeAt l x .crashed) (h .1) ∙ mark) ∙ children c (h .0, q))) in
+      let out : (c : ℕ) → Leaves (l .plan) m c → laneAt (crashedAfter l n) c ≡ laneAt l c =
+      λ c h. (crashed-beside l n (inv .ordered) (inv .shape)) c (λ q. true≢false (sym (ap (λ (x : ℕ). nodeAt l x .crashed) (h .1) ∙ mark) ∙ parents c (h .0, q))) (λ q. d (sym (h .1) ∙ q)) in
+      replays-stay l (l .steps) (crashedAfter l n .nodes) (crashedAfter l n .lanes) g g m same refl cut cut base base (λ c h. ap (λ (x : Lane). x .taken) (out c h)) (λ c y t i. refl) (λ c h. (ap (λ (x : Lane). x .taken) (into c h), omega arith, refl, refl)) (inv .replays m old)
+
+  pub crash-inv : Inv (crashedLine n l) g cut base fed receipts (crashes ++ n ∷ [])
+  crash-inv =
+      subst (λ (x : Line). Inv x g cut base fed receipts (crashes ++ n ∷ [])) (sym (crashed-is l n (inv .ordered) (inv .shape)))
+      (record {
+        shape = crashed-shape l n (inv .ordered) (inv .shape);
+        ordered = inv .ordered;
+        marks = crash-marks;
+        nodes = nodes-stay l (l .steps) (crashedAfter l n .nodes) (crashedAfter l n .lanes) unmarked-old (λ m e. refl) (inv .nodes);
+        events = λ m. events-stay l (l .steps) (crashedAfter l n .nodes) (crashedAfter l n .lanes) g g m (λ e. (crashed-else l n (inv .ordered) (inv .shape)) m (λ q. down-not-up (ap (λ (x : ℕ). nodeAt (crashedAfter l n) x .status) (sym q) ∙ e))) refl (inv .events m);
+        channels = λ c h. channels-beside l (l .steps) (crashedAfter l n .nodes) (crashedAfter l n .lanes) g g n (crashed-else l n (inv .ordered) (inv .shape)) (crashed-beside l n (inv .ordered) (inv .shape)) (λ x d. refl) c h cut cut (λ d. refl) (λ d. refl) (channel-enters c) (channel-leaves c) (inv .channels c h);
+        ends = λ c h. ends-beside l (l .steps) (crashedAfter l n .nodes) (crashedAfter l n .lanes) g g n (crashed-else l n (inv .ordered) (inv .shape)) (crashed-beside l n (inv .ordered) (inv .shape)) (λ x d. refl) c h (ends-enters c) (ends-leaves c) (inv .ends c h);
+        replays = crash-replays;
+      })

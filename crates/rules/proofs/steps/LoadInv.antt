@@ -1,0 +1,122 @@
+-- The invariant holds of a loaded line: nothing was done, and every node and channel is fresh.
+use Prim.Native.Nat.{ℕ, zero, suc}
+use mathlib.Core.Path.{_≡_, refl, sym, ap, _∙_}
+use mathlib.Core.Bool.{false, true≢false}
+use mathlib.Core.List.{List, [], _∷_, map}
+use native.Mathlib.Omega.{arith}
+use lib.ListN.{getD, length-replicate, length-map}
+use Rattle.plan.specs.declared.Channel.{Channel}
+use Rattle.plan.specs.Plan.{Plan, planOf, channelAt, nodeCount}
+use Rattle.plan.specs.Check.{planRefusal}
+use Rattle.rules.specs.Lists.{keep}
+use Rattle.rules.specs.Line.{up, Node, Lane, Line, freshNode, noLane, freshLane, initialLine, nodeAt, laneAt}
+use Rattle.rules.specs.Clock.{messageOf}
+use Rattle.basics.specs.Replicate.{replicate-default}
+use Rattle.rules.proofs.lists.Rising.{none, none-in, past}
+use Rattle.rules.proofs.histories.Witness.{no-more, none}
+use Rattle.rules.proofs.histories.Ghost.{Ghost, takesMessage, put, got, logPut}
+use Rattle.rules.proofs.invariant.Inv.{Inv, Ordered, Shape, Marks, Nodes, timeOf, Channels, Ends}
+use Rattle.rules.proofs.invariant.InvLaws.{up-not-replay}
+use Rattle.rules.proofs.steps.PlanOrder.{ordered-plan}
+
+-- Nothing on a channel, marked and taken up to 0.
+abbrev emptyLane : List ℕ → Lane
+emptyLane heard = record { mark = 0; taken = 0; heard = heard; queue = [] }
+
+fresh-lane : (p : Plan) (cs : List Channel) (b : ℕ) → (heard : List ℕ) × (getD (map (λ (c : Channel). freshLane p c 0) cs) b noLane ≡ emptyLane heard)
+unfolding freshLane
+fresh-lane p [] b = ([], refl)
+fresh-lane p (c ∷ cs) zero = (freshLane p c 0 .heard, refl)
+fresh-lane p (c ∷ cs) (suc b) = fresh-lane p cs b
+
+module _ (p : Plan) where
+  abbrev l : Line
+  l = initialLine p
+
+  abbrev nothing : Ghost
+  nothing = λ n. []
+
+  node-fresh : (n : ℕ) → nodeAt l n ≡ freshNode
+  unfolding initialLine
+  node-fresh n = replicate-default (nodeCount p) n freshNode
+
+  lane-fresh : (b : ℕ) → (heard : List ℕ) × (laneAt l b ≡ emptyLane heard)
+  unfolding initialLine
+  lane-fresh b = fresh-lane p (p .channels) b
+
+  start-shape : Shape l
+  unfolding initialLine
+  start-shape = record { nodes-long = length-replicate (nodeCount p) freshNode; lanes-long = length-map (p .channels) (λ (c : Channel). freshLane p c 0) }
+
+  unmarked : (n : ℕ) → nodeAt l n .crashed ≡ false
+  unmarked n = ap (λ (x : Node). x .crashed) (node-fresh n)
+
+  all-up : (n : ℕ) → nodeAt l n .status ≡ up
+  all-up n = ap (λ (x : Node). x .status) (node-fresh n)
+
+  start-marks : Marks l []
+  start-marks =
+      record {
+        were-named = λ n e. unmarked n;
+        not-joined = λ b h e. unmarked (channelAt (l .plan) b .receiver);
+        between = λ n e. absurd (true≢false (sym e ∙ unmarked n));
+        stopped = λ n e. all-up n;
+      }
+
+  start-nodes : Nodes l nothing [] []
+  start-nodes =
+      record {
+        only-feeds = no-more;
+        sources = λ n e. refl;
+        others = λ n e. (refl, none);
+        beyond = λ n h. refl;
+        received = λ n e. refl;
+        logged = λ n e. ap (λ (x : Node). x .log) (node-fresh n);
+      }
+
+  start-channels : (b : ℕ) → Channels l nothing (λ c. 0) b
+  unfolding put got logPut
+  start-channels b =
+      let (heard, lane) = lane-fresh b in
+      let taken = ap (λ (x : Lane). x .taken) lane in
+      let logs : logPut l b ≡ [] = ap (λ (x : Node). keep (takesMessage (l .plan) b) (map messageOf (x .log))) (node-fresh (channelAt (l .plan) b .sender)) in
+      record {
+        rises = none;
+        cut-is = refl;
+        cut-up = λ e. sym taken;
+        sender-up = λ e.
+            record {
+              within = none-in;
+              cut-within = omega arith;
+              taken-within = omega (arith, taken);
+              to-come = λ _. ap (past timeOf (laneAt l b .taken)) logs;
+              queue = λ r. rw (lane, logs) (omega arith, omega arith, refl);
+            };
+      }
+
+  start-ends : (b : ℕ) → Ends l nothing b
+  unfolding got
+  start-ends b =
+      let (heard, lane) = lane-fresh b in
+      record {
+        exact = λ e. ap (λ (x : Lane). x .taken) lane;
+        stopped = λ e. ap (λ (x : Lane). x .queue) lane;
+        waiting = λ e. ap (λ (x : Lane). x .mark) lane ∙ ap (λ (x : Lane). x .taken) (sym lane);
+      }
+
+  pub start-inv : Ordered p → Inv (initialLine p) (λ n. []) (λ b. 0) (λ b. 0) [] [] []
+  unfolding initialLine
+  start-inv ordered =
+      record {
+        shape = start-shape;
+        ordered = ordered;
+        marks = start-marks;
+        nodes = start-nodes;
+        events = λ n. record { rise = none; within = λ e. none-in };
+        channels = λ b h. start-channels b;
+        ends = λ b h. start-ends b;
+        replays = λ n e. absurd (up-not-replay (sym (all-up n) ∙ e));
+      }
+
+pub load-inv : (s : List ℕ) → planRefusal s ≡ 0 → Inv (initialLine (planOf s)) (λ n. []) (λ b. 0) (λ b. 0) [] [] []
+load-inv s z = start-inv (planOf s) (ordered-plan s z)

@@ -1,0 +1,5 @@
+-- Every step keeps the invariant, and a quiet line is at rest.
+pub mod Accepted
+pub mod StepInv
+pub mod PlanKept
+pub mod QuietRest

@@ -1,0 +1,185 @@
+-- What an accepted frame says of the line: for each kind of frame, what its step goes by.
+use Prim.Native.Nat.{ℕ, suc, _<_}
+use mathlib.Core.Path.{_≡_, refl, sym, ap, _∙_}
+use mathlib.Core.Logic.{_≢_}
+use mathlib.Core.Bool.{Bool, true, false, _&&_, true≢false}
+use mathlib.Core.List.{List, [], _∷_}
+use mathlib.Core.Option.{some}
+use native.Mathlib.Omega.{arith}
+use borrow.Author.Tests.{leb-false, eq-eqb, ne-eqb, not-false}
+use Rattle.basics.specs.Bools.{neither-true}
+use Rattle.plan.specs.Plan.{nodeCount, channelCount, channelAt, isSource, isSink, entering, leaving}
+use Rattle.rules.specs.Lists.{anyOf}
+use Rattle.rules.specs.Line.{stepLimit, Message, Entry, Status, up, down, replay, Line, nodeAt, laneAt, isDown, isReplay}
+use Rattle.rules.specs.Frame.{Frame, feed, send, take, crash, recover, frameOf, badFrameLength, badFrameVersion, badKind}
+use Rattle.rules.specs.Recover.{rowGoal, rowComplete}
+use Rattle.rules.specs.Step.{noStepsLeft, noSuch, wrongNode, nodeDown, endDown, wrongStatus, neighbourCrashed, besideCrashed, badRecord, sendable, nothingThere, queueFull, rowDone, noSpace, effect, noPlacing, lineRefusal, refusal, accepted, step}
+use Rattle.rules.proofs.lists.ListLaws.{some-first}
+use Rattle.rules.proofs.lists.Members.{none-any}
+use Rattle.rules.proofs.lists.Options.{something-there}
+use Rattle.rules.proofs.invariant.Inv.{Enters, Leaves}
+use Rattle.rules.proofs.line.Joins.{in-entering, in-leaving}
+
+-- The first refusal of some that applies, else another number.
+abbrev firstOf : List (Bool × ℕ) → ℕ → ℕ
+firstOf [] n = n
+firstOf ((t, k) ∷ ts) n = elim t [ true ↦ suc k | false ↦ firstOf ts n ]
+
+abbrev NoneOf : List (Bool × ℕ) → Type 0
+NoneOf [] = Unit
+NoneOf ((t, k) ∷ ts) = (t ≡ false) × NoneOf ts
+
+none-of : (ts : List (Bool × ℕ)) (n : ℕ) → firstOf ts n ≡ 0 → NoneOf ts × (n ≡ 0)
+none-of [] n e = (tt, e)
+none-of ((true, k) ∷ ts) n e = let no : ⊥ = omega arith in absurd no
+none-of ((false, k) ∷ ts) n e = let (rest, last) = none-of ts n e in ((refl, rest), last)
+
+-- A frame that is not refused: no number from 12 on applies, and it leads to a line.
+pub record Passed (l : Line) (f : Frame) : Type 0 where
+  pub steps-left : l .steps < stepLimit
+  pub is-there : noSuch l f ≡ false
+  pub right-node : wrongNode l f ≡ false
+  pub right-status : wrongStatus l f ≡ false
+  pub apart : besideCrashed l f ≡ false
+  pub record-good : badRecord f ≡ false
+  pub something : nothingThere l f ≡ false
+  pub room : queueFull l f ≡ false
+  pub row-open : rowDone l f ≡ false
+  pub space : noSpace l f ≡ false
+  pub next : Line
+  pub leads : effect l f ≡ some next
+
+pub passed : (l : Line) (f : Frame) → lineRefusal l f ≡ 0 → Passed l f
+unfolding lineRefusal noStepsLeft noPlacing
+passed l f e =
+    let tests : List (Bool × ℕ) =
+    (noStepsLeft l, 11) ∷ (noSuch l f, 12) ∷ (wrongNode l f, 13) ∷ (wrongStatus l f, 14) ∷ (besideCrashed l f, 15) ∷ (badRecord f, 16) ∷ (nothingThere l f, 17) ∷ (queueFull l f, 18) ∷ (rowDone l f, 19) ∷ (noSpace l f, 20)
+    ∷ (noPlacing l f, 23) ∷ [] in
+    let (steps, (number, (node, (status, (beside, (good, (offer, (room, (row, (space, (placed, last))))))))))) = none-of tests 0 e .0 in
+    let (k, q) = something-there (effect l f) placed in
+    record {
+      steps-left = leb-false stepLimit (l .steps) steps;
+      is-there = number;
+      right-node = node;
+      right-status = status;
+      apart = beside;
+      record-good = good;
+      something = offer;
+      room = room;
+      row-open = row;
+      space = space;
+      next = k;
+      leads = q;
+    }
+
+not-down : (s : Status) → isDown s ≡ false → s ≢ down
+not-down s e q = true≢false (sym (ap isDown q) ∙ e)
+
+pub is-down : (s : Status) → isDown s ≡ true → s ≡ down
+is-down up e = absurd (true≢false (sym e))
+is-down down e = refl
+is-down replay e = absurd (true≢false (sym e))
+
+-- Both ends of a channel are not down.
+module _ (l : Line) (b : ℕ) (e : endDown l b ≡ false) where
+  ends-apart : (nodeAt l (channelAt (l .plan) b .sender) .status ≢ down) × (nodeAt l (channelAt (l .plan) b .receiver) .status ≢ down)
+  ends-apart =
+      let (s, r) = neither-true (nodeDown l (channelAt (l .plan) b .sender)) (nodeDown l (channelAt (l .plan) b .receiver)) e in
+      (not-down (nodeAt l (channelAt (l .plan) b .sender) .status) s, not-down (nodeAt l (channelAt (l .plan) b .receiver) .status) r)
+
+pub record CanFeed (l : Line) (n : ℕ) : Type 0 where
+  pub here : n < nodeCount (l .plan)
+  pub source : isSource (l .plan) n ≡ true
+
+pub can-feed : {l : Line} {n : ℕ} {r : List ℕ} → Passed l (feed n r) → CanFeed l n
+can-feed {l} {n} p = record { here = leb-false (nodeCount (l .plan)) n (p .is-there); source = not-false (isSource (l .plan) n) (p .right-node) }
+
+pub record CanSend (l : Line) (b : ℕ) : Type 0 where
+  pub here : b < channelCount (l .plan)
+  pub sender : nodeAt l (channelAt (l .plan) b .sender) .status ≢ down
+  pub receiver : nodeAt l (channelAt (l .plan) b .receiver) .status ≢ down
+  pub entry : Entry
+  pub first : sendable l b ≡ some entry
+
+pub can-send : {l : Line} {b : ℕ} → Passed l (send b) → CanSend l b
+can-send {l} {b} p =
+    let (s, r) = ends-apart l b (p .right-status) in
+    let (e, q) = something-there (sendable l b) (p .something) in
+    record { here = leb-false (channelCount (l .plan)) b (p .is-there); sender = s; receiver = r; entry = e; first = q }
+
+pub record CanTake (l : Line) (b : ℕ) : Type 0 where
+  pub here : b < channelCount (l .plan)
+  pub sender : nodeAt l (channelAt (l .plan) b .sender) .status ≢ down
+  pub receiver : nodeAt l (channelAt (l .plan) b .receiver) .status ≢ down
+  pub message : Message
+  pub rest : List Message
+  pub first : laneAt l b .queue ≡ message ∷ rest
+  pub below-goal : nodeAt l (channelAt (l .plan) b .receiver) .status ≡ replay → laneAt l b .taken < rowGoal (nodeAt l (channelAt (l .plan) b .receiver) .targets) (channelAt (l .plan) b .sender)
+
+row-below : (l : Line) (b : ℕ) → rowDone l (take b) ≡ false → nodeAt l (channelAt (l .plan) b .receiver) .status ≡ replay
+    → laneAt l b .taken < rowGoal (nodeAt l (channelAt (l .plan) b .receiver) .targets) (channelAt (l .plan) b .sender)
+unfolding rowComplete
+row-below l b e q =
+    let n = channelAt (l .plan) b .receiver in
+    leb-false (rowGoal (nodeAt l n .targets) (channelAt (l .plan) b .sender)) (laneAt l b .taken) (sym (ap (λ (s : Status). isReplay s && rowComplete l n b) q) ∙ e)
+
+pub can-take : {l : Line} {b : ℕ} → Passed l (take b) → CanTake l b
+can-take {l} {b} p =
+    let (s, r) = ends-apart l b (p .right-status) in
+    let (m, rest, q) = some-first (laneAt l b .queue) (p .something) in
+    record { here = leb-false (channelCount (l .plan)) b (p .is-there); sender = s; receiver = r; message = m; rest = rest; first = q; below-goal = row-below l b (p .row-open) }
+
+pub record CanCrash (l : Line) (n : ℕ) : Type 0 where
+  pub here : n < nodeCount (l .plan)
+  pub no-source : isSource (l .plan) n ≡ false
+  pub no-sink : isSink (l .plan) n ≡ false
+  pub not-yet : nodeAt l n .status ≢ down
+  pub parents : (c : ℕ) → Enters (l .plan) n c → nodeAt l (channelAt (l .plan) c .sender) .crashed ≡ false
+  pub children : (c : ℕ) → Leaves (l .plan) n c → nodeAt l (channelAt (l .plan) c .receiver) .crashed ≡ false
+
+neighbours-apart : (l : Line) (n : ℕ) → neighbourCrashed l n ≡ false
+    → ((c : ℕ) → Enters (l .plan) n c → nodeAt l (channelAt (l .plan) c .sender) .crashed ≡ false) × ((c : ℕ) → Leaves (l .plan) n c → nodeAt l (channelAt (l .plan) c .receiver) .crashed ≡ false)
+unfolding neighbourCrashed
+neighbours-apart l n e =
+    let parent : ℕ → Bool = λ c. nodeAt l (channelAt (l .plan) c .sender) .crashed in
+    let child : ℕ → Bool = λ c. nodeAt l (channelAt (l .plan) c .receiver) .crashed in
+    let (a, b) = neither-true (anyOf parent (entering (l .plan) n)) (anyOf child (leaving (l .plan) n)) e in
+    (λ c h. none-any parent a (in-entering (l .plan) n c (h .0) (h .1)), λ c h. none-any child b (in-leaving (l .plan) n c (h .0) (h .1)))
+
+pub can-crash : {l : Line} {n : ℕ} → Passed l (crash n) → CanCrash l n
+can-crash {l} {n} p =
+    let (source, sink) = neither-true (isSource (l .plan) n) (isSink (l .plan) n) (p .right-node) in
+    let (parents, children) = neighbours-apart l n (p .apart) in
+    record {
+      here = leb-false (nodeCount (l .plan)) n (p .is-there);
+      no-source = source;
+      no-sink = sink;
+      not-yet = not-down (nodeAt l n .status) (p .right-status);
+      parents = parents;
+      children = children;
+    }
+
+pub record CanRecover (l : Line) (n : ℕ) : Type 0 where
+  pub here : n < nodeCount (l .plan)
+  pub no-source : isSource (l .plan) n ≡ false
+  pub no-sink : isSink (l .plan) n ≡ false
+  pub stopped : nodeAt l n .status ≡ down
+
+pub can-recover : {l : Line} {n : ℕ} → Passed l (recover n) → CanRecover l n
+can-recover {l} {n} p =
+    let (source, sink) = neither-true (isSource (l .plan) n) (isSink (l .plan) n) (p .right-node) in
+    record { here = leb-false (nodeCount (l .plan)) n (p .is-there); no-source = source; no-sink = sink; stopped = is-down (nodeAt l n .status) (not-false (nodeDown l n) (p .right-status)) }
+
+-- A step's answer: with number 0 the effect and one more step, else the line as it was.
+module _ (l : Line) (f : List ℕ) where
+  pub line-passed : refusal l f ≡ 0 → lineRefusal l (frameOf f) ≡ 0
+  unfolding refusal
+  line-passed e = none-of ((badFrameLength f, 8) ∷ (badFrameVersion f, 9) ∷ (badKind f, 10) ∷ []) (lineRefusal l (frameOf f)) e .1
+
+  pub step-accepted : refusal l f ≡ 0 → (step l f .number ≡ 0) × (step l f .line ≡ accepted l (effect l (frameOf f)))
+  unfolding step
+  step-accepted e = rw (eq-eqb (refusal l f) 0 e, step) (refl, refl)
+
+  pub step-refused : refusal l f ≢ 0 → (step l f .number ≢ 0) × (step l f .line ≡ l)
+  unfolding step
+  step-refused d = rw (ne-eqb (refusal l f) 0 d, step) (d, refl)

@@ -1,0 +1,22 @@
+-- A step keeps an undamaged line undamaged.
+pub mod Standing
+pub mod Crashed
+pub mod Restored
+pub mod TestLaws
+pub mod UndamagedNode
+pub mod UndamagedChannel
+pub mod Undamaged
+pub mod StartSound
+pub mod SoundStays
+pub mod RecordsWithin
+pub mod LogSound
+pub mod FeedSound
+pub mod SendSound
+pub mod HeardLaws
+pub mod TakeSound
+pub mod CrashSound
+pub mod PlacedLog
+pub mod EndSound
+pub mod HoldSound
+pub mod RecoverSound
+pub mod StepSound

@@ -1,0 +1,78 @@
+-- No step damages a line: each accepted frame keeps it sound, and a refused one leaves it as it was.
+use Prim.Native.Nat.{ℕ}
+use mathlib.Core.Path.{_≡_, refl, sym, ap, subst, _∙_}
+use mathlib.Core.Bool.{Bool, true, false, cond}
+use mathlib.Core.List.{List}
+use mathlib.Core.Option.{some}
+use native.Mathlib.Decide.{ℕ-discrete}
+use lib.ListN.{drop}
+use lib.Dec.{eqb}
+use Rattle.plan.specs.Lawful.{Bytes}
+use Rattle.plan.proofs.BytesLaws.{bytes-drop}
+use Rattle.plan.specs.Plan.{channelAt}
+use Rattle.rules.specs.Line.{Status, up, down, replay, Line, nodeAt, counted}
+use Rattle.rules.specs.Frame.{Frame, feed, send, take, crash, recover, frameNumber, frameOfKind, frameOf}
+use Rattle.rules.specs.Step.{effect, accepted, refusal, step}
+use Rattle.rules.specs.Damaged.{damaged}
+use Rattle.rules.proofs.theorem.Accepted.{Passed, passed, CanTake, can-take, line-passed, step-accepted, step-refused}
+use Rattle.rules.proofs.undamaged.Standing.{Sound}
+use Rattle.rules.proofs.undamaged.Undamaged.{undamaged-sound, sound-undamaged}
+use Rattle.rules.proofs.undamaged.FeedSound.{feed-sound}
+use Rattle.rules.proofs.undamaged.SendSound.{send-sound}
+use Rattle.rules.proofs.undamaged.TakeSound.{take-up-sound}
+use Rattle.rules.proofs.undamaged.HoldSound.{take-replaying-sound}
+use Rattle.rules.proofs.undamaged.CrashSound.{crash-sound}
+use Rattle.rules.proofs.undamaged.RecoverSound.{recover-sound}
+
+-- The bytes of a Feed's record.
+abbrev FedBytes : Frame → Type 0
+FedBytes (feed n r) = Bytes r
+FedBytes (send b) = Unit {0}
+FedBytes (take b) = Unit {0}
+FedBytes (crash n) = Unit {0}
+FedBytes (recover n) = Unit {0}
+
+kind-bytes : (kind n : ℕ) (rest : List ℕ) → Bytes rest → FedBytes (frameOfKind kind n rest)
+kind-bytes kind n rest bytes = one (eqb kind 1) (eqb kind 2) (eqb kind 3) (eqb kind 4)
+  where
+    one : (a b c d : Bool) → FedBytes (cond a (feed n rest) (cond b (send n) (cond c (take n) (cond d (crash n) (recover n)))))
+    one true b c d = bytes
+    one false true c d = tt
+    one false false true d = tt
+    one false false false true = tt
+    one false false false false = tt
+
+frame-bytes : (f : List ℕ) → Bytes f → FedBytes (frameOf f)
+unfolding frameOf
+frame-bytes f bytes = kind-bytes (frameNumber 2 f) (frameNumber 3 f) (drop 5 f) (bytes-drop 5 f bytes)
+
+module _ (l : Line) (sound : Sound l) where
+  take-sound : (b : ℕ) → Passed l (take b) → (k : Line) → effect l (take b) ≡ some k → Sound (counted k)
+  take-sound b p k e = go (nodeAt l (channelAt (l .plan) b .receiver) .status) refl
+    where
+      can : CanTake l b
+      can = can-take p
+
+      go : (s : Status) → nodeAt l (channelAt (l .plan) b .receiver) .status ≡ s → Sound (counted k)
+      go up q = take-up-sound l sound b p can q k e
+      go down q = absurd (can .receiver q)
+      go replay q = take-replaying-sound l sound b p can q k e
+
+  pub effect-sound : (f : Frame) → FedBytes f → Passed l f → (k : Line) → effect l f ≡ some k → Sound (counted k)
+  effect-sound (feed n r) bytes p = feed-sound l sound n r bytes p
+  effect-sound (send b) bytes p = send-sound l sound b p
+  effect-sound (take b) bytes p = take-sound b p
+  effect-sound (crash n) bytes p = crash-sound l sound n p
+  effect-sound (recover n) bytes p = recover-sound l sound n p
+
+pub step-sound : (l : Line) (f : List ℕ) → Bytes f → Sound l → Sound (step l f .line)
+step-sound l f bytes sound =
+    elim (ℕ-discrete (refusal l f) 0) [
+      | yes e ↦
+          (let p = passed l (frameOf f) (line-passed l f e) in
+          subst Sound (sym (step-accepted l f e .1 ∙ ap (accepted l) (p .leads))) (effect-sound l sound (frameOf f) (frame-bytes f bytes) p (p .next) (p .leads)))
+      | no d ↦ subst Sound (sym (step-refused l f d .1)) sound
+    ]
+
+pub step-undamaged : (l : Line) (f : List ℕ) → Bytes f → damaged l ≡ false → damaged (step l f .line) ≡ false
+step-undamaged l f bytes e = sound-undamaged (step l f .line) (step-sound l f bytes (undamaged-sound l e))
