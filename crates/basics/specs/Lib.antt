@@ -2,3 +2,4 @@
 pub mod Bools
 pub mod Update
 pub mod Replicate
+pub mod Put

@@ -4,7 +4,7 @@ use mathlib.Core.Path.{_≡_, refl, sym, ap, ap₂, _∙_}
 use mathlib.Core.List.{List, [], _∷_}
 use native.Mathlib.Omega.{arith}
 use lib.Dec.{lit≤}
-use lib.ListN.{length, getD, take, drop, List·getD-eq-default}
+use lib.ListN.{length, getD, take, drop}
 use lib.Seq.{drop-drop, take-take}
 use Rattle.plan.specs.declared.Channel.{Channel}
 use Rattle.plan.specs.Layout.{Layout, spelled, readSlots, pair, padded}
@@ -161,9 +161,3 @@ module _ (s : List ℕ) where
         ∙ cut-at (planOf s) (planOf s .channels) (readSlots laneLayout m (drop blocksAt s)) lanes-given b (rw channel-count h)
         ∙ ap (cutHeard c) (slot-at laneLayout m (drop blocksAt s) b noLane h)
         ∙ ap (λ (t : List ℕ). cutHeard c (laneLayout .read (take blockSize t))) (drop-drop (b * blockSize) blocksAt s ∙ ap (λ (a : ℕ). drop a s) (block-start b))
-
-    pub node-past : (k : ℕ) → n ≤ k → nodeAt (lineOf s) k ≡ freshNode
-    node-past k h = List·getD-eq-default (lineOf s .nodes) freshNode (rw nodes-counted h)
-
-    pub lane-past : (b : ℕ) → m ≤ b → laneAt (lineOf s) b ≡ noLane
-    lane-past b h = List·getD-eq-default (lineOf s .lanes) noLane (rw lanes-counted h)

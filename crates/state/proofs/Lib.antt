@@ -19,3 +19,5 @@ pub mod WholeRight
 pub mod StoredPlan
 pub mod Undamaged
 pub mod AcceptedState
+pub mod Swapped
+pub mod Written

@@ -25,7 +25,7 @@ origin-known : (o : Origin) → originOf (originNumbers o) ≡ o
 origin-known fed = refl
 origin-known (made s t) = refl
 
-from-fits : (s t : ℕ) → s < 256 → TimeFits t → OriginFits (originFrom s t)
+pub from-fits : (s t : ℕ) → s < 256 → TimeFits t → OriginFits (originFrom s t)
 from-fits zero t h k = (lit< tt, (lit< tt, tt))
 from-fits (suc s) t h k = (h, (k, tt))
 

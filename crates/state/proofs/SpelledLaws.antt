@@ -1,6 +1,6 @@
 -- Bytes that spell a line: they are what their line is written as.
 use Prim.Native.Nat.{ℕ}
-use mathlib.Core.Path.{_≡_, refl, sym, ap, ap₂, subst, _∙_}
+use mathlib.Core.Path.{_≡_, refl, sym, ap, ap₂, _∙_}
 use mathlib.Core.Logic.{_↔_}
 use mathlib.Core.Bool.{Bool, true, false, not, _||_, true≢false}
 use mathlib.Core.List.{List, [], _∷_}
@@ -9,11 +9,9 @@ use borrow.Author.Tests.{eqb-true, eq-eqb, not-false}
 use lib.Dec.{eqb}
 use lib.ListN.{length}
 use Rattle.basics.specs.Bools.{both-true, neither-true}
-use Rattle.plan.specs.Lawful.{Bytes}
 use Rattle.rules.specs.Damaged.{damaged}
 use Rattle.state.specs.Sizes.{stateSize}
 use Rattle.state.specs.State.{lineBytes, lineOf, sameBytes, unspelled, stateDamaged, stateAnswer}
-use Rattle.state.proofs.LineLaws.{line-bytes}
 
 pub same-bytes : (s t : List ℕ) → sameBytes s t ≡ true → s ≡ t
 same-bytes [] [] e = refl
@@ -33,9 +31,6 @@ line-written s = (
   λ e. same-bytes (lineBytes (lineOf s)) s (not-false (sameBytes (lineBytes (lineOf s)) s) e),
   λ e. ap not (ap (λ (t : List ℕ). sameBytes t s) e ∙ bytes-same s),
 )
-
-pub spelled-bytes : (s : List ℕ) → unspelled s ≡ false → Bytes s
-spelled-bytes s e = subst Bytes (line-written s .0 e) (line-bytes (lineOf s))
 
 -- A state is accepted where it is as long as it should be, is what its line is written as, and the line is not damaged.
 pub record Sane (s : List ℕ) : Type 0 where

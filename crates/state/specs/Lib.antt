@@ -8,3 +8,4 @@ pub mod State
 pub mod Right
 pub mod Fits
 pub mod Examples
+pub mod Changes

@@ -15,10 +15,6 @@ module _ (n : ℕ) (x : Node) (l : Line) where
   unfolding withNode
   node-else m d = getD-set-other (l .nodes) n m x freshNode d
 
-  pub lane-kept : (b : ℕ) → laneAt (withNode n x l) b ≡ laneAt l b
-  unfolding withNode
-  lane-kept b = refl
-
   pub plan-kept : withNode n x l .plan ≡ l .plan
   unfolding withNode
   plan-kept = refl
@@ -26,10 +22,6 @@ module _ (n : ℕ) (x : Node) (l : Line) where
   pub nodes-long : length (withNode n x l .nodes) ≡ length (l .nodes)
   unfolding withNode
   nodes-long = length-set (l .nodes) n x
-
-  pub lanes-kept : withNode n x l .lanes ≡ l .lanes
-  unfolding withNode
-  lanes-kept = refl
 
 module _ (b : ℕ) (x : Lane) (l : Line) where
   pub lane-there : b < length (l .lanes) → laneAt (withLane b x l) b ≡ x
@@ -51,7 +43,3 @@ module _ (b : ℕ) (x : Lane) (l : Line) where
   pub lanes-long : length (withLane b x l .lanes) ≡ length (l .lanes)
   unfolding withLane
   lanes-long = length-set (l .lanes) b x
-
-  pub nodes-kept : withLane b x l .nodes ≡ l .nodes
-  unfolding withLane
-  nodes-kept = refl
