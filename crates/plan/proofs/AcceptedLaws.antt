@@ -91,6 +91,3 @@ four-at p zero i e h = let no : ⊥ = omega arith in absurd no
 four-at p (suc n) i e h =
     let t = both-true (leb (length (entering p n)) 4 && leb (length (leaving p n)) 4) (fourAtMost p n) e in
     ⊎-elim (λ k. four-at p n i (t .1) k) (λ k. let same : n ≡ i = omega arith in subst (Four p) same (four-here p n (t .0))) (below-or-not i n)
-
-pub node-degrees : (s : List ℕ) → planRefusal s ≡ 0 → (n : ℕ) → n < planNodes s → (length (entering (planOf s) n) ≤ 4) × (length (leaving (planOf s) n) ≤ 4)
-node-degrees s z n h = four-at (planOf s) (planNodes s) n (accepted s z .degrees) h

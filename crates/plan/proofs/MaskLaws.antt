@@ -17,9 +17,7 @@ use Rattle.plan.specs.declared.Record.{Record}
 use Rattle.plan.specs.declared.Channel.{Channel}
 use Rattle.plan.specs.Channel.{takes}
 use Rattle.plan.specs.Plan.{Plan, planChannels, noChannel, keepIf, numbersFrom, isNone, entering, leaving}
-use Rattle.plan.specs.Check.{planRefusal}
 use Rattle.plan.specs.Mask.{maskOf, Rising, onesFrom, channelsIn, taking, planMask, CountOf, FirstOf}
-use Rattle.plan.proofs.CheckLaws.{accepted}
 
 -- ---- rising lists
 
@@ -180,10 +178,6 @@ mask-many s h bs = rw (lt-leb (planChannels s) 24 h)
 pub mask-none : (bs : List ℕ) → eqb (maskOf bs) 0 ≡ isNone bs
 mask-none [] = refl
 mask-none (b ∷ bs) = ne-eqb (2 ^ b + maskOf bs) 0 (λ e. omega (arith, e, pow-pos b))
-
--- A plan that is not refused has its masks whole.
-pub mask-accepted : (s : List ℕ) → planRefusal s ≡ 0 → (bs : List ℕ) → planMask s bs ≡ maskOf bs
-mask-accepted s z bs = mask-few s (accepted s z .channelsMost) bs
 
 -- ---- a mask that grows along a list of channels
 

@@ -1,0 +1,69 @@
+// A channel: read in place, and whether it takes a record (document 01, "A belt takes a record if ..").
+ghost use mathlib.Core.Path.{_≡_};
+ghost use Prim.Native.Nat.{_+_, _%_, _<_};
+ghost use Rattle.plan.specs.Channel.{bitSet, takes};
+ghost use Rattle.plan.specs.Plan.{planOf, channelAt};
+use crate::Channel;
+use crate::Record;
+use crate::bytes;
+
+// Bit i of a mask, bit 0 lowest.
+fn bit_set(mask: u16, i: u8) -> bool
+    ensures { λ r. ⌜ r ≡ bitSet mask i ⌝ }
+{
+    if 15 < i {
+        return false;
+    }
+    (mask >> i) % 2 == 1
+}
+
+// A piece number's remainder; by 0 it is the number itself.
+fn left_over(piece: u32, modulus: u8) -> u32
+    ensures { λ r. ⌜ r ≡ piece % modulus ⌝ }
+{
+    if modulus == 0 {
+        return piece;
+    }
+    piece % (modulus as u32)
+}
+
+// Whether a channel takes a record.
+pub fn channel_takes(c: Channel, r: Record) -> bool
+    ensures { λ t. ⌜ t ≡ takes c r ⌝ }
+{
+    let bit = bit_set(c.mask, r.material);
+    let left = left_over(r.piece, c.modulus);
+    bit & (left == (c.remainder as u32))
+}
+
+// A channel, read in place.
+pub fn channel_at(plan: &[u8], channel: usize) -> Channel
+    ensures { λ c. ⌜ c ≡ channelAt (planOf (now (plan .entry))) channel ⌝ }
+{
+    if bytes::channel_count(plan) <= channel {
+        return Channel {
+            sender: 0,
+            receiver: 0,
+            mask: 0,
+            modulus: 0,
+            remainder: 0,
+        };
+    }
+    let at = 5 + 4 * bytes::node_count(plan) + 6 * channel;
+    if at + 6 <= plan.len() {
+        return Channel {
+            sender: plan[at],
+            receiver: plan[at + 1],
+            mask: bytes::wide(plan[at + 2]) * 256 + bytes::wide(plan[at + 3]),
+            modulus: plan[at + 4],
+            remainder: plan[at + 5],
+        };
+    }
+    Channel {
+        sender: bytes::byte_at(plan, at),
+        receiver: bytes::byte_at(plan, at + 1),
+        mask: bytes::word_at(plan, at + 2),
+        modulus: bytes::byte_at(plan, at + 4),
+        remainder: bytes::byte_at(plan, at + 5),
+    }
+}
