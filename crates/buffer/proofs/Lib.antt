@@ -5,3 +5,4 @@ pub mod ReadyLaws
 pub mod LookLaws
 pub mod OriginLaws
 pub mod TableLaws
+pub mod HoldsLaws

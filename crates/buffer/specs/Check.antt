@@ -10,7 +10,7 @@ use Rattle.buffer.specs.Ready.{Ready}
 use Rattle.buffer.specs.Table.{Table}
 
 -- A state that is ready, the table of its plan, and its accepted steps.
-pub record Counted (s table : List ℕ) (steps : ℕ) : Type 0 where
+pub record Tabled (s table : List ℕ) (steps : ℕ) : Type 0 where
   pub ready : Ready s
   pub tabled : Table s table
   pub same : steps ≡ lineOf s .steps

@@ -5,3 +5,5 @@ pub mod Ready
 pub mod Look
 pub mod Table
 pub mod Check
+pub mod Nothing
+pub mod Holds

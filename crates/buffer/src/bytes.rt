@@ -1,9 +1,10 @@
 // Bytes of a lent buffer, read and written in place. Numbers are big-endian.
 ghost use mathlib.Core.Path.{_≡_};
-ghost use mathlib.Core.List.{_++_};
-ghost use Prim.Native.Nat.{_+_, _-_, _≤_, _<_};
+ghost use Prim.Native.Nat.{_+_, _-_, _≤_, _<_, max};
 ghost use lib.ListN.{length, take, drop, replicate};
-ghost use Rattle.plan.specs.Layout.{spelled};
+ghost use mathlib.Core.List.{_++_};
+ghost use Rattle.basics.specs.Put.{put};
+ghost use Rattle.plan.specs.Layout.{spelled, bytesOf};
 ghost use Rattle.buffer.specs.Zero.{zeroBytes};
 
 fn wide16(b: u8) -> u16
@@ -12,10 +13,24 @@ fn wide16(b: u8) -> u16
     b as u16
 }
 
-fn wide32(b: u8) -> u32
+pub fn wide32(b: u8) -> u32
     ensures { λ r. ⌜ (r ≡ b) × (r < 256) ⌝ }
 {
     b as u32
+}
+
+// A number of four bytes as a place or a count.
+pub fn size(x: u32) -> usize
+    ensures { λ r. ⌜ r ≡ x ⌝ }
+{
+    x as usize
+}
+
+// The greater of two numbers.
+pub fn greater(a: u32, b: u32) -> u32
+    ensures { λ r. ⌜ r ≡ max a b ⌝ }
+{
+    if a < b { b } else { a }
 }
 
 // The byte at a place.
@@ -78,4 +93,45 @@ pub fn copy_to(from: &[u8], to: &mut [u8])
         to[i] = from[i];
         i += 1;
     }
+}
+
+// A byte at a place.
+pub fn put8(s: &mut [u8], at: usize, v: u8)
+    requires { ⌜ at + 1 ≤ length (now s) ⌝ }
+    ensures { λ _. ⌜ now (s .exit) ≡ put (now (s .entry)) at (bytesOf 1 v) ⌝ }
+{
+    s[at] = v;
+}
+
+// A number in two bytes.
+pub fn put16(s: &mut [u8], at: usize, v: u16)
+    requires { ⌜ at + 2 ≤ length (now s) ⌝ }
+    ensures { λ _. ⌜ now (s .exit) ≡ put (now (s .entry)) at (bytesOf 2 v) ⌝ }
+{
+    s[at] = (v / 256 % 256) as u8;
+    s[at + 1] = (v % 256) as u8;
+}
+
+// A number in four bytes.
+pub fn put32(s: &mut [u8], at: usize, v: u32)
+    requires { ⌜ at + 4 ≤ length (now s) ⌝ }
+    ensures { λ _. ⌜ now (s .exit) ≡ put (now (s .entry)) at (bytesOf 4 v) ⌝ }
+{
+    s[at] = (v / 16_777_216 % 256) as u8;
+    s[at + 1] = (v / 65_536 % 256) as u8;
+    s[at + 2] = (v / 256 % 256) as u8;
+    s[at + 3] = (v % 256) as u8;
+}
+
+// So many bytes from behind a gap move down to its start; what they leave becomes 0.
+pub fn close_gap(s: &mut [u8], at: usize, gap: usize, count: usize)
+    requires { ⌜ at + gap + count ≤ length (now s) ⌝ }
+    ensures { λ _. ⌜ now (s .exit) ≡ put (now (s .entry)) at (take count (drop (at + gap) (now (s .entry))) ++ replicate gap 0) ⌝ }
+{
+    let mut i: usize = 0;
+    while i < count {
+        s[at + i] = s[at + gap + i];
+        i += 1;
+    }
+    fill_zero(s, at + count, at + count + gap);
 }

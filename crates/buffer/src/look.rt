@@ -1,7 +1,7 @@
 // Lookups in a state, read in place: the plan at its front, whose channels are six bytes each, the sender and the receiver first; a node's status and crash mark, the first bytes of its page.
 ghost use mathlib.Core.Path.{_≡_};
 ghost use Prim.Native.Nat.{_+_, _≤_, _<_};
-ghost use Rattle.plan.specs.Plan.{planOf, planNodes, planChannels, channelAt, isSink};
+ghost use Rattle.plan.specs.Plan.{planOf, planNodes, planChannels, channelAt, isSource, isSink};
 ghost use Rattle.rules.specs.Line.{nodeAt};
 ghost use Rattle.rules.specs.Step.{nodeDown, replaying};
 ghost use Rattle.state.specs.State.{lineOf};
@@ -14,6 +14,14 @@ pub fn index(b: u8) -> usize
     ensures { λ r. ⌜ (r ≡ b) × (r < 256) ⌝ }
 {
     b as usize
+}
+
+// How many nodes the plan has.
+pub fn node_count(s: &[u8]) -> usize
+    requires { ⌜ Ready (now s) ⌝ }
+    ensures { λ r. ⌜ (r ≡ planNodes (now (s .entry))) × (r ≤ 12) ⌝ }
+{
+    index(s[3])
 }
 
 // How many channels the plan has, and where their bytes start.
@@ -48,12 +56,20 @@ pub fn receiver_of(s: &[u8], b: usize) -> usize
     index(s[at + 1])
 }
 
+// Whether no channel enters a node.
+pub fn is_source(s: &[u8], node: usize) -> bool
+    requires { ⌜ Ready (now s) ⌝ }
+    ensures { λ r. ⌜ r ≡ isSource (planOf (now (s .entry))) node ⌝ }
+{
+    plan::masks::entering_mask(s, node) == 0
+}
+
 // Whether no channel leaves a node.
 pub fn is_sink(s: &[u8], node: usize) -> bool
     requires { ⌜ Ready (now s) ⌝ }
     ensures { λ r. ⌜ r ≡ isSink (planOf (now (s .entry))) node ⌝ }
 {
-    plan::leaving_mask(s, node) == 0
+    plan::masks::leaving_mask(s, node) == 0
 }
 
 // Whether a node is down.

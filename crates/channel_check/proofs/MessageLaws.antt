@@ -6,30 +6,26 @@ use mathlib.Core.List.{List}
 use native.Mathlib.Omega.{arith}
 use borrow.Author.Tests.{eq-eqb, ne-eqb}
 use lib.Bits.{bitOr}
-use lib.Dec.{lit≤, eqb}
-use lib.ListN.{length, getD, take, drop}
-use lib.Seq.{take-take}
-use Rattle.plan.specs.Layout.{spelled}
-use Rattle.plan.specs.Record.{recordLayout}
+use lib.Dec.{eqb}
+use lib.ListN.{length, getD}
 use Rattle.plan.specs.Plan.{planOf, entering, isSource}
 use Rattle.rules.specs.Line.{Message}
-use Rattle.state.specs.Pieces.{originFrom, originLayout}
+use Rattle.state.specs.Pieces.{originFrom}
 use Rattle.state.specs.Right.{wordAt}
 use Rattle.state.specs.State.{lineOf}
-use Rattle.state.proofs.ReadLaws.{part-part, message-read}
 use Rattle.state.proofs.InPlace.{line-plan}
 use Rattle.items.specs.Items.{fromSender, timeRight, recordRight, namedRight}
 use Rattle.buffer.specs.Exact.{zeroAt, recordExact, timeNamed, originExact, messageExact}
 use Rattle.buffer.specs.Table.{codeOr}
-use Rattle.buffer.specs.Check.{Counted, recordIn}
+use Rattle.buffer.specs.Check.{Tabled, recordIn}
 use Rattle.buffer.proofs.BytesLaws.{three-zero}
-use Rattle.buffer.proofs.PieceReads.{origin-in}
+use Rattle.buffer.proofs.PieceReads.{message-in}
 use Rattle.buffer.proofs.OriginLaws.{origin-none, origin-some, parent-coded}
 use Rattle.channel_check.specs.Channel.{messageAt, messageOk}
 
 -- ---- what node n made something from
 
-module _ (s table : List ℕ) (steps : ℕ) (counted : Counted s table steps) (n : ℕ) where
+module _ (s table : List ℕ) (steps : ℕ) (counted : Tabled s table steps) (n : ℕ) where
   pub named-fed : (from t : ℕ) → from ≡ 0 → (eqb t 0 && isSource (planOf s) n) ≡ (timeNamed from t && namedRight (lineOf s) n (originFrom from t))
   unfolding namedRight
   named-fed from t e = rw (eq-eqb from 0 e, origin-none t from e, line-plan s) refl
@@ -42,17 +38,8 @@ module _ (s table : List ℕ) (steps : ℕ) (counted : Counted s table steps) (n
 -- ---- a message
 
 module _ (a : ℕ) (s : List ℕ) where
-  message-in : messageAt s a ≡ record { what = recordIn a s; time = wordAt (a + 8) s; origin = originFrom (getD s (a + 12) 0) (wordAt (a + 12 + 1) s) }
-  message-in =
-      message-read (take 20 (drop a s))
-      ∙ (λ i. record {
-        what = recordLayout .read (take-take 8 20 (drop a s) (lit≤ tt) i);
-        time = spelled 0 (part-part 4 8 20 a s (lit≤ tt) i);
-        origin = (ap (originLayout .read) (part-part 5 12 20 a s (lit≤ tt)) ∙ origin-in (a + 12) s) i;
-      })
-
   pub message-time : wordAt (a + 8) s ≡ messageAt s a .time
-  message-time = sym (ap (λ m. m .time) message-in)
+  message-time = sym (ap (λ m. m .time) (message-in a s))
 
 parts : (r w o n z : Bool) → (((r && w) && (o && n)) && z) ≡ (((r && o) && z) && (w && n))
 parts true true true true z = sym (and-true z)

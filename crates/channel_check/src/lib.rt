@@ -2,7 +2,7 @@
 ghost use mathlib.Core.Path.{_≡_};
 ghost use mathlib.Core.Bool.{not, _&&_, _||_};
 ghost use mathlib.Core.List.{_∷_};
-ghost use Prim.Native.Nat.{_+_, _-_, _*_, _≤_, _<_, max};
+ghost use Prim.Native.Nat.{_+_, _-_, _*_, _≤_, _<_};
 ghost use lib.ListN.{length};
 ghost use Rattle.plan.specs.Plan.{planOf, planNodes, planChannels, channelAt};
 ghost use Rattle.rules.specs.Lists.{greatestOf};
@@ -17,7 +17,7 @@ ghost use Rattle.state.specs.Pieces.{originFrom};
 ghost use Rattle.items.specs.Items.{namedRight, queueRight, channelRight};
 ghost use Rattle.buffer.specs.Exact.{zeroAt, timeNamed, messageExact, slotsExact, blockExact};
 ghost use Rattle.buffer.specs.Ready.{Ready, OnChannel};
-ghost use Rattle.buffer.specs.Check.{Counted};
+ghost use Rattle.buffer.specs.Check.{Tabled};
 ghost use Rattle.channel_check.specs.Channel.{Ends, QueueFits, messageOk};
 use buffer::Line;
 use buffer::bytes;
@@ -26,24 +26,12 @@ use buffer::look;
 use buffer::origin;
 use buffer::table;
 
-fn wide(n: u32) -> usize
-    ensures { λ r. ⌜ r ≡ n ⌝ }
-{
-    n as usize
-}
-
 // Whether an end of a channel is down.
 fn end_down(s: &[u8], sender: usize, receiver: usize) -> bool
     requires { ⌜ Ready (now s) × (sender < planNodes (now s)) × (receiver < planNodes (now s)) ⌝ }
     ensures { λ r. ⌜ r ≡ (nodeDown (lineOf (now (s .entry))) sender || nodeDown (lineOf (now (s .entry))) receiver) ⌝ }
 {
     look::is_down(s, sender) | look::is_down(s, receiver)
-}
-
-fn larger(a: u32, b: u32) -> u32
-    ensures { λ r. ⌜ r ≡ max a b ⌝ }
-{
-    if a < b { b } else { a }
 }
 
 // The greatest of the receiver's clock entries that stand on a channel.
@@ -55,7 +43,7 @@ fn most_heard(s: &[u8], b: usize, heard: usize) -> u32
     let mut most = bytes::get32(s, at + layout::TAKEN);
     let mut i: usize = 0;
     while i < heard {
-        most = larger(most, bytes::get32(s, at + (layout::HEARD + 4 * i)));
+        most = bytes::greater(most, bytes::get32(s, at + (layout::HEARD + 4 * i)));
         i += 1;
     }
     most
@@ -87,7 +75,7 @@ fn zeros_ok(s: &[u8], b: usize, heard: usize, count: u32) -> bool
     let unheard = unheard_zero(s, b, heard);
     let rest = bytes::all_zero(
         s,
-        at + layout::QUEUE_SLOTS + layout::MESSAGE_SIZE * wide(count),
+        at + layout::QUEUE_SLOTS + layout::MESSAGE_SIZE * bytes::size(count),
         at + layout::BLOCK,
     );
     unheard & rest
@@ -118,7 +106,7 @@ fn ends_ok(
 
 // What node n made something from: nothing, or a parent's message. A time stands with a name only.
 fn named_ok(s: &[u8], t: &[u8; 156], steps: u32, n: usize, from: usize, time: u32) -> bool
-    requires { ⌜ Counted (now s) (now t) steps ⌝ }
+    requires { ⌜ Tabled (now s) (now t) steps ⌝ }
     ensures { λ r. ⌜ r ≡ (timeNamed from time && namedRight (lineOf (now (s .entry))) n (originFrom from time)) ⌝ }
 {
     if from == 0 {
@@ -130,7 +118,7 @@ fn named_ok(s: &[u8], t: &[u8; 156], steps: u32, n: usize, from: usize, time: u3
 
 // A message that node n sent: record, time, what it was made from, three bytes unused.
 fn message_ok(s: &[u8], t: &[u8; 156], steps: u32, n: usize, at: usize) -> bool
-    requires { ⌜ Counted (now s) (now t) steps × (at + 20 ≤ length (now s)) ⌝ }
+    requires { ⌜ Tabled (now s) (now t) steps × (at + 20 ≤ length (now s)) ⌝ }
     ensures { λ r. ⌜ r ≡ messageOk (now (s .entry)) n at ⌝ }
 {
     let from = look::index(s[at + 12]);
@@ -151,7 +139,7 @@ fn queue_ok(
     stopped: bool,
     count: u32,
 ) -> bool
-    requires { ⌜ Counted (now s) (now t) steps × QueueFits (now s) b count × (sender ≡ channelAt (planOf (now s)) b .sender) × (stopped ≡ endDown (lineOf (now s)) b) ⌝ }
+    requires { ⌜ Tabled (now s) (now t) steps × QueueFits (now s) b count × (sender ≡ channelAt (planOf (now s)) b .sender) × (stopped ≡ endDown (lineOf (now s)) b) ⌝ }
     ensures { λ r. ⌜ r ≡ (slotsExact messageExact messageSize (blockAt b + queueAt + countSize) count (now (s .entry))
         && queueRight (lineOf (now (s .entry))) b (laneAt (lineOf (now (s .entry))) b .queue)) ⌝ }
 {
@@ -174,7 +162,7 @@ fn queue_ok(
 
 // A channel's block.
 pub fn channel_ok(s: &[u8], t: &[u8; 156], b: usize, steps: u32) -> bool
-    requires { ⌜ Counted (now s) (now t) steps × (b < planChannels (now s)) ⌝ }
+    requires { ⌜ Tabled (now s) (now t) steps × (b < planChannels (now s)) ⌝ }
     ensures { λ r. ⌜ r ≡ (blockExact (heardCount (planOf (now (s .entry))) (channelAt (planOf (now (s .entry))) b)) (blockAt b) (now (s .entry))
         && channelRight (lineOf (now (s .entry))) b) ⌝ }
 {

@@ -12,7 +12,7 @@ use lib.ListN.{length, getD, set}
 use lib.Seq.{ext-getD}
 use Rattle.plan.specs.Plan.{planOf, isSource, isSink}
 use Rattle.rules.specs.Lists.{allOf, isEmpty}
-use Rattle.rules.specs.Line.{logLimit, heldLimit, targetLimit, Entry, Held, Target, Node, Line, nodeAt, fed, isUp}
+use Rattle.rules.specs.Line.{logLimit, heldLimit, targetLimit, Entry, Held, Target, Node, Line, nodeAt, isUp}
 use Rattle.rules.specs.Damaged.{markMissing, markOnEnd, nodeHolds, holdsByStatus}
 use Rattle.rules.specs.Replay.{passedOn}
 use Rattle.state.specs.Sizes.{pageAt, countSize, timeAt, logAt, entrySize, heldAt, heldSize, targetsAt, targetSize, nodeRestAt, nodeRest}
@@ -24,11 +24,13 @@ use Rattle.state.proofs.OffsetLaws.{line-status, line-crashed, line-time, line-
 use Rattle.items.specs.Items.{timesRise, entryRight, logRight, heldRise, noneHeld, heldRight, heldAllRight, targetRight, countsRight, statusRight, nodePlain}
 use Rattle.buffer.specs.Exact.{zeroAt, entryExact, heldExact, targetExact, slotsExact, listExact, pageExact}
 use Rattle.node_check.specs.NodeCheck.{PageOf, entryIn, heldIn, targetIn, headExact, entryPlain, entryMade, heldPlain, heldMade, holdsNothing}
+use Rattle.buffer.specs.Nothing.{noEntry, noHeld, noTarget}
 use Rattle.buffer.specs.Check.{recordIn}
 use Rattle.node_check.proofs.SlotLaws.{swap-middle, slotsIn, passes, length-slots, slots-at, slotsPass, slots-pass, pass-more}
 use Rattle.buffer.proofs.BytesLaws.{two-zero}
 use Rattle.buffer.proofs.ReadyLaws.{counted}
-use Rattle.node_check.proofs.PieceBytes.{entry-in, held-in, entry-ordered, held-ordered}
+use Rattle.buffer.proofs.PieceReads.{entry-in, held-in}
+use Rattle.node_check.proofs.PieceBytes.{entry-ordered, held-ordered}
 
 pub page-room : {s : List ℕ} {n at : ℕ} → PageOf s n at → at + 4096 ≤ length s
 page-room page = omega (arith, page .ready .long, page .ready .nodes, page .within, page .start)
@@ -48,9 +50,6 @@ module _ {A : Type 0} (item : ℕ → List ℕ → A) (d : A) (size a count : �
       (λ i h. let below : i < count = omega (arith, long) in each i below ∙ sym (slots-at item size s d a count i below))
 
 -- ---- the log
-
-abbrev noEntry : Entry
-noEntry = record { what = record { piece = 0; material = 0; mass = 0 }; time = 0; origin = fed; before = fed }
 
 module _ (l : Line) (n top : ℕ) where
   abbrev pub entryPasses : ℕ → Entry → Bool
@@ -113,9 +112,6 @@ module _ (s : List ℕ) (n : ℕ) where
 
 -- ---- held records
 
-abbrev noHeld : Held
-noHeld = record { what = record { piece = 0; material = 0; mass = 0 }; sender = 0; time = 0; before = fed }
-
 module _ (l : Line) (n : ℕ) where
   abbrev pub heldPasses : List ℕ → Held → Bool
   heldPasses last h = heldRight l n h && ltb (getD last (h .sender) 0) (h .time)
@@ -168,9 +164,6 @@ module _ (s : List ℕ) (n : ℕ) where
         ∙ ap (λ (t : Bool). slotsExact heldExact heldSize (pageAt n + heldAt + countSize) count s && t) (ap (passes (heldPasses (lineOf s) n) (heldNext (lineOf s) n) noneHeld) (sym held-slots) ∙ held-passes (lineOf s) n noneHeld (nodeAt (lineOf s) n .held))
 
 -- ---- targets
-
-abbrev noTarget : Target
-noTarget = record { time = 0; parent = 0; parentTime = 0 }
 
 module _ (l : Line) (n : ℕ) where
   abbrev pub targetPasses : ℕ → Target → Bool

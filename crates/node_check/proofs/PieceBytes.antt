@@ -4,29 +4,25 @@ use mathlib.Core.Path.{_≡_, refl, sym, ap, _∙_}
 use mathlib.Core.Bool.{Bool, true, false, not, _&&_, and-true, and-false, and-assoc}
 use mathlib.Core.List.{List, [], _∷_}
 use native.Mathlib.Omega.{arith}
-use lib.Dec.{lit≤, lit<, leb, eqb}
+use lib.Dec.{leb, eqb}
 use lib.Bits.{bitOr}
 use lib.ListN.{length, getD, take, drop}
-use lib.Seq.{take-take}
-use Rattle.plan.specs.Layout.{spelled}
 use Rattle.plan.specs.declared.Record.{Record}
-use Rattle.plan.specs.Record.{recordLayout}
 use Rattle.plan.specs.Plan.{planOf, planChannels, isNone, entering, leaving}
 use Rattle.plan.specs.Mask.{taking, someTakes, planMask}
 use Rattle.plan.proofs.TakingLaws.{taking-some}
 use Rattle.rules.specs.Lists.{isEmpty}
 use Rattle.rules.specs.Line.{Entry, Held, Line, made}
 use Rattle.rules.specs.Replay.{passedOn}
-use Rattle.state.specs.Pieces.{originFrom, originLayout}
+use Rattle.state.specs.Pieces.{originFrom}
 use Rattle.state.specs.State.{lineOf}
 use Rattle.state.specs.Right.{wordAt}
-use Rattle.state.proofs.ReadLaws.{part-part, byte-part, entry-read, held-read, target-read}
 use Rattle.items.specs.Items.{ifFound, fromSender, recordRight, originRight, entryRight, heldRight, targetRight}
 use Rattle.buffer.specs.Exact.{zeroAt, recordExact, timeNamed, originExact, entryExact, heldExact, targetExact}
 use Rattle.buffer.specs.Zero.{zeroBytes}
 use Rattle.buffer.specs.Check.{recordIn}
 use Rattle.buffer.proofs.BytesLaws.{two-zero, three-zero}
-use Rattle.buffer.proofs.PieceReads.{origin-in}
+use Rattle.buffer.proofs.PieceReads.{entry-in, held-in, target-in}
 use Rattle.node_check.specs.NodeCheck.{entryIn, heldIn, targetIn, entryPlain, entryMade, heldPlain, heldMade}
 
 -- ---- zero bytes
@@ -34,35 +30,6 @@ use Rattle.node_check.specs.NodeCheck.{entryIn, heldIn, targetIn, entryP
 -- Bytes from a place up to another.
 pub zero-part : (from to at k : ℕ) (s : List ℕ) → from ≡ at → to - from ≡ k → zeroBytes (take (to - from) (drop from s)) ≡ zeroAt at k s
 zero-part from to at k s e f = λ i. zeroBytes (take (f i) (drop (e i) s))
-
--- ---- what is read
-
-module _ (a : ℕ) (s : List ℕ) where
-  pub entry-in : entryIn a s
-      ≡ record { what = recordIn a s; time = wordAt (a + 8) s; origin = originFrom (getD s (a + 12) 0) (wordAt (a + 12 + 1) s); before = originFrom (getD s (a + 17) 0) (wordAt (a + 17 + 1) s) }
-  entry-in =
-      entry-read (take 24 (drop a s))
-      ∙ (λ i. record {
-        what = recordLayout .read (take-take 8 24 (drop a s) (lit≤ tt) i);
-        time = spelled 0 (part-part 4 8 24 a s (lit≤ tt) i);
-        origin = (ap (originLayout .read) (part-part 5 12 24 a s (lit≤ tt)) ∙ origin-in (a + 12) s) i;
-        before = (ap (originLayout .read) (part-part 5 17 24 a s (lit≤ tt)) ∙ origin-in (a + 17) s) i;
-      })
-
-  pub held-in : heldIn a s ≡ record { what = recordIn a s; sender = getD s (a + 8) 0; time = wordAt (a + 9) s; before = originFrom (getD s (a + 13) 0) (wordAt (a + 13 + 1) s) }
-  held-in =
-      held-read (take 20 (drop a s))
-      ∙ (λ i. record {
-        what = recordLayout .read (take-take 8 20 (drop a s) (lit≤ tt) i);
-        sender = byte-part 8 20 a s (lit< tt) i;
-        time = spelled 0 (part-part 4 9 20 a s (lit≤ tt) i);
-        before = (ap (originLayout .read) (part-part 5 13 20 a s (lit≤ tt)) ∙ origin-in (a + 13) s) i;
-      })
-
-  pub target-in : targetIn a s ≡ record { time = wordAt a s; parent = getD s (a + 8) 0; parentTime = wordAt (a + 4) s }
-  target-in =
-      target-read (take 12 (drop a s))
-      ∙ (λ i. record { time = spelled 0 (take-take 4 12 (drop a s) (lit≤ tt) i); parent = byte-part 8 12 a s (lit< tt) i; parentTime = spelled 0 (part-part 4 4 12 a s (lit≤ tt) i) })
 
 -- ---- log entries and held records
 

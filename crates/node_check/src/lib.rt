@@ -15,7 +15,7 @@ ghost use Rattle.state.specs.Right.{wordAt};
 ghost use Rattle.items.specs.Items.{logRight, heldAllRight, targetRight, statusRight, nodePlain};
 ghost use Rattle.buffer.specs.Exact.{entryExact, heldExact, targetExact, slotsExact, listExact, pageExact};
 ghost use Rattle.node_check.specs.NodeCheck.{PageOf, targetIn, headExact, entryPlain, entryMade, heldPlain, heldMade, holdsNothing};
-ghost use Rattle.buffer.specs.Check.{Counted, recordIn};
+ghost use Rattle.buffer.specs.Check.{Tabled, recordIn};
 ghost use Rattle.buffer.specs.Ready.{Ready};
 ghost use Rattle.buffer.specs.Table.{Table};
 use buffer::Line;
@@ -89,25 +89,13 @@ fn log_ok(s: &[u8], t: &[u8; 156], n: usize, at: usize) -> bool
     used & unused
 }
 
-// A record, read.
-fn record_at(s: &[u8], at: usize) -> plan::Record
-    requires { ⌜ at + 8 ≤ length (now s) ⌝ }
-    ensures { λ r. ⌜ r ≡ recordIn at (now (s .entry)) ⌝ }
-{
-    plan::Record {
-        piece: bytes::get32(s, at),
-        material: s[at + 4],
-        mass: bytes::get16(s, at + 6),
-    }
-}
-
 // Whether one of the channels that leave a node, as a mask, takes the record.
 fn passed_on(s: &[u8], n: usize, mask: u32, at: usize) -> bool
     requires { ⌜ Ready (now s) × (mask ≡ planMask (now s) (leaving (planOf (now s)) n)) × (at + 8 ≤ length (now s)) ⌝ }
     ensures { λ r. ⌜ r ≡ passedOn (planOf (now (s .entry))) n (recordIn at (now (s .entry))) ⌝ }
 {
-    let what = record_at(s, at);
-    plan::some_takes(s, mask, what)
+    let what = slots::record_at(s, at);
+    plan::masks::some_takes(s, mask, what)
 }
 
 // A held record's record and its two unused bytes.
@@ -156,7 +144,7 @@ fn held_each_ok(s: &[u8], t: &[u8; 156], n: usize, at: usize, count: u32) -> boo
     if count == 0 {
         return true;
     }
-    let mask = plan::leaving_mask(s, n);
+    let mask = plan::masks::leaving_mask(s, n);
     let mut last: [u32; 12] = [0; 12];
     let mut slot = at + layout::HELD_SLOTS;
     let mut left = count;
@@ -200,7 +188,7 @@ fn held_ok(s: &[u8], t: &[u8; 156], n: usize, at: usize) -> bool
 
 // A target: the node's time, the parent's time, the parent, three bytes unused.
 fn target_ok(s: &[u8], t: &[u8; 156], steps: u32, n: usize, at: usize) -> bool
-    requires { ⌜ Counted (now s) (now t) steps × (at + 12 ≤ length (now s)) ⌝ }
+    requires { ⌜ Tabled (now s) (now t) steps × (at + 12 ≤ length (now s)) ⌝ }
     ensures { λ r. ⌜ r ≡ (targetExact at (now (s .entry)) && targetRight (lineOf (now (s .entry))) n (targetIn at (now (s .entry)))) ⌝ }
 {
     let time = bytes::get32(s, at);
@@ -213,7 +201,7 @@ fn target_ok(s: &[u8], t: &[u8; 156], steps: u32, n: usize, at: usize) -> bool
 
 // The targets, so many.
 fn target_each_ok(s: &[u8], t: &[u8; 156], steps: u32, n: usize, at: usize, count: u32) -> bool
-    requires { ⌜ PageOf (now s) n at × Counted (now s) (now t) steps × (count ≡ wordAt (pageAt n + targetsAt) (now s)) × (count ≤ targetLimit) ⌝ }
+    requires { ⌜ PageOf (now s) n at × Tabled (now s) (now t) steps × (count ≡ wordAt (pageAt n + targetsAt) (now s)) × (count ≤ targetLimit) ⌝ }
     ensures { λ r. ⌜ r ≡ (slotsExact targetExact targetSize (pageAt n + targetsAt + countSize) count (now (s .entry)) && allOf (targetRight (lineOf (now (s .entry))) n) (nodeAt (lineOf (now (s .entry))) n .targets)) ⌝ }
 {
     let mut slot = at + layout::TARGET_SLOTS;
@@ -230,7 +218,7 @@ fn target_each_ok(s: &[u8], t: &[u8; 156], steps: u32, n: usize, at: usize, coun
 
 // The list of targets: its count, the targets, and zero bytes behind them.
 fn targets_ok(s: &[u8], t: &[u8; 156], steps: u32, n: usize, at: usize) -> bool
-    requires { ⌜ PageOf (now s) n at × Counted (now s) (now t) steps ⌝ }
+    requires { ⌜ PageOf (now s) n at × Tabled (now s) (now t) steps ⌝ }
     ensures { λ r. ⌜ r ≡ (listExact targetExact targetLimit targetSize (pageAt n + targetsAt) (now (s .entry)) && allOf (targetRight (lineOf (now (s .entry))) n) (nodeAt (lineOf (now (s .entry))) n .targets)) ⌝ }
 {
     let count = bytes::get32(s, at + layout::TARGETS);

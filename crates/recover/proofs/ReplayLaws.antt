@@ -8,9 +8,9 @@ use native.Mathlib.Numerals.{add-one}
 use native.Mathlib.Omega.{arith}
 use native.Mathlib.Decide.{decLt}
 use borrow.Author.Tests.{le-leb, lt-leb, eqb-true, eqb-false, ltb-true, ltb-false}
-use lib.Dec.{lit≤, lit<, leb, ltb, eqb}
+use lib.Dec.{leb, ltb, eqb}
 use lib.ListN.{length, getD, take, drop, drop-of-length-le}
-use lib.Seq.{drop-cons, take-take}
+use lib.Seq.{drop-cons}
 use Rattle.basics.specs.Bools.{neither-true}
 use Rattle.plan.specs.Layout.{spelled}
 use Rattle.plan.specs.Plan.{planNodes}
@@ -23,12 +23,13 @@ use Rattle.state.specs.Sizes.{countSize, targetSize, pageAt, targetsAt}
 use Rattle.state.specs.Pieces.{targetLayout}
 use Rattle.state.specs.Right.{wordAt}
 use Rattle.state.specs.State.{lineOf}
-use Rattle.state.proofs.ReadLaws.{part-part, byte-part, target-read}
 use Rattle.state.proofs.OffsetLaws.{line-targets-count, line-target-at}
 use Rattle.items.specs.Items.{replayRight}
 use Rattle.buffer.specs.Ready.{Ready}
 use Rattle.buffer.proofs.ReadyLaws.{counted}
-use Rattle.recover.specs.Found.{target, targetsIn, Found, rowsIn, noTarget, replayFound}
+use Rattle.buffer.proofs.PieceReads.{target-in}
+use Rattle.buffer.specs.Nothing.{noTarget}
+use Rattle.recover.specs.Found.{target, targetsIn, Found, rowsIn, replayFound}
 
 -- ---- a node's own targets
 
@@ -43,12 +44,8 @@ module _ (s : List ℕ) (ready : Ready s) (n : ℕ) (inside : n < planNodes s) w
   pub stored-at : (i at time parent sent : ℕ) → i < targetLimit → i < wordAt (pageAt n + targetsAt) s → at ≡ pageAt n + (targetsAt + countSize + targetSize * i)
       → time ≡ wordAt at s → parent ≡ spelled 0 (take 1 (drop (at + 8) s)) → sent ≡ wordAt (at + 4) s → target time parent sent ≡ getD (nodeAt (lineOf s) n .targets) i noTarget
   stored-at i at time parent sent h k place e f g =
-      let b : List ℕ = take targetSize (drop at s) in
-      let same : wordAt at s ≡ spelled 0 (take 4 b) = ap (spelled 0) (sym (take-take 4 targetSize (drop at s) (lit≤ tt))) in
-      let byte : spelled 0 (take 1 (drop (at + 8) s)) ≡ getD b 8 0 = byte-field (at + 8) s ∙ sym (byte-part 8 targetSize at s (lit< tt)) in
-      let later : wordAt (at + 4) s ≡ spelled 0 (take 4 (drop 4 b)) = ap (spelled 0) (sym (part-part 4 4 targetSize at s (lit≤ tt))) in
-      (λ j. target ((e ∙ same) j) ((f ∙ byte) j) ((g ∙ later) j))
-      ∙ sym (target-read b)
+      (λ j. target (e j) ((f ∙ byte-field (at + 8) s) j) (g j))
+      ∙ sym (target-in at s)
       ∙ ap (λ (a : ℕ). targetLayout .read (take targetSize (drop a s))) place
       ∙ sym (line-target-at s (counted ready) n inside i noTarget k h)
 

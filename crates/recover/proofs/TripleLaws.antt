@@ -6,7 +6,7 @@ use mathlib.Core.List.{List, [], _∷_, _++_, map, append-assoc}
 use native.Mathlib.Numerals.{add-one}
 use native.Mathlib.Omega.{arith}
 use borrow.Author.Tests.{eq-eqb, ne-eqb}
-use lib.Dec.{lit≤, leb, eqb, eqb·zero-suc, eqb·suc-zero, eqb·suc-suc}
+use lib.Dec.{leb, eqb, eqb·zero-suc, eqb·suc-zero, eqb·suc-suc}
 use lib.ListN.{length, getD, take, drop}
 use lib.Seq.{take-suc, take-all}
 use Rattle.plan.specs.declared.Channel.{Channel}
@@ -19,16 +19,16 @@ use Rattle.rules.specs.Line.{Entry, Target, Line, nodeAt}
 use Rattle.rules.specs.Recover.{lowOf, triple, triples, childTriples, restored}
 use Rattle.rules.proofs.lists.ListLaws.{nil-right, keep-append, map-append, map-more}
 use Rattle.state.specs.Sizes.{countSize, entrySize, pageAt, logAt}
-use Rattle.state.specs.Pieces.{originFrom, originLayout, entryLayout}
+use Rattle.state.specs.Pieces.{originFrom, entryLayout}
 use Rattle.state.specs.Right.{wordAt}
 use Rattle.state.specs.State.{lineOf}
-use Rattle.state.proofs.ReadLaws.{part-part, entry-read}
 use Rattle.state.proofs.InPlace.{line-plan}
 use Rattle.state.proofs.OffsetLaws.{line-log-count, line-log-at}
 use Rattle.buffer.specs.Ready.{Ready}
 use Rattle.buffer.proofs.ReadyLaws.{counted}
-use Rattle.recover.specs.Found.{LogsCounted, entryAt, noEntry, tripleOf, childLog, triplesOn, restoredOver}
-use Rattle.buffer.proofs.PieceReads.{origin-in}
+use Rattle.buffer.specs.Nothing.{noEntry}
+use Rattle.recover.specs.Found.{LogsCounted, entryAt, tripleOf, childLog, triplesOn, restoredOver}
+use Rattle.buffer.proofs.PieceReads.{entry-in}
 use Rattle.recover.proofs.ChildLaws.{leavingTo, numbers-turn, leaving-whole, greatest-append}
 
 -- ---- an entry's bytes
@@ -45,10 +45,10 @@ module _ (s : List ℕ) (ready : Ready s) (logs : LogsCounted s) (k : ℕ) (insi
     entry-bytes = line-log-at s (counted ready) k inside i noEntry (omega (arith, log-length)) (omega (arith, log-length, logs k inside))
 
     pub entry-origin : entryAt (lineOf s) k i .origin ≡ originFrom (getD s (at + 12) 0) (wordAt (at + 12 + 1) s)
-    entry-origin = ap (λ (e : Entry). e .origin) (entry-bytes ∙ entry-read (take entrySize (drop at s))) ∙ ap (originLayout .read) (part-part 5 12 entrySize at s (lit≤ tt)) ∙ origin-in (at + 12) s
+    entry-origin = ap (λ (e : Entry). e .origin) (entry-bytes ∙ entry-in at s)
 
     pub entry-before : entryAt (lineOf s) k i .before ≡ originFrom (getD s (at + 17) 0) (wordAt (at + 17 + 1) s)
-    entry-before = ap (λ (e : Entry). e .before) (entry-bytes ∙ entry-read (take entrySize (drop at s))) ∙ ap (originLayout .read) (part-part 5 17 entrySize at s (lit≤ tt)) ∙ origin-in (at + 17) s
+    entry-before = ap (λ (e : Entry). e .before) (entry-bytes ∙ entry-in at s)
 
 -- ---- a triple
 

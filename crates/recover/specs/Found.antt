@@ -7,14 +7,14 @@ use lib.Dec.{leb, ltb, eqb}
 use lib.ListN.{length, getD, set, take, drop}
 use Rattle.plan.specs.Plan.{planOf, planNodes, channelAt, entering}
 use Rattle.rules.specs.Lists.{keep, allOf, greatestOf}
-use Rattle.rules.specs.Line.{logLimit, fed, Entry, Target, Line, nodeAt, senderOf, targetLimit}
+use Rattle.rules.specs.Line.{logLimit, Entry, Target, Line, nodeAt, senderOf, targetLimit}
 use Rattle.rules.specs.Recover.{triple, triples, sameTarget, targetBefore, addTarget, sortTargets, restored, conflict, rowGoal}
 use Rattle.rules.specs.Damaged.{sameTargets}
 use Rattle.state.specs.Sizes.{pageAt, logAt}
 use Rattle.state.specs.Right.{wordAt}
 use Rattle.state.specs.State.{lineOf}
+use Rattle.buffer.specs.Nothing.{noEntry}
 use Rattle.recover.specs.declared.Triple.{Triple}
-use Rattle.recover.specs.declared.Goal.{Goal}
 
 -- Every node's log is within its limit.
 abbrev pub LogsCounted : List ℕ → Type 0
@@ -27,9 +27,6 @@ lowWith counts seen low t = cond counts (cond seen (min low t) t) low
 -- ---- triples
 
 -- What an entry of a node's log says of node n: a triple or nothing.
-abbrev pub noEntry : Entry
-noEntry = record { what = record { piece = 0; material = 0; mass = 0 }; time = 0; origin = fed; before = fed }
-
 abbrev pub entryAt : Line → ℕ → ℕ → Entry
 entryAt l k i = getD (nodeAt l k .log) i noEntry
 
@@ -55,9 +52,6 @@ restoredOver low parent ts = greatestOf (map (λ (t : Target). t .parentTime) (k
 
 abbrev pub target : ℕ → ℕ → ℕ → Target
 target t p u = record { time = t; parent = p; parentTime = u }
-
-abbrev pub goalTarget : Goal → Target
-goalTarget g = target (g .time) (g .parent) (g .sent)
 
 -- The slice's length, and the count that says that there are more targets than a node may have.
 abbrev pub slotsLong : ℕ
@@ -161,9 +155,6 @@ abbrev pub rowsIn : Line → ℕ → List Target → Bool
 rowsIn l n ts = allOf (λ (c : ℕ). rowIn l n ts (senderOf l c)) (entering (l .plan) n)
 
 -- ---- a replaying node
-
-abbrev pub noTarget : Target
-noTarget = target 0 0 0
 
 -- What is left of the test when targets are found, neither none nor too many.
 abbrev pub replayFound : Line → ℕ → ℕ → List Target → Bool

@@ -30,8 +30,8 @@ loop-holds c =
     let a = c .before .before .args in
     record { within = omega arith; few = omega (arith, few-heard (a .s .now) (c .before .before .pre .0 .ready .fits) (a .b) (c .before .before .pre .0 .below)); now = ap (λ (t : ℕ). max t (greatestOf (laneAt (lineOf (a .s .now)) (a .b) .heard))) (line-taken (a .s .now) (counted (c .before .before .pre .0 .ready)) (a .b) (c .before .before .pre .0 .below) ∙ sym (c .get32 .ensures)) }
 
-larger-requires : tie.Need-larger-requires Inv-loop μ-loop
-larger-requires c κs = tt
+greater-requires : tie.Need-greater-requires Inv-loop μ-loop
+greater-requires c κs = tt
 
 loop-again : tie.Need-loop-again Inv-loop μ-loop
 loop-again c =
@@ -44,7 +44,7 @@ loop-again c =
     record {
       within = omega arith;
       few = t .inv .few;
-      now = rw (c .larger .ensures, c .before .get322 .ensures, ← word) (t .inv .now ∙ greatest-more (laneAt (lineOf (a .s .now)) (a .b) .heard) (t .most) (t .i) long);
+      now = rw (c .greater .ensures, c .before .get322 .ensures, ← word) (t .inv .now ∙ greatest-more (laneAt (lineOf (a .s .now)) (a .b) .heard) (t .most) (t .i) long);
     }
 
 returns : tie.Need-returns Inv-loop μ-loop
@@ -69,7 +69,7 @@ most-heard-spec =
     (λ c. omega arith)
     (λ c. omega arith)
     (λ c κs. omega arith)
-    larger-requires
+    greater-requires
     (λ c. omega arith)
     (λ c. omega arith)
     loop-again

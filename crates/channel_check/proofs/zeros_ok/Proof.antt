@@ -11,7 +11,7 @@ returns c =
     let start = c .before .before .before .before in
     let a = start .args in
     let unheard = c .before .before .unheard-zero in
-    rw (← unheard .ensures, c .all-zero .ensures, c .before .wide .ensures) (ap (λ (t : Bool). unheard .result && t) (behind-at (a .s .now) (blockAt (a .b)) (a .count) (start .pre .0 .few)))
+    rw (← unheard .ensures, c .all-zero .ensures, c .before .size .ensures) (ap (λ (t : Bool). unheard .result && t) (behind-at (a .s .now) (blockAt (a .b)) (a .count) (start .pre .0 .few)))
 
 pub zeros-ok-spec : {M : Type 1} → statement M
 zeros-ok-spec =

@@ -7,7 +7,9 @@ use Rattle.rules.specs.Line.{nodeAt}
 use Rattle.state.specs.Sizes.{pageAt, targetsAt}
 use Rattle.state.specs.Right.{wordAt}
 use Rattle.state.specs.State.{lineOf}
-use Rattle.recover.specs.Found.{noTarget, goalTarget, targetsIn}
+use Rattle.buffer.specs.Nothing.{noTarget}
+use Rattle.slots.specs.Slots.{targetIs}
+use Rattle.recover.specs.Found.{targetsIn}
 use Rattle.recover.proofs.TargetLaws.{targets-length, targets-at}
 use Rattle.recover.proofs.ReplayLaws.{stored-count, sizes-differ, Matching, matching-turn, matching-end}
 use Rattle.recover.proofs.same_targets.Statement.{statement}
@@ -55,7 +57,7 @@ loop-again c =
     let p = first .pre in
     let is : a .count ≡ length (nodeAt (lineOf s) (a .n) .targets) =
     stored-count s (p .0) (a .n) (p .1) (p .2) (6928 + 4096 * a .n) (a .count) (omega arith) (sym (asked .if1 .left) ∙ asked .before .size .ensures ∙ asked .before .before .get32 .ensures) in
-    matching-turn (nodeAt (lineOf s) (a .n) .targets) (targetsIn (a .xs .now) (a .count)) (t .ok) (t .i) (goalTarget (c .before .before .stored-goal .result)) (goalTarget (c .before .goal-at .result)) (c .is-same .result)
+    matching-turn (nodeAt (lineOf s) (a .n) .targets) (targetsIn (a .xs .now) (a .count)) (t .ok) (t .i) (targetIs (c .before .before .stored-goal .result)) (targetIs (c .before .goal-at .result)) (c .is-same .result)
     (omega (arith, is)) (rw targets-length (omega arith)) (c .before .before .stored-goal .ensures) (c .before .goal-at .ensures ∙ sym (targets-at (a .xs .now) (a .count) (t .i) noTarget (omega arith))) (c .is-same .ensures) (t .inv)
 
 returns-2 : tie.Need-returns-2 Inv-loop μ-loop

@@ -1,0 +1,2 @@
+-- Laws of what stands in the slots.
+pub mod SlotLaws

@@ -1,0 +1,2 @@
+-- What stands in the slots.
+pub mod Slots

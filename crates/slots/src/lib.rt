@@ -1,0 +1,188 @@
+// What stands in the slots (docs/LAYOUT.md), read and written at an offset: records, what something was made from, messages, log entries, held records and targets.
+ghost use mathlib.Core.Path.{_≡_};
+ghost use Prim.Native.Nat.{_+_, _≤_, _<_};
+ghost use lib.ListN.{length, take, drop};
+ghost use Rattle.basics.specs.Put.{put};
+ghost use Rattle.plan.specs.Record.{recordLayout};
+ghost use Rattle.state.specs.Pieces.{originLayout, messageLayout, entryLayout, heldLayout, targetLayout};
+ghost use Rattle.buffer.specs.Check.{recordIn};
+ghost use Rattle.slots.specs.Slots.{timeOf, originIs, messageIs, entryIs, heldIs, targetIs};
+use buffer::bytes;
+use plan::Record;
+
+// What something was made from: 0 for nothing, else the sender and 1; and the sender's time.
+pub struct Made {
+    pub from: u8,
+    pub time: u32,
+}
+
+// A message on a channel.
+pub struct Sent {
+    pub what: Record,
+    pub time: u32,
+    pub made: Made,
+}
+
+// A log entry.
+pub struct Logged {
+    pub what: Record,
+    pub time: u32,
+    pub made: Made,
+    pub before: Made,
+}
+
+// A held record.
+pub struct Waiting {
+    pub what: Record,
+    pub sender: u8,
+    pub time: u32,
+    pub before: Made,
+}
+
+// A target: the node's time, the parent and the parent's time.
+pub struct Goal {
+    pub time: u32,
+    pub parent: u32,
+    pub sent: u32,
+}
+
+// ---- read
+
+pub fn record_at(s: &[u8], at: usize) -> Record
+    requires { ⌜ at + 8 ≤ length (now s) ⌝ }
+    ensures { λ r. ⌜ r ≡ recordIn at (now (s .entry)) ⌝ }
+{
+    Record {
+        piece: bytes::get32(s, at),
+        material: s[at + 4],
+        mass: bytes::get16(s, at + 6),
+    }
+}
+
+pub fn made_at(s: &[u8], at: usize) -> Made
+    requires { ⌜ at + 5 ≤ length (now s) ⌝ }
+    ensures { λ r. ⌜ originIs r ≡ originLayout .read (take 5 (drop at (now (s .entry)))) ⌝ }
+{
+    Made {
+        from: s[at],
+        time: bytes::get32(s, at + 1),
+    }
+}
+
+pub fn message_at(s: &[u8], at: usize) -> Sent
+    requires { ⌜ at + 20 ≤ length (now s) ⌝ }
+    ensures { λ r. ⌜ messageIs r ≡ messageLayout .read (take 20 (drop at (now (s .entry)))) ⌝ }
+{
+    Sent {
+        what: record_at(s, at),
+        time: bytes::get32(s, at + 8),
+        made: made_at(s, at + 12),
+    }
+}
+
+pub fn entry_at(s: &[u8], at: usize) -> Logged
+    requires { ⌜ at + 24 ≤ length (now s) ⌝ }
+    ensures { λ r. ⌜ entryIs r ≡ entryLayout .read (take 24 (drop at (now (s .entry)))) ⌝ }
+{
+    Logged {
+        what: record_at(s, at),
+        time: bytes::get32(s, at + 8),
+        made: made_at(s, at + 12),
+        before: made_at(s, at + 17),
+    }
+}
+
+pub fn held_at(s: &[u8], at: usize) -> Waiting
+    requires { ⌜ at + 20 ≤ length (now s) ⌝ }
+    ensures { λ r. ⌜ heldIs r ≡ heldLayout .read (take 20 (drop at (now (s .entry)))) ⌝ }
+{
+    Waiting {
+        what: record_at(s, at),
+        sender: s[at + 8],
+        time: bytes::get32(s, at + 9),
+        before: made_at(s, at + 13),
+    }
+}
+
+pub fn target_at(s: &[u8], at: usize) -> Goal
+    requires { ⌜ at + 12 ≤ length (now s) ⌝ }
+    ensures { λ r. ⌜ targetIs r ≡ targetLayout .read (take 12 (drop at (now (s .entry)))) ⌝ }
+{
+    Goal {
+        time: bytes::get32(s, at),
+        parent: bytes::wide32(s[at + 8]),
+        sent: bytes::get32(s, at + 4),
+    }
+}
+
+// ---- written, with the unused bytes of their slots
+
+pub fn put_record(s: &mut [u8], at: usize, r: Record)
+    requires { ⌜ at + 8 ≤ length (now s) ⌝ }
+    ensures { λ _. ⌜ now (s .exit) ≡ put (now (s .entry)) at (recordLayout .write r) ⌝ }
+{
+    bytes::put32(s, at, r.piece);
+    bytes::put8(s, at + 4, r.material);
+    bytes::put8(s, at + 5, 0);
+    bytes::put16(s, at + 6, r.mass);
+}
+
+// The time beside nothing is 0.
+fn time_of(m: Made) -> u32
+    ensures { λ r. ⌜ r ≡ timeOf (m .from) (m .time) ⌝ }
+{
+    if m.from == 0 { 0 } else { m.time }
+}
+
+pub fn put_made(s: &mut [u8], at: usize, m: Made)
+    requires { ⌜ at + 5 ≤ length (now s) ⌝ }
+    ensures { λ _. ⌜ now (s .exit) ≡ put (now (s .entry)) at (originLayout .write (originIs m)) ⌝ }
+{
+    bytes::put8(s, at, m.from);
+    bytes::put32(s, at + 1, time_of(m));
+}
+
+pub fn put_message(s: &mut [u8], at: usize, m: Sent)
+    requires { ⌜ at + 20 ≤ length (now s) ⌝ }
+    ensures { λ _. ⌜ now (s .exit) ≡ put (now (s .entry)) at (messageLayout .write (messageIs m)) ⌝ }
+{
+    put_record(s, at, m.what);
+    bytes::put32(s, at + 8, m.time);
+    put_made(s, at + 12, m.made);
+    bytes::put8(s, at + 17, 0);
+    bytes::put16(s, at + 18, 0);
+}
+
+pub fn put_entry(s: &mut [u8], at: usize, e: Logged)
+    requires { ⌜ at + 24 ≤ length (now s) ⌝ }
+    ensures { λ _. ⌜ now (s .exit) ≡ put (now (s .entry)) at (entryLayout .write (entryIs e)) ⌝ }
+{
+    put_record(s, at, e.what);
+    bytes::put32(s, at + 8, e.time);
+    put_made(s, at + 12, e.made);
+    put_made(s, at + 17, e.before);
+    bytes::put16(s, at + 22, 0);
+}
+
+pub fn put_held(s: &mut [u8], at: usize, h: Waiting)
+    requires { ⌜ at + 20 ≤ length (now s) ⌝ }
+    ensures { λ _. ⌜ now (s .exit) ≡ put (now (s .entry)) at (heldLayout .write (heldIs h)) ⌝ }
+{
+    put_record(s, at, h.what);
+    bytes::put8(s, at + 8, h.sender);
+    bytes::put32(s, at + 9, h.time);
+    put_made(s, at + 13, h.before);
+    bytes::put16(s, at + 18, 0);
+}
+
+// The parent is a node's number.
+pub fn put_target(s: &mut [u8], at: usize, g: Goal)
+    requires { ⌜ (at + 12 ≤ length (now s)) × (g .parent < 256) ⌝ }
+    ensures { λ _. ⌜ now (s .exit) ≡ put (now (s .entry)) at (targetLayout .write (targetIs g)) ⌝ }
+{
+    bytes::put32(s, at, g.time);
+    bytes::put32(s, at + 4, g.sent);
+    bytes::put8(s, at + 8, g.parent as u8);
+    bytes::put8(s, at + 9, 0);
+    bytes::put16(s, at + 10, 0);
+}
