@@ -1,0 +1,11 @@
+use borrow.Author.Needs.{needs}
+use mathlib.Core.Path.{_∙_}
+use Rattle.channel_fields.proofs.LaneReads.{first-read}
+use Rattle.channel_fields.proofs.first_of.Statement.{statement}
+use Rattle.channel_fields.proofs.first_of.Tie as tie
+
+returns : tie.Need-returns
+returns c = let start = c .before .before in c .message-at .ensures ∙ first-read (start .args .s .now) (start .args .b) (start .pre .0) (start .pre .1)
+
+pub first-of-spec : {M : Type 1} → statement M
+first-of-spec = tie.close (tie.spec (λ c. search needs) (λ c. search needs) (λ c. search needs) (λ c κs. search needs) returns)
