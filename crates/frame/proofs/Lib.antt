@@ -1,0 +1,2 @@
+-- Frames: what their bytes give, and their refusals among a step's.
+pub mod FrameLaws

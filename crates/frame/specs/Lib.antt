@@ -1,0 +1,2 @@
+-- What a frame asks.
+pub mod Reading

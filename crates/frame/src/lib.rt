@@ -1,0 +1,137 @@
+// Frames (document 01, "Clocks and steps"): the refusals 9 to 11, and what a frame asks, read once.
+ghost use mathlib.Core.Path.{_≡_};
+ghost use mathlib.Core.Bool.{cond};
+ghost use Prim.Native.Nat.{_+_, _≤_, _<_};
+ghost use lib.Dec.{eqb};
+ghost use lib.ListN.{length, drop};
+ghost use Rattle.plan.specs.Record.{recordFits};
+ghost use Rattle.rules.specs.Frame.{feed, frameNumber, frameOf, badFrameLength, badFrameVersion, badKind};
+ghost use Rattle.frame.specs.Reading.{frameRefusal, Asks};
+use buffer::bytes;
+use buffer::look;
+use plan::Record;
+
+// What a frame asks of a node or a channel, by its kind. A Feed has its record, and whether its bytes are a record's.
+pub enum Frame {
+    Feed {
+        node: usize,
+        what: Record,
+        fits: bool,
+    },
+    Send(usize),
+    Take(usize),
+    Crash(usize),
+    Recover(usize),
+}
+
+// A head: the frame's length, its version, its kind, and the number of a node or a channel.
+const HEAD: usize = 5;
+
+// A Feed has a record behind its head.
+const FEED: usize = 13;
+
+fn size_of(n: u16) -> usize
+    ensures { λ r. ⌜ r ≡ n ⌝ }
+{
+    n as usize
+}
+
+fn kind_of(frame: &[u8]) -> u8
+    requires { ⌜ 5 ≤ length (now frame) ⌝ }
+    ensures { λ r. ⌜ r ≡ frameNumber 2 (now (frame .entry)) ⌝ }
+{
+    bytes::get8(frame, 3)
+}
+
+fn number_of(frame: &[u8]) -> usize
+    requires { ⌜ 5 ≤ length (now frame) ⌝ }
+    ensures { λ r. ⌜ (r ≡ frameNumber 3 (now (frame .entry))) × (r < 256) ⌝ }
+{
+    look::index(bytes::get8(frame, 4))
+}
+
+// 9: shorter than a head, or another length than its length field says.
+fn bad_length(frame: &[u8]) -> bool
+    ensures { λ r. ⌜ r ≡ badFrameLength (now (frame .entry)) ⌝ }
+{
+    if frame.len() < HEAD {
+        return true;
+    }
+    size_of(bytes::get16(frame, 0)) != frame.len()
+}
+
+// 10: the version.
+fn bad_version(frame: &[u8]) -> bool
+    requires { ⌜ 5 ≤ length (now frame) ⌝ }
+    ensures { λ r. ⌜ r ≡ badFrameVersion (now (frame .entry)) ⌝ }
+{
+    bytes::get8(frame, 2) != 1
+}
+
+// The length of a frame of a kind.
+fn kind_size(kind: u8) -> usize
+    ensures { λ r. ⌜ r ≡ cond (eqb kind 1) 13 5 ⌝ }
+{
+    if kind == 1 { FEED } else { HEAD }
+}
+
+// 11: the kind, or another length than the kind's.
+fn bad_kind(frame: &[u8]) -> bool
+    requires { ⌜ 5 ≤ length (now frame) ⌝ }
+    ensures { λ r. ⌜ r ≡ badKind (now (frame .entry)) ⌝ }
+{
+    let kind = kind_of(frame);
+    let size = kind_size(kind);
+    !((1 <= kind) & (kind <= 5) & (frame.len() == size))
+}
+
+// The first of 9 to 11 that applies to a frame, 0 if none does.
+pub fn refusal_of(frame: &[u8]) -> u32
+    ensures { λ r. ⌜ r ≡ frameRefusal (now (frame .entry)) ⌝ }
+{
+    if bad_length(frame) {
+        return 9;
+    }
+    if bad_version(frame) {
+        return 10;
+    }
+    if bad_kind(frame) {
+        return 11;
+    }
+    0
+}
+
+// Whether the eight bytes at a place are a record's: its material, and its zero byte.
+fn record_fits(s: &[u8], at: usize) -> bool
+    requires { ⌜ at + 8 ≤ length (now s) ⌝ }
+    ensures { λ r. ⌜ r ≡ recordFits (drop at (now (s .entry))) ⌝ }
+{
+    (bytes::get8(s, at + 4) <= 15) & (bytes::get8(s, at + 5) == 0)
+}
+
+// A Feed of a node.
+fn feed_of(frame: &[u8], node: usize) -> Frame
+    requires { ⌜ length (now frame) ≡ 13 ⌝ }
+    ensures { λ r. ⌜ Asks r (feed node (drop 5 (now (frame .entry)))) ⌝ }
+{
+    Frame::Feed {
+        node,
+        what: slots::record_at(frame, HEAD),
+        fits: record_fits(frame, HEAD),
+    }
+}
+
+// What a frame asks that is not refused.
+pub fn frame_of(frame: &[u8]) -> Frame
+    requires { ⌜ frameRefusal (now frame) ≡ 0 ⌝ }
+    ensures { λ r. ⌜ Asks r (frameOf (now (frame .entry))) ⌝ }
+{
+    let n = number_of(frame);
+    match kind_of(frame) {
+        1 => feed_of(frame, n),
+        2 => Frame::Send(n),
+        3 => Frame::Take(n),
+        4 => Frame::Crash(n),
+        _ => Frame::Recover(n),
+    }
+}
