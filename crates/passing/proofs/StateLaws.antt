@@ -1,0 +1,44 @@
+-- What an undamaged state gives.
+use Prim.Native.Nat.{ℕ, _≤_, _<_}
+use mathlib.Core.Path.{_≡_}
+use mathlib.Core.Bool.{true}
+use mathlib.Core.List.{List}
+use native.Mathlib.Omega.{arith}
+use Rattle.plan.specs.Plan.{Plan, planOf, planNodes, planChannels, planBytes, ruleAt, channelAt}
+use Rattle.plan.specs.Check.{planFits}
+use Rattle.plan.specs.Narrow.{narrowed}
+use Rattle.plan.proofs.FitsLaws.{fits-accepted}
+use Rattle.plan.proofs.AcceptedLaws.{rule-narrow}
+use Rattle.rules.specs.Line.{stepLimit, nodeAt}
+use Rattle.rules.proofs.undamaged.Undamaged.{undamaged-sound}
+use Rattle.state.specs.State.{lineOf}
+use Rattle.buffer.specs.Ready.{OnChannel}
+use Rattle.buffer.specs.Holds.{AtNode, AtLane, Undamaged}
+use Rattle.buffer.proofs.ReadyLaws.{sender-inside, receiver-inside}
+use Rattle.buffer.proofs.HoldsLaws.{node-inside}
+
+-- The rule that is read in place is the plan's.
+pub rule-same : (p : Plan) → planFits p ≡ true → (n : ℕ) → narrowed (ruleAt p n) ≡ ruleAt p n
+rule-same p fits n = let (z, e) = fits-accepted p fits in rw e at (rule-narrow (planBytes p) z n)
+
+pub at-node : {s : List ℕ} {n : ℕ} → Undamaged s → n < planNodes s → AtNode s n
+at-node u h = record { holds = u .holds; inside = h }
+
+pub at-lane : {s : List ℕ} {b : ℕ} → Undamaged s → b < planChannels s → AtLane s b
+at-lane u h = record { holds = u .holds; below = h }
+
+pub on-channel : {s : List ℕ} {b : ℕ} → AtLane s b → OnChannel s b
+on-channel at = record { ready = at .holds .ready; below = at .below }
+
+-- A channel's ends.
+pub at-sender : {s : List ℕ} {b : ℕ} {n : ℕ} → AtLane s b → n ≡ channelAt (planOf s) b .sender → AtNode s n
+at-sender {s} {b} at e = record { holds = at .holds; inside = rw e (sender-inside s b (on-channel at)) }
+
+pub at-receiver : {s : List ℕ} {b : ℕ} {n : ℕ} → AtLane s b → n ≡ channelAt (planOf s) b .receiver → AtNode s n
+at-receiver {s} {b} at e = record { holds = at .holds; inside = rw e (receiver-inside s b (on-channel at)) }
+
+-- A node's time.
+pub time-within : {s : List ℕ} {n : ℕ} → Undamaged s → n < planNodes s → nodeAt (lineOf s) n .time ≤ stepLimit
+time-within {s} {n} u h =
+    let standing = undamaged-sound (lineOf s) (u .undamaged) .standing in
+    omega (arith, standing .nodes n (node-inside (at-node u h)) .fits .time, standing .steps)

@@ -1,0 +1,2 @@
+-- What Feed, Send and Take go by.
+pub mod Passing

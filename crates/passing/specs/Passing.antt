@@ -1,0 +1,34 @@
+-- What Feed, Send and Take go by.
+use Prim.Native.Nat.{ℕ, _≤_, _<_}
+use mathlib.Core.Path.{_≡_}
+use mathlib.Core.Bool.{false}
+use mathlib.Core.List.{List}
+use mathlib.Core.Option.{Option, none, some}
+use lib.ListN.{length}
+use Rattle.plan.specs.Plan.{planChannels}
+use Rattle.rules.specs.Line as line
+use Rattle.rules.specs.Line.{logLimit, stepLimit, nodeAt, laneAt, receiverOf}
+use Rattle.rules.specs.Step.{endDown, replaying}
+use Rattle.state.specs.State.{lineOf}
+use Rattle.buffer.specs.Holds.{AtNode, Undamaged}
+use Rattle.slots.specs.Slots.{entryIs}
+use Rattle.passing.specs.declared.Next.{Next}
+use Rattle.passing.specs.declared.Next.the-variants.{Entry, Nothing}
+
+abbrev pub nextIs : Next → Option line.Entry
+nextIs (Entry e) = some (entryIs e)
+nextIs Nothing = none
+
+-- A node whose log has space, and whose time can rise.
+pub record Loggable (s : List ℕ) (n : ℕ) : Type 0 where
+  pub at : AtNode s n
+  pub room : length (nodeAt (lineOf s) n .log) < logLimit
+  pub time : nodeAt (lineOf s) n .time ≤ stepLimit
+
+-- A channel with something to take, whose receiver is up.
+pub record Taking (s : List ℕ) (b : ℕ) : Type 0 where
+  pub undamaged : Undamaged s
+  pub below : b < planChannels s
+  pub standing : endDown (lineOf s) b ≡ false
+  pub waiting : 0 < length (laneAt (lineOf s) b .queue)
+  pub live : replaying (lineOf s) (receiverOf (lineOf s) b) ≡ false

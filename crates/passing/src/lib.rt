@@ -1,0 +1,190 @@
+// Feed, Send, and Take of a node that is up, on the state's bytes (document 01, "Clocks and steps", kinds 1 to 3). Nothing is written before the answer is known to be 0.
+ghost use mathlib.Core.Path.{_≡_};
+ghost use mathlib.Core.Bool.{_&&_};
+ghost use mathlib.Core.List.{List};
+ghost use Prim.Native.Nat.{ℕ, _<_};
+ghost use lib.Dec.{ltb};
+ghost use lib.ListN.{length};
+ghost use Rattle.plan.specs.Record.{recordLayout, recordFits};
+ghost use Rattle.plan.specs.Channel.{takes};
+ghost use Rattle.rules.specs.Line.{queueLimit, laneAt};
+ghost use Rattle.rules.specs.Frame as frames;
+ghost use Rattle.rules.specs.Clock.{messageOf, logged, sentOn};
+ghost use Rattle.rules.specs.Step.{endDown, sendable, madeBy};
+ghost use Rattle.state.specs.State.{lineOf};
+ghost use Rattle.buffer.specs.Ready.{Ready, OnChannel};
+ghost use Rattle.buffer.specs.Holds.{AtLane, NodeNow, LaneNow, Undamaged, Did};
+ghost use Rattle.slots.specs.Slots.{originIs, messageIs, entryIs};
+ghost use Rattle.passing.specs.Passing.{nextIs, Loggable, Taking};
+use buffer::Line;
+use buffer::look;
+use plan::Channel;
+use plan::Record;
+use slots::Logged;
+use slots::Made;
+use slots::Sent;
+
+const LOG: usize = Line::LOG_LIMIT as usize;
+
+const QUEUE: usize = Line::QUEUE_LIMIT as usize;
+
+// What a Send finds in the sender's log.
+pub enum Next {
+    Entry(Logged),
+    Nothing,
+}
+
+// Whether an end of a channel is down.
+pub fn end_down(s: &[u8], b: usize) -> bool
+    requires { ⌜ OnChannel (now s) b ⌝ }
+    ensures { λ r. ⌜ r ≡ endDown (lineOf (now (s .entry))) b ⌝ }
+{
+    let sender = look::is_down(s, look::sender_of(s, b));
+    let receiver = look::is_down(s, look::receiver_of(s, b));
+    sender | receiver
+}
+
+// The record that a node makes of another, by its rule.
+pub fn made_by(s: &[u8], n: usize, what: Record) -> Record
+    requires { ⌜ Ready (now s) ⌝ }
+    ensures { λ r. ⌜ r ≡ madeBy (lineOf (now (s .entry))) n what ⌝ }
+{
+    plan::nodes::apply(plan::nodes::node_rule(s, n), what)
+}
+
+// A node's time rises by 1 and the record that it made is logged, with what it was made from.
+fn log_made(s: &mut [u8], n: usize, what: Record, made: Made, before: Made)
+    requires { ⌜ Loggable (now s) n ⌝ }
+    ensures { λ _. ⌜ NodeNow (now (s .entry)) n (logged what (originIs made) (originIs before)) (now (s .exit)) ⌝ }
+{
+    let time = node_fields::time_of(s, n) + 1;
+    node_fields::append_entry(
+        s,
+        n,
+        Logged {
+            what,
+            time,
+            made,
+            before,
+        },
+    );
+    node_fields::set_time(s, n, time);
+}
+
+// "an infeed applies its rule, its time rises by 1, the message is logged"
+pub fn feed(s: &mut [u8], n: usize, what: Record, fits: bool) -> u32
+    requires { ⌜ Undamaged (now s) ⌝ }
+    ensures { λ r. ⌜ ((bytes : List ℕ) → recordLayout .read bytes ≡ what → recordFits bytes ≡ fits → Did (now (s .entry)) (frames.feed n bytes) (now (s .exit)) r) ⌝ }
+{
+    if look::node_count(s) <= n {
+        return 13;
+    }
+    if !look::is_source(s, n) {
+        return 14;
+    }
+    if !fits {
+        return 17;
+    }
+    if LOG <= node_fields::log_count(s, n) {
+        return 21;
+    }
+    let made = made_by(s, n, what);
+    let nothing = Made { from: 0, time: 0 };
+    log_made(s, n, made, nothing, nothing);
+    0
+}
+
+// Whether a log entry is later than a channel's mark and the channel takes it.
+fn goes_on(c: Channel, mark: u32, e: Logged) -> bool
+    ensures { λ r. ⌜ r ≡ (ltb mark (e .time) && takes c (e .what)) ⌝ }
+{
+    if e.time <= mark {
+        return false;
+    }
+    plan::channels::channel_takes(c, e.what)
+}
+
+// "the first logged message later than the belt's mark that the belt takes"
+fn next_of(s: &[u8], b: usize) -> Next
+    requires { ⌜ AtLane (now s) b ⌝ }
+    ensures { λ r. ⌜ nextIs r ≡ sendable (lineOf (now (s .entry))) b ⌝ }
+{
+    let c = plan::channels::channel_at(s, b);
+    let n = look::index(c.sender);
+    let mark = channel_fields::mark_of(s, b);
+    let count = node_fields::log_count(s, n);
+    let mut i: usize = 0;
+    while i < count {
+        let e = node_fields::entry_of(s, n, i);
+        if goes_on(c, mark, e) {
+            return Next::Entry(e);
+        }
+        i += 1;
+    }
+    Next::Nothing
+}
+
+// A log entry as a message.
+fn message_of(e: Logged) -> Sent
+    ensures { λ r. ⌜ messageIs r ≡ messageOf (entryIs e) ⌝ }
+{
+    let what = e.what;
+    let made = e.made;
+    Sent {
+        what,
+        time: e.time,
+        made,
+    }
+}
+
+// A log entry "goes on the belt; the mark becomes its time".
+fn put_on(s: &mut [u8], b: usize, e: Logged)
+    requires { ⌜ AtLane (now s) b × (length (laneAt (lineOf (now s)) b .queue) < queueLimit) ⌝ }
+    ensures { λ _. ⌜ LaneNow (now (s .entry)) b (sentOn (entryIs e)) (now (s .exit)) ⌝ }
+{
+    let m = message_of(e);
+    channel_fields::push_message(s, b, m);
+    channel_fields::set_mark(s, b, e.time);
+}
+
+pub fn send(s: &mut [u8], b: usize) -> u32
+    requires { ⌜ Undamaged (now s) ⌝ }
+    ensures { λ r. ⌜ Did (now (s .entry)) (frames.send b) (now (s .exit)) r ⌝ }
+{
+    if look::channel_count(s) <= b {
+        return 13;
+    }
+    if end_down(s, b) {
+        return 15;
+    }
+    let next = next_of(s, b);
+    let Next::Entry(e) = next else {
+        return 18;
+    };
+    if QUEUE <= channel_fields::queue_count(s, b) {
+        return 19;
+    }
+    put_on(s, b, e);
+    0
+}
+
+// "the receiver removes the belt's first message, raises its clock by it, applies its rule, raises its time by 1 and logs": of a receiver that is up, where there is something to take.
+pub fn take_up(s: &mut [u8], b: usize) -> u32
+    requires { ⌜ Taking (now s) b ⌝ }
+    ensures { λ r. ⌜ Did (now (s .entry)) (frames.take b) (now (s .exit)) r ⌝ }
+{
+    let c = plan::channels::channel_at(s, b);
+    let n = look::index(c.receiver);
+    if LOG <= node_fields::log_count(s, n) {
+        return 21;
+    }
+    let m = channel_fields::first_of(s, b);
+    channel_fields::take_first(s, b, m);
+    let what = made_by(s, n, m.what);
+    let made = Made {
+        from: c.sender + 1,
+        time: m.time,
+    };
+    log_made(s, n, what, made, m.made);
+    0
+}

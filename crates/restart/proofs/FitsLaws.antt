@@ -1,0 +1,23 @@
+-- What a line that fits the layout gives: its order, its shape, and its lanes with nothing on them.
+use Prim.Native.Nat.{ℕ, _<_}
+use mathlib.Core.Path.{_≡_, ap}
+use mathlib.Core.List.{[]}
+use lib.ListN.{length, replicate}
+use Rattle.plan.specs.Plan.{channelAt, channelCount}
+use Rattle.rules.specs.Line.{Line, laneAt, freshLane}
+use Rattle.rules.proofs.invariant.Inv.{Shape, Ordered}
+use Rattle.rules.proofs.undamaged.Undamaged.{ordered-fit}
+use Rattle.state.specs.Fits.{LineFits}
+use Rattle.state.specs.Lane.{heardCount}
+
+module _ (l : Line) (fits : LineFits l) where
+  pub ordered-of : Ordered (l .plan)
+  ordered-of = ordered-fit (l .plan) (fits .plan)
+
+  pub shape-of : Shape l
+  shape-of = record { nodes-long = fits .nodes; lanes-long = fits .lanes }
+
+  -- What is heard on a channel, all 0.
+  pub heard-fresh : (c t : ℕ) → c < channelCount (l .plan) → record { mark = t; taken = t; heard = replicate (length (laneAt l c .heard)) 0; queue = [] } ≡ freshLane (l .plan) (channelAt (l .plan) c) t
+  unfolding freshLane heardCount
+  heard-fresh c t h = ap (λ (k : ℕ). record { mark = t; taken = t; heard = replicate k 0; queue = [] }) (fits .heard c h)

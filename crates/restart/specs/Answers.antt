@@ -1,0 +1,33 @@
+-- The numbers that Crash and Recover answer where steps are left, 0 for none.
+use Prim.Native.Nat.{ℕ}
+use mathlib.Core.Bool.{Bool, true, false, not, _&&_, _||_}
+use mathlib.Core.List.{List}
+use lib.Dec.{leb, eqb}
+use Rattle.plan.specs.Plan.{nodeCount, isSource, isSink}
+use Rattle.rules.specs.Lists.{isEmpty}
+use Rattle.rules.specs.Line.{Target, Line, nodeAt, senderOf, receiverOf}
+use Rattle.rules.specs.Recover.{conflict}
+use Rattle.rules.specs.Step.{nodeDown, neighbourCrashed}
+use Rattle.recover.specs.Found.{rowsIn}
+
+-- The first of some numbers whose test holds.
+abbrev pub firstOf : Bool → ℕ → ℕ → ℕ
+firstOf t n rest = elim t [ true ↦ n | false ↦ rest ]
+
+abbrev pub isEnd : Line → ℕ → Bool
+isEnd l n = isSource (l .plan) n || isSink (l .plan) n
+
+abbrev pub crashAnswer : Line → ℕ → ℕ
+crashAnswer l n = firstOf (leb (nodeCount (l .plan)) n) 13 (firstOf (isEnd l n) 14 (firstOf (nodeDown l n) 15 (firstOf (neighbourCrashed l n) 16 0)))
+
+-- Of 13 to 15, by the node alone.
+abbrev pub recoverAsked : Line → ℕ → ℕ
+recoverAsked l n = firstOf (leb (nodeCount (l .plan)) n) 13 (firstOf (isEnd l n) 14 (firstOf (not (nodeDown l n)) 15 0))
+
+-- Targets that conflict, or all of whose rows are complete at once: nothing is held then, and no target is.
+abbrev pub noOutcome : Line → ℕ → List Target → Bool
+noOutcome l n ts = not (isEmpty ts) && (conflict ts || rowsIn l n ts)
+
+-- Whether channel b joins a node to one that bears a crash mark.
+abbrev pub besideOn : Line → ℕ → ℕ → Bool
+besideOn l n b = (eqb (receiverOf l b) n && nodeAt l (senderOf l b) .crashed) || (eqb (senderOf l b) n && nodeAt l (receiverOf l b) .crashed)
