@@ -1,0 +1,137 @@
+-- What a Take of a replaying node leaves, write by write.
+use Prim.Native.Nat.{ℕ, zero, suc, _+_, _≤_, _<_}
+use mathlib.Core.Path.{_≡_, refl, sym, ap, subst, _∙_}
+use mathlib.Core.Bool.{Bool, true, false}
+use mathlib.Core.List.{List, [], _∷_, _++_}
+use native.Mathlib.Numerals.{add-one}
+use native.Mathlib.Omega.{arith}
+use lib.ListN.{length, getD, length-append}
+use Rattle.rules.specs.Line.{logLimit, Message, Entry, Held, up, Node, Line, nodeAt, laneAt, withNode, withLane}
+use Rattle.rules.specs.Recover.{highOf}
+use Rattle.rules.specs.Replay.{entryAt}
+use Rattle.rules.specs.Step.{takenLane}
+use Rattle.state.specs.Changes.{withStatus, withTime, withLog, withHeld, withTargets, moreLogged, moreHeld}
+use Rattle.state.specs.State.{lineOf}
+use Rattle.buffer.specs.Nothing.{noHeld}
+use Rattle.buffer.specs.Holds.{Holds, AtNode, NodeNow}
+use Rattle.buffer.proofs.HoldsLaws.{Onward, onward, onward-node, node-onward, node-after, node-then, node-same}
+use Rattle.replay_table.specs.Ends.{entryFrom, loggedFrom}
+use Rattle.replay.specs.After.{First, takenNow, heldMore, endedNode, Loggable}
+
+pub first-some : (l : Line) (b : ℕ) (m : Message) → First l b m → 0 < length (laneAt l b .queue)
+first-some l b m e = subst (λ (q : List Message). 0 < length q) (sym e) (omega arith)
+
+-- ---- the message taken
+
+module _ {s t : List ℕ} (at : Holds s (lineOf s)) (b : ℕ) (m : Message) (now : Holds t (takenNow (lineOf s) b m)) where
+  pub taken-onward : Onward s t
+  unfolding takenLane withLane
+  taken-onward = onward at now refl
+
+  pub taken-node : (n : ℕ) → nodeAt (lineOf t) n ≡ nodeAt (lineOf s) n
+  unfolding takenLane withLane
+  taken-node n = ap (λ (l : Line). nodeAt l n) (now .same)
+
+  -- One more is held then, or none.
+  pub held-now : (n : ℕ) (goes : Bool) (h : Held) {u : List ℕ} → goes ≡ true → NodeNow t n (moreHeld h) u → Holds u (heldMore n goes h (takenNow (lineOf s) b m))
+  held-now n goes h {u} e more = subst (λ (g : Bool). Holds u (heldMore n g h (takenNow (lineOf s) b m))) (sym e) (subst (λ (l : Line). Holds u (withNode n (moreHeld h (nodeAt l n)) l)) (now .same) more)
+
+  pub dropped-now : (n : ℕ) (goes : Bool) (h : Held) → goes ≡ false → Holds t (heldMore n goes h (takenNow (lineOf s) b m))
+  dropped-now n goes h e = subst (λ (g : Bool). Holds t (heldMore n g h (takenNow (lineOf s) b m))) (sym e) now
+
+  -- The node changed then.
+  pub node-now : (n : ℕ) (f : Node → Node) {u : List ℕ} → NodeNow t n f u → Holds u (withNode n (f (nodeAt (lineOf s) n)) (takenNow (lineOf s) b m))
+  node-now n f {u} more = subst (Holds u) (ap (λ (x : Node). withNode n (f x) (lineOf t)) (taken-node n) ∙ ap (withNode n (f (nodeAt (lineOf s) n))) (now .same)) more
+
+-- ---- the log, entry by entry
+
+logged-long : (hs : List Held) (out : List ℕ) (j : ℕ) → length (loggedFrom hs out j) ≡ j
+logged-long hs out zero = refl
+logged-long hs out (suc j) = length-append (loggedFrom hs out j) (entryFrom hs out j ∷ []) ∙ (let e = logged-long hs out j in omega arith)
+
+-- So many entries are written.
+pub record LoggedTo (s₀ : List ℕ) (n : ℕ) (last : Held) (out : List ℕ) (count : ℕ) (s : List ℕ) (j : ℕ) : Type 0 where
+  pub within : j ≤ count
+  pub now : NodeNow s₀ n (withLog (loggedFrom (nodeAt (lineOf s₀) n .held ++ last ∷ []) out j)) s
+
+module _ (s₀ : List ℕ) (n : ℕ) (last : Held) (out : List ℕ) (count : ℕ) (at : AtNode s₀ n) (ok : Loggable (lineOf s₀) n last out count) where
+  abbrev x : Node
+  x = nodeAt (lineOf s₀) n
+
+  abbrev hs : List Held
+  hs = nodeAt (lineOf s₀) n .held ++ last ∷ []
+
+  pub logged-start : LoggedTo s₀ n last out count s₀ 0
+  logged-start = record {
+    within = omega arith;
+    now = subst (Holds s₀) (sym (ap (λ (es : List Entry). withNode n (withLog es x) (lineOf s₀)) (sym (ok .empty)) ∙ node-same n (lineOf s₀))) (at .holds);
+  }
+
+  module _ (s : List ℕ) (j : ℕ) (so-far : LoggedTo s₀ n last out count s j) where
+    pub logged-at : AtNode s n
+    logged-at = onward-node (node-onward at (withLog (loggedFrom hs out j) x) (so-far .now)) at
+
+    there : nodeAt (lineOf s) n ≡ withLog (loggedFrom hs out j) x
+    there = node-after at (withLog (loggedFrom hs out j) x) (so-far .now)
+
+    pub logged-held : nodeAt (lineOf s) n .held ≡ nodeAt (lineOf s₀) n .held
+    logged-held = ap (λ (y : Node). y .held) there
+
+    pub logged-few : j < count → length (nodeAt (lineOf s) n .log) < logLimit
+    logged-few h = rw (ap (λ (y : Node). length (y .log)) there ∙ logged-long hs out j) (omega (arith, ok .few))
+
+    pub logged-number : j < count → getD out j 0 ≤ length (nodeAt (lineOf s) n .held)
+    logged-number h = rw logged-held (ok .numbers j h)
+
+    pub logged-senders : (i : ℕ) → i < length (nodeAt (lineOf s) n .held) → getD (nodeAt (lineOf s) n .held) i noHeld .sender < 255
+    logged-senders = subst (λ (ys : List Held). (i : ℕ) → i < length ys → getD ys i noHeld .sender < 255) (sym logged-held) (ok .senders)
+
+    pub logged-turn : (e : Entry) (t : List ℕ) → j < count → e ≡ entryAt (getD out (logLimit + j) 0) (getD (nodeAt (lineOf s) n .held ++ last ∷ []) (getD out j 0) noHeld) → NodeNow s n (moreLogged e) t
+        → LoggedTo s₀ n last out count t (j + 1)
+    logged-turn e t h q more =
+        let right : e ≡ entryFrom hs out j = q ∙ ap (λ (ys : List Held). entryAt (getD out (logLimit + j) 0) (getD (ys ++ last ∷ []) (getD out j 0) noHeld)) logged-held in
+        record {
+          within = omega arith;
+          now = subst (λ (es : List Entry). Holds t (withNode n (withLog es x) (lineOf s₀))) (ap (λ (d : Entry). loggedFrom hs out j ++ d ∷ []) right ∙ ap (loggedFrom hs out) (sym (add-one j)))
+              (node-then (withLog (loggedFrom hs out j)) (moreLogged e) at (so-far .now) more);
+        }
+
+-- ---- the end
+
+-- What a changed node's state is there.
+pub on : {s t : List ℕ} {n : ℕ} (f : Node → Node) → AtNode s n → NodeNow s n f t → AtNode t n
+on {s} {n = n} f at now = onward-node (node-onward at (f (nodeAt (lineOf s) n)) now) at
+
+pub loggable-same : (l k : Line) (n : ℕ) (last : Held) (out : List ℕ) (count : ℕ) → nodeAt k n ≡ nodeAt l n → Loggable l n last out count → Loggable k n last out count
+loggable-same l k n last out count e ok = record {
+  empty = ap (λ (y : Node). y .log) e ∙ ok .empty;
+  few = ok .few;
+  long = ok .long;
+  numbers = λ j h. rw (ap (λ (y : Node). y .held) e) (ok .numbers j h);
+  senders = subst (λ (y : Node). (i : ℕ) → i < length (y .held) → getD (y .held) i noHeld .sender < 255) (sym e) (ok .senders);
+  lastSender = ok .lastSender;
+}
+
+module _ {s t : List ℕ} {n : ℕ} (at : AtNode s n) (b : ℕ) (m : Message) (now : Holds t (takenNow (lineOf s) b m)) where
+  pub at-taken : AtNode t n
+  at-taken = onward-node (taken-onward (at .holds) b m now) at
+
+  pub end-now : (last : Held) (out : List ℕ) (count high : ℕ) {u v w x y : List ℕ} → NodeNow t n (withLog (loggedFrom (nodeAt (lineOf t) n .held ++ last ∷ []) out count)) u → NodeNow u n (withHeld []) v
+      → NodeNow v n (withTargets []) w → NodeNow w n (withTime high) x → NodeNow x n (withStatus up) y → high ≡ highOf (lineOf s) n
+      → Holds y (withNode n (endedNode (lineOf s) n (loggedFrom (nodeAt (lineOf s) n .held ++ last ∷ []) out count)) (takenNow (lineOf s) b m))
+  end-now last out count high {u} {v} {w} {x} {y} logged held targets timed status e =
+      let log : Node → Node = withLog (loggedFrom (nodeAt (lineOf t) n .held ++ last ∷ []) out count) in
+      let all : NodeNow t n (λ (z : Node). withStatus up (withTime high (withTargets [] (withHeld [] (log z))))) y =
+      node-then {s = t} {t = x} {u = y} (λ (z : Node). withTime high (withTargets [] (withHeld [] (log z)))) (withStatus up) at-taken
+      (node-then {s = t} {t = w} {u = x} (λ (z : Node). withTargets [] (withHeld [] (log z))) (withTime high) at-taken
+      (node-then {s = t} {t = v} {u = w} (λ (z : Node). withHeld [] (log z)) (withTargets []) at-taken (node-then {s = t} {t = u} {u = v} log (withHeld []) at-taken logged held) targets) timed) status in
+      subst (Holds y)
+      (λ i. withNode n (record {
+        status = up;
+        crashed = nodeAt (lineOf s) n .crashed;
+        time = e i;
+        log = loggedFrom (taken-node (at .holds) b m now n i .held ++ last ∷ []) out count;
+        held = [];
+        targets = [];
+      }) (takenNow (lineOf s) b m))
+      (node-now (at .holds) b m now n (λ (z : Node). withStatus up (withTime high (withTargets [] (withHeld [] (log z))))) all)

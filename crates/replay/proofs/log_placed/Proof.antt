@@ -1,0 +1,90 @@
+use Prim.Native.Nat.{ℕ, _+_, _-_}
+use mathlib.Core.Path.{_≡_, ap, subst, _∙_}
+use mathlib.Core.List.{[], _∷_, _++_}
+use native.Mathlib.Omega.{arith}
+use lib.ListN.{getD}
+use Rattle.rules.specs.Line.{logLimit, Entry, nodeAt, withNode}
+use Rattle.rules.specs.Replay.{entryAt}
+use Rattle.state.specs.Changes.{withLog}
+use Rattle.state.specs.State.{lineOf}
+use Rattle.buffer.specs.Nothing.{noHeld}
+use Rattle.buffer.specs.Holds.{Holds}
+use Rattle.slots.specs.Slots.{heldIs, entryIs}
+use Rattle.replay_table.specs.Ends.{loggedFrom}
+use Rattle.replay.proofs.LeftLaws.{LoggedTo, logged-start, logged-at, logged-few, logged-number, logged-senders, logged-turn}
+use Rattle.replay.proofs.log_placed.Statement.{statement}
+use Rattle.replay.proofs.log_placed.Tie as tie
+
+abbrev Inv-loop : tie.InvT-loop
+Inv-loop s₀ n last out count j₀ s j = LoggedTo s₀ n (heldIs last) out count s j
+
+abbrev μ-loop : tie.MeasureT-loop
+μ-loop s₀ n last out count j₀ s j = count - j
+
+loop-holds : tie.Need-loop-holds Inv-loop μ-loop
+loop-holds c =
+    let start = c .before in
+    let a = start .args in
+    logged-start (a .s .now) (a .n) (heldIs (a .last)) (a .out .now) (a .count) (start .pre .0) (start .pre .1)
+
+entry-for-requires : tie.Need-entry-for-requires Inv-loop μ-loop
+entry-for-requires c κs =
+    let t = c .before .before .before .before .before .loop in
+    let start = c .before .before .before .before .before .before .before in
+    let a = start .args in (
+      logged-at (a .s .now) (a .n) (heldIs (a .last)) (a .out .now) (a .count) (start .pre .0) (start .pre .1) (t .s) (t .j) (t .inv),
+      omega (arith, c .before .size .ensures, logged-number (a .s .now) (a .n) (heldIs (a .last)) (a .out .now) (a .count) (start .pre .0) (start .pre .1) (t .s) (t .j) (t .inv) (omega arith)),
+      start .pre .1 .lastSender,
+      logged-senders (a .s .now) (a .n) (heldIs (a .last)) (a .out .now) (a .count) (start .pre .0) (start .pre .1) (t .s) (t .j) (t .inv),
+    )
+
+append-entry-requires : tie.Need-append-entry-requires Inv-loop μ-loop
+append-entry-requires c κs =
+    let t = c .before .before .before .before .before .before .before .loop in
+    let start = c .before .before .before .before .before .before .before .before .before in
+    let a = start .args in (
+      logged-at (a .s .now) (a .n) (heldIs (a .last)) (a .out .now) (a .count) (start .pre .0) (start .pre .1) (t .s) (t .j) (t .inv),
+      logged-few (a .s .now) (a .n) (heldIs (a .last)) (a .out .now) (a .count) (start .pre .0) (start .pre .1) (t .s) (t .j) (t .inv) (omega arith),
+    )
+
+loop-again : tie.Need-loop-again Inv-loop μ-loop
+loop-again c =
+    let more = c .before .before in
+    let made = more .before .before in
+    let turn = made .before .before .before .before .before .before in
+    let t = turn .loop in
+    let start = turn .before .before in
+    let a = start .args in
+    let entry : ℕ → Entry = λ k. entryAt (getD (a .out .now) (logLimit + t .j) 0) (getD (nodeAt (lineOf (t .s)) (a .n) .held ++ heldIs (a .last) ∷ []) k noHeld) in
+    logged-turn (a .s .now) (a .n) (heldIs (a .last)) (a .out .now) (a .count) (start .pre .0) (start .pre .1) (t .s) (t .j) (t .inv) (entryIs (made .entry-for .result)) (more .append-entry .last .0) (omega (arith, made .before .before .before .before .before .loop-test .taken))
+    (made .entry-for .ensures ∙ ap entry (made .before .before .size .ensures)) (more .append-entry .ensures)
+
+returns : tie.Need-returns Inv-loop μ-loop
+returns c =
+    let t = c .before .loop in
+    let start = c .before .before .before in
+    let a = start .args in
+    let x = nodeAt (lineOf (a .s .now)) (a .n) in
+    let all : t .j ≡ a .count = omega (arith, t .inv .within) in
+    subst (λ (k : ℕ). Holds (t .s) (withNode (a .n) (withLog (loggedFrom (x .held ++ heldIs (a .last) ∷ []) (a .out .now) k) x) (lineOf (a .s .now)))) all (t .inv .now)
+
+pub log-placed-spec : {M : Type 1} → statement M
+log-placed-spec =
+    tie.close
+    (tie.spec
+    Inv-loop
+    μ-loop
+    loop-holds
+    (λ c. omega arith)
+    (λ c. omega (arith, c .before .before .before .before .pre .1 .few, c .before .before .before .before .pre .1 .long))
+    (λ c κs. tt)
+    (λ c. omega (arith, c .before .before .before .before .before .before .pre .1 .few))
+    (λ c. omega (arith, c .before .before .before .before .before .before .pre .1 .few))
+    (λ c. omega (arith, c .before .before .before .before .before .before .pre .1 .few, c .before .before .before .before .before .before .pre .1 .long))
+    entry-for-requires
+    append-entry-requires
+    (λ c. omega arith)
+    (λ c. omega arith)
+    loop-again
+    (λ c. omega (arith, c .before .loop .inv .now .ready .long, c .before .before .before .pre .0 .holds .ready .long))
+    returns)

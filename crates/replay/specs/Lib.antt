@@ -1,0 +1,2 @@
+-- The rows of a replaying node.
+pub mod After

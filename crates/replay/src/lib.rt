@@ -1,0 +1,212 @@
+// A Take of a node that replays (document 01, "While B replays"): the record is held or dropped, and the replay ends with the last row.
+ghost use mathlib.Core.Path.{_≡_};
+ghost use mathlib.Core.Bool.{true, false, cond, not, _||_};
+ghost use mathlib.Core.List.{[], _∷_, _++_};
+ghost use Prim.Native.Nat.{ℕ, _≤_, _<_, max};
+ghost use lib.Dec.{eqb};
+ghost use lib.ListN.{length, getD};
+ghost use Rattle.plan.specs.Plan.{planChannels};
+ghost use Rattle.rules.specs.Line.{heldLimit, nodeAt, laneAt, receiverOf, withNode};
+ghost use Rattle.rules.specs.Frame.{take};
+ghost use Rattle.rules.specs.Recover.{rowGoal};
+ghost use Rattle.rules.specs.Replay.{passedOn, entryAt};
+ghost use Rattle.rules.specs.Step.{replaying, endDown};
+ghost use Rattle.state.specs.Changes.{withLog};
+ghost use Rattle.state.specs.State.{lineOf};
+ghost use Rattle.buffer.specs.Nothing.{noHeld};
+ghost use Rattle.buffer.specs.Holds.{Holds, AtNode, NodeNow, Undamaged, Did};
+ghost use Rattle.slots.specs.Slots.{messageIs, entryIs, heldIs};
+ghost use Rattle.replay_table.specs.Ends.{loggedFrom};
+ghost use Rattle.replay.specs.After.{rowAfter, rowsAfter, wouldHold, First, takenNow, heldMore, endedNode, Loggable};
+use buffer::Line;
+use buffer::bytes;
+use buffer::look;
+use plan::Record;
+use slots::Goal;
+use slots::Logged;
+use slots::Made;
+use slots::Sent;
+use slots::Waiting;
+
+const HELD_LIMIT: usize = Line::HELD_LIMIT as usize;
+
+const LOG_LIMIT: usize = Line::LOG_LIMIT as usize;
+
+// ---- rows
+
+fn goal_with(g: Goal, parent: usize, goal: u32) -> u32
+    ensures { λ r. ⌜ r ≡ cond (eqb (g .parent) parent) (max (g .sent) goal) goal ⌝ }
+{
+    if bytes::size(g.parent) != parent {
+        return goal;
+    }
+    bytes::greater(g.sent, goal)
+}
+
+// "the greatest A-time of its targets", 0 if the parent has none.
+fn goal_of(s: &[u8], n: usize, parent: usize) -> u32
+    requires { ⌜ AtNode (now s) n ⌝ }
+    ensures { λ r. ⌜ r ≡ rowGoal (nodeAt (lineOf (now (s .entry))) n .targets) parent ⌝ }
+{
+    let mut goal: u32 = 0;
+    let mut left = node_fields::target_count(s, n);
+    while 0 < left {
+        left -= 1;
+        goal = goal_with(node_fields::target_of(s, n, left), parent, goal);
+    }
+    goal
+}
+
+// Whether channel c's row is complete once a message of a time is taken from channel b, if c enters the node.
+fn row_after(s: &[u8], n: usize, b: usize, time: u32, c: usize) -> bool
+    requires { ⌜ AtNode (now s) n × (c < planChannels (now s)) ⌝ }
+    ensures { λ r. ⌜ r ≡ (not (eqb (receiverOf (lineOf (now (s .entry))) c) n) || rowAfter (lineOf (now (s .entry))) n b time c) ⌝ }
+{
+    if look::receiver_of(s, c) != n {
+        return true;
+    }
+    let goal = goal_of(s, n, look::sender_of(s, c));
+    let taken = channel_fields::taken_of(s, c);
+    if c != b {
+        return goal <= taken;
+    }
+    goal <= bytes::greater(taken, time)
+}
+
+// Whether all rows are complete then.
+fn rows_after(s: &[u8], n: usize, b: usize, time: u32) -> bool
+    requires { ⌜ AtNode (now s) n ⌝ }
+    ensures { λ r. ⌜ r ≡ rowsAfter (lineOf (now (s .entry))) n b time ⌝ }
+{
+    let m = look::channel_count(s);
+    let mut ok = true;
+    let mut c: usize = 0;
+    while c < m {
+        ok = ok & row_after(s, n, b, time, c);
+        c += 1;
+    }
+    ok
+}
+
+// ---- the record
+
+// Whether some channel that leaves the node takes a record: those that do form a mask, and its ones count them.
+fn goes_on(s: &[u8], n: usize, what: Record) -> bool
+    requires { ⌜ AtNode (now s) n ⌝ }
+    ensures { λ r. ⌜ r ≡ passedOn (lineOf (now (s .entry)) .plan) n what ⌝ }
+{
+    plan::masks::mask_count(plan::masks::taking_mask(s, n, what)) != 0
+}
+
+// The first message of channel b as its receiver n would hold it.
+fn waiting_of(s: &[u8], n: usize, b: usize, m: Sent) -> Waiting
+    requires { ⌜ AtNode (now s) n × (b < planChannels (now s)) × (n ≡ receiverOf (lineOf (now s)) b) ⌝ }
+    ensures { λ r. ⌜ heldIs r ≡ wouldHold (lineOf (now (s .entry))) b (messageIs m) ⌝ }
+{
+    let c = plan::channels::channel_at(s, b);
+    let before = m.made;
+    Waiting {
+        what: passing::made_by(s, n, m.what),
+        sender: c.sender,
+        time: m.time,
+        before,
+    }
+}
+
+// ---- what is left
+
+// The message is taken, and held if some channel takes its record.
+fn hold(s: &mut [u8], n: usize, b: usize, m: Sent, goes: bool, last: Waiting)
+    requires { ⌜ AtNode (now s) n × (b < planChannels (now s)) × First (lineOf (now s)) b (messageIs m) × (goes ≡ true → length (nodeAt (lineOf (now s)) n .held) < heldLimit) ⌝ }
+    ensures { λ _. ⌜ Holds (now (s .exit)) (heldMore n goes (heldIs last) (takenNow (lineOf (now (s .entry))) b (messageIs m))) ⌝ }
+{
+    channel_fields::take_first(s, b, m);
+    if goes {
+        node_fields::append_held(s, n, last);
+    }
+}
+
+// A held record as it is logged in a column.
+fn logged(h: Waiting, column: u32) -> Logged
+    requires { ⌜ h .sender < 255 ⌝ }
+    ensures { λ r. ⌜ entryIs r ≡ entryAt column (heldIs h) ⌝ }
+{
+    let what = h.what;
+    let before = h.before;
+    Logged {
+        what,
+        time: column,
+        made: Made {
+            from: h.sender + 1,
+            time: h.time,
+        },
+        before,
+    }
+}
+
+// The held record of a number, `last` behind those that are stored, as it is logged in a column.
+fn entry_for(s: &[u8], n: usize, last: Waiting, number: usize, column: u32) -> Logged
+    requires { ⌜ AtNode (now s) n × (number ≤ length (nodeAt (lineOf (now s)) n .held)) × (last .sender < 255) × ((i : ℕ) → i < length (nodeAt (lineOf (now s)) n .held) → getD (nodeAt (lineOf (now s)) n .held) i noHeld .sender < 255) ⌝ }
+    ensures { λ r. ⌜ entryIs r ≡ entryAt column (getD (nodeAt (lineOf (now (s .entry))) n .held ++ heldIs last ∷ []) number noHeld) ⌝ }
+{
+    if number < node_fields::held_count(s, n) {
+        return logged(node_fields::held_of(s, n, number), column);
+    }
+    logged(last, column)
+}
+
+// The log of a replay's end, entry by entry.
+fn log_placed(s: &mut [u8], n: usize, last: Waiting, out: &[u32; 128], count: usize)
+    requires { ⌜ AtNode (now s) n × Loggable (lineOf (now s)) n (heldIs last) (now out) count ⌝ }
+    ensures { λ _. ⌜ NodeNow (now (s .entry)) n (withLog (loggedFrom (nodeAt (lineOf (now (s .entry))) n .held ++ heldIs last ∷ []) (now (out .entry)) count)) (now (s .exit)) ⌝ }
+{
+    let mut j: usize = 0;
+    while j < count {
+        let e = entry_for(s, n, last, bytes::size(out[j]), out[LOG_LIMIT + j]);
+        node_fields::append_entry(s, n, e);
+        j += 1;
+    }
+}
+
+// "held records are placed, logged in order of column as their times, B's time becomes high, and B is up, targets and held list emptied"
+fn end(s: &mut [u8], n: usize, b: usize, m: Sent, last: Waiting, out: &[u32; 128], count: usize)
+    requires { ⌜ AtNode (now s) n × (b < planChannels (now s)) × First (lineOf (now s)) b (messageIs m) × Loggable (lineOf (now s)) n (heldIs last) (now out) count ⌝ }
+    ensures { λ _. ⌜ Holds (now (s .exit)) (withNode n (endedNode (lineOf (now (s .entry))) n (loggedFrom (nodeAt (lineOf (now (s .entry))) n .held ++ heldIs last ∷ []) (now (out .entry)) count)) (takenNow (lineOf (now (s .entry))) b (messageIs m))) ⌝ }
+{
+    let high = recover::told::high_of(s, n);
+    channel_fields::take_first(s, b, m);
+    log_placed(s, n, last, out, count);
+    node_fields::clear_held(s, n);
+    node_fields::clear_targets(s, n);
+    node_fields::set_time(s, n, high);
+    node_fields::set_status(s, n, 0);
+}
+
+// Take, where the receiver replays, both ends are not down and the channel has a message: 20, 21, 24 or 0.
+pub fn take_replaying(s: &mut [u8], b: usize) -> u32
+    requires { ⌜ Undamaged (now s) × (b < planChannels (now s)) × (endDown (lineOf (now s)) b ≡ false) × (0 < length (laneAt (lineOf (now s)) b .queue)) × (replaying (lineOf (now s)) (receiverOf (lineOf (now s)) b) ≡ true) ⌝ }
+    ensures { λ r. ⌜ Did (now (s .entry)) (take b) (now (s .exit)) r ⌝ }
+{
+    let n = look::receiver_of(s, b);
+    if goal_of(s, n, look::sender_of(s, b)) <= channel_fields::taken_of(s, b) {
+        return 20;
+    }
+    let m = channel_fields::first_of(s, b);
+    let last = waiting_of(s, n, b, m);
+    let goes = goes_on(s, n, last.what);
+    let full = HELD_LIMIT <= node_fields::held_count(s, n);
+    if goes & full {
+        return 21;
+    }
+    if !rows_after(s, n, b, m.time) {
+        hold(s, n, b, m, goes, last);
+        return 0;
+    }
+    let mut out: [u32; 128] = [0; 128];
+    let count = replay_table::placed(s, n, goes, last, &mut out);
+    if LOG_LIMIT < count {
+        return 24;
+    }
+    end(s, n, b, m, last, &out, count);
+    0
+}

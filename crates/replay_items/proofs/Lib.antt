@@ -1,0 +1,4 @@
+pub mod PairLaws
+pub mod ItemLaws
+pub mod TableLaws
+pub mod TargetLaws
