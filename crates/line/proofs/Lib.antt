@@ -4,3 +4,7 @@ pub mod LoadLaws
 pub mod WholeLaws
 pub mod CheckLaws
 pub mod WriteLaws
+pub mod StepLaws
+-- Demand 3 on bytes.
+pub mod StepRun
+pub mod OrderExamples

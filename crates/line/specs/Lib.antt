@@ -1,4 +1,6 @@
 -- What the line's functions answer and leave, by bytes.
 pub mod Load
+pub mod Order
+pub mod Step
 pub mod Whole
 pub mod Write

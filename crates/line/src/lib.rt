@@ -2,6 +2,7 @@
 ghost use mathlib.Core.Path.{_≡_};
 ghost use Rattle.state.specs.State.{stateAnswer};
 ghost use Rattle.line.specs.Load.{loadAnswer, loadLeft};
+ghost use Rattle.line.specs.Step.{stepAnswer, stepLeft};
 ghost use Rattle.line.specs.Write.{writeAnswer, writeLeft};
 use buffer::Line;
 use buffer::bytes;
@@ -15,9 +16,9 @@ pub extern "C" fn line_load(plan: &[u8], state: &mut [u8]) -> u32
     ensures { λ r. ⌜ (r ≡ loadAnswer (now (plan .entry)) (now (state .entry)))
         × (now (state .exit) ≡ loadLeft (now (plan .entry)) (now (state .entry))) ⌝ }
 {
-    let refusal = plan::plan_check(plan);
-    if refusal != 0 {
-        return refusal;
+    let plan_refusal = plan::plan_check(plan);
+    if plan_refusal != 0 {
+        return plan_refusal;
     }
     if state.len() != Line::STATE_SIZE {
         return 8;
@@ -57,4 +58,17 @@ pub extern "C" fn line_write(state: &[u8], plan: &mut [u8]) -> u32
     }
     bytes::copy_to(&state[0..size], plan);
     0
+}
+
+// Step: 8 as the check says, then what the frame's step answers; accepted, the state holds the line that the step leaves.
+#[no_mangle]
+pub extern "C" fn line_step(state: &mut [u8], frame: &[u8]) -> u32
+    ensures { λ r. ⌜ (r ≡ stepAnswer (now (state .entry)) (now (frame .entry)))
+        × (now (state .exit) ≡ stepLeft (now (state .entry)) (now (frame .entry))) ⌝ }
+{
+    let damage = line_check(state);
+    if damage != 0 {
+        return damage;
+    }
+    step::step(state, frame)
 }
