@@ -1,6 +1,7 @@
-// Names the directory of the engine's static libraries. Only the programs that
-// declare the engine's functions link them; the search path also reaches
-// packages that depend on this one.
+// Names the directory of the engine's static libraries. Only what declares the
+// engine's functions links them: the programs on placing and plans, and with the
+// feature engine-state the module `engine`. The search path also reaches packages
+// that depend on this one.
 
 use std::env;
 use std::path::Path;

@@ -1,5 +1,11 @@
 /* The line, for the exam panel. Every function is proved: crates/line says what it returns and leaves.
-   Link target/staticlib/libline.a (rt staticlib line). Buffers that are passed together must not overlap. */
+   Link target/staticlib/libline.a (rt staticlib line).
+
+   What no proof can see, and the caller owes at every call:
+   - each pointer is good for the length given with it: not null, even for length 0, and so many bytes
+     behind it belong to the caller, who may read them and, for the buffer that is written, write them;
+   - buffers that are passed together do not overlap;
+   - while a call has a state, nobody else has it: one thread at a time on a state. */
 #ifndef LINE_H
 #define LINE_H
 
@@ -14,6 +20,12 @@
    A refusal leaves the state as it was. The plan is only read. */
 uint32_t line_load(const uint8_t *plan, size_t plan_length,
                    uint8_t *state, size_t state_length);
+
+/* Step: works one frame on the line in a state.
+   Returns 0, or the first number of document 01 that applies: 8 as line_check does, 9 to 21, 24.
+   Accepted, the state holds the line after the step; a refusal leaves it as it was. The frame is only read. */
+uint32_t line_step(uint8_t *state, size_t state_length,
+                   const uint8_t *frame, size_t frame_length);
 
 /* Check: returns 0 for a line's state, or 8 for a state of another size or a damaged one. */
 uint32_t line_check(const uint8_t *state, size_t state_length);

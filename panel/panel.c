@@ -1,23 +1,37 @@
-/* Loads the two-node plan of document 01, "The sheet", checks the state, writes the plan back and prints the numbers. */
+/* Plays the sheet on standard input, a plan and then frames, and prints its lines A.
+   Fails where the state is damaged at the end or does not give back the plan. */
 #include <stdio.h>
 #include <string.h>
 
 #include "line.h"
 
-static const uint8_t plan[] = {
-    0x00, 0x13, 0x01, 0x02, 0x01,       /* length, version, nodes, channels */
-    0x00, 0x00, 0x00, 0x00,             /* node 0: keep */
-    0x00, 0x00, 0x00, 0x00,             /* node 1: keep */
-    0x00, 0x01, 0xFF, 0xFF, 0x01, 0x00, /* a channel from 0 to 1 that takes every record */
-};
+static uint8_t plan[65536], frame[65536], written[65536], state[LINE_STATE_SIZE];
 
-static uint8_t state[LINE_STATE_SIZE];
-static uint8_t written[sizeof plan];
+/* Reads a plan or frame: its length field, and as many bytes as that says, or all there are.
+   Returns how many bytes there were, and in *is_whole whether they are as many as the field says. */
+static size_t read_part(uint8_t *part, int *is_whole) {
+    size_t length = fread(part, 1, 2, stdin);
+    size_t said = length < 2 ? 2 : (size_t)part[0] << 8 | part[1];
+    if (said > length) length += fread(part + length, 1, said - length, stdin);
+    *is_whole = length == said;
+    return length;
+}
 
 int main(void) {
-    unsigned loaded = line_load(plan, sizeof plan, state, sizeof state);
-    unsigned checked = line_check(state, sizeof state);
-    unsigned back = line_write(state, sizeof state, written, sizeof written);
-    printf("%u %u %u\n", loaded, checked, back);
-    return memcmp(plan, written, sizeof plan) != 0;
+    int is_whole;
+    size_t plan_length = read_part(plan, &is_whole), frame_length;
+    uint32_t answer = line_load(plan, plan_length, state, sizeof state);
+    if (answer != 0) {
+        printf("A 0 %u\n", (unsigned)answer);
+        return 0;
+    }
+    is_whole = 1;
+    for (unsigned number = 1; is_whole && (frame_length = read_part(frame, &is_whole)) > 0; number++) {
+        answer = line_step(state, sizeof state, frame, frame_length);
+        printf("A %u %u\n", number, (unsigned)answer);
+        is_whole = is_whole && frame_length >= 5;
+    }
+    if (line_check(state, sizeof state) != 0 || line_write(state, sizeof state, written, sizeof written) != 0)
+        return 1;
+    return memcmp(plan, written, plan_length) != 0;
 }

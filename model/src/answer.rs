@@ -37,7 +37,7 @@ pub const WRONG_STATUS: u32 = 15;
 /// "Crash of a node joined by a belt to one crashed earlier in the run."
 pub const CRASHED_NEIGHBOUR: u32 = 16;
 /// "Material over 15, zero byte not 0."
-pub const RECORD: u32 = 17;
+pub const WRONG_RECORD: u32 = 17;
 /// "Nothing to send or take."
 pub const NOTHING_THERE: u32 = 18;
 /// "Belt holds 8."

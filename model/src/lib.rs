@@ -4,6 +4,9 @@
 
 pub mod answer;
 pub mod clock;
+pub mod compare;
+#[cfg(feature = "engine-state")]
+pub mod engine;
 pub mod line;
 pub mod order;
 pub mod placing;

@@ -24,7 +24,8 @@ pub fn check(state: &[u8]) -> u32 {
     }
 }
 
-fn undamaged(state: &[u8]) -> Option<Line> {
+/// The line of a state that is not damaged.
+pub fn undamaged(state: &[u8]) -> Option<Line> {
     read_line(state).filter(|line| !damaged(line))
 }
 

@@ -2,13 +2,10 @@
 // a plain pass over their bytes. Run in bench/:
 //   cargo run --release --offline --features engine-state --bin bench_state
 
-#[allow(dead_code)] // Load and Write are not timed.
-#[path = "../../../model/src/bin/compare_state/engine.rs"]
-mod engine;
-
 use std::hint::black_box;
 use std::time::Instant;
 
+use model::engine;
 use model::line::Line;
 use model::state::practice::staged;
 use model::state::{direct, line_bytes};
@@ -17,10 +14,6 @@ const ROUNDS: usize = 41;
 const REPEATS: usize = 200;
 
 type Pass = fn(&[u8]) -> u32;
-
-fn engine_check(state: &[u8]) -> u32 {
-    unsafe { engine::line_check(state.as_ptr(), state.len()) }
-}
 
 fn sum(state: &[u8]) -> u32 {
     state.iter().map(|&byte| u32::from(byte)).sum()
@@ -50,9 +43,9 @@ fn least_times(passes: [Pass; 3], state: &[u8]) -> [f64; 3] {
 
 fn report(name: &str, line: &Line) {
     let state = line_bytes(line);
-    assert_eq!(engine_check(&state), 0);
+    assert_eq!(engine::check(&state), 0);
     assert_eq!(direct::check(&state), 0);
-    let [engine, model, sum] = least_times([engine_check, direct::check, sum], &state);
+    let [engine, model, sum] = least_times([engine::check, direct::check, sum], &state);
     println!(
         "{name:<36}{engine:>10.3}{model:>10.3}{sum:>10.3}{:>16.2}{:>14.2}",
         engine / model,

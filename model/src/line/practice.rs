@@ -1,8 +1,14 @@
 //! Random plans and frames: mostly accepted, with many crashes and replays.
 
 mod disturb;
+mod events;
+mod frames;
+mod torn;
 
 pub use disturb::{disturb, retarget};
+pub use events::{Stepped, EVENTS};
+pub use frames::{cut_frames, every_frame, random_frames, stray};
+pub use torn::torn;
 
 use std::collections::BTreeSet;
 
@@ -224,11 +230,15 @@ impl Practice {
 
     fn record(&mut self, random: &mut Random) -> Record {
         self.pieces += 1;
-        Record {
-            piece: self.pieces,
-            material: random.pick(&[0, 0, 1, 1, 2, 2, 3, 15]),
-            mass: random.pick(&[0, 1, 49, 50, 51, 99, 100, 101, 65535]),
-        }
+        drawn_record(random, self.pieces)
+    }
+}
+
+fn drawn_record(random: &mut Random, piece: u32) -> Record {
+    Record {
+        piece,
+        material: random.pick(&[0, 0, 1, 1, 2, 2, 3, 15]),
+        mass: random.pick(&[0, 1, 49, 50, 51, 99, 100, 101, 65535]),
     }
 }
 
@@ -255,45 +265,4 @@ fn drawn_share(random: &mut Random, shares: &[usize]) -> usize {
         left -= share;
     }
     unreachable!("less than the sum is left")
-}
-
-/// A frame as people type: any place and record, now and then a byte changed,
-/// lost or added.
-pub fn stray(random: &mut Random, line: &Line) -> Vec<u8> {
-    let near = random.index(line.queues.len().max(line.nodes.len()) + 2) as u8;
-    let any = random.draw() as u8;
-    let place = random.pick(&[near, near, near, any]);
-    let mut record = Record {
-        piece: random.draw() as u32,
-        material: random.pick(&[0, 15, 16, 255]),
-        mass: random.draw() as u16,
-    }
-    .write();
-    if random.one_in(4) {
-        record[5] = random.pick(&[1, 128, 255]);
-    }
-    let frame = random.pick(&[
-        Frame::Feed {
-            node: place,
-            record,
-        },
-        Frame::Send { channel: place },
-        Frame::Take { channel: place },
-        Frame::Crash { node: place },
-        Frame::Recover { node: place },
-    ]);
-    let mut bytes = frame.write();
-    match random.index(8) {
-        0 => {
-            let index = random.index(bytes.len());
-            bytes[index] = random.draw() as u8;
-        }
-        1 => {
-            bytes.pop();
-        }
-        2 => bytes.push(random.draw() as u8),
-        3 => bytes[3] = random.pick(&[0, 6, 7, 255]),
-        _ => {}
-    }
-    bytes
 }

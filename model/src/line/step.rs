@@ -4,8 +4,8 @@
 
 use super::{Entry, Frame, Line, Message, Node, Origin, Queue, Status};
 use crate::answer::{
-    ACCEPTED, CHANNEL_FULL, CRASHED_NEIGHBOUR, NOTHING_THERE, NO_SPACE, NO_SUCH_PLACE, RECORD,
-    ROW_COMPLETE, STEPS_USED_UP, WRONG_PLACE, WRONG_STATUS,
+    ACCEPTED, CHANNEL_FULL, CRASHED_NEIGHBOUR, NOTHING_THERE, NO_SPACE, NO_SUCH_PLACE,
+    ROW_COMPLETE, STEPS_USED_UP, WRONG_PLACE, WRONG_RECORD, WRONG_STATUS,
 };
 use crate::clock::Clock;
 use crate::record::Record;
@@ -47,7 +47,7 @@ impl Line {
         if !self.plan.is_source(node) {
             return Err(WRONG_PLACE);
         }
-        let record = Record::read(record).ok_or(RECORD)?;
+        let record = Record::read(record).ok_or(WRONG_RECORD)?;
         let record = self.plan.rules[node].apply(record);
         let mut next = self.clone();
         next.log(node, record, None, None)?;

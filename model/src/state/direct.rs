@@ -1,5 +1,6 @@
 //! The check of a state straight over its bytes, with nothing allocated and
-//! each byte looked at about once: what the engine's check is timed beside.
+//! each byte looked at about once: what the engine's check is timed beside. The
+//! step in place stands in `step`.
 //!
 //! A time that is at most another one which is at most the accepted steps is
 //! not held against the steps again.
@@ -8,6 +9,9 @@ mod channels;
 mod nodes;
 mod replay;
 mod shape;
+mod step;
+
+pub use step::{step, step_unchecked};
 
 use super::layout::*;
 use crate::answer::{ACCEPTED, STATE};

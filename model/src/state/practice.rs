@@ -19,7 +19,7 @@ pub use conditions::CLAUSES;
 pub use features::FEATURES;
 pub use harmless::HARMLESS;
 pub use places::{places, Place};
-pub use runs::{last_lines, lines};
+pub use runs::{any_plan, any_record, lines, play, play_to_the_end, replay_on, Played};
 pub use scrambles::SCRAMBLES;
 pub use slots::SHUFFLES;
 

@@ -7,7 +7,7 @@ mod round_trips;
 
 use std::sync::OnceLock;
 
-use super::practice::{last_lines, lines, staged};
+use super::practice::{lines, play_to_the_end, staged};
 use crate::line::Line;
 use crate::random::Random;
 
@@ -20,7 +20,8 @@ fn runs() -> &'static [Vec<Line>] {
     LINES.get_or_init(|| {
         let worn = staged::worn();
         let runs = (0..RUNS).map(|seed| lines(&mut Random::new(seed)));
-        let last = (0..LAST_RUNS).map(|seed| last_lines(&mut Random::new(seed), &worn));
+        let last =
+            (0..LAST_RUNS).map(|seed| play_to_the_end(&mut Random::new(seed), &mut worn.clone()));
         runs.chain(last).collect()
     })
 }

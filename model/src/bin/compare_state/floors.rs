@@ -2,17 +2,12 @@
 
 use std::collections::BTreeSet;
 
+use model::compare::{answer, under, Floor};
 use model::state::practice::{
     places, staged, Kind, CLAUSES, FEATURES, HARMLESS, SCRAMBLES, SHUFFLES,
 };
 
 use crate::section;
-
-pub struct Floor {
-    pub section: &'static str,
-    pub name: String,
-    pub least: usize,
-}
 
 pub const DIFFERENT: &str = "different ones";
 
@@ -82,23 +77,6 @@ fn calls() -> Vec<Floor> {
     floors.extend(under(section::WRITE, 2_000, LENGTHS));
     floors.extend(under(section::WRITE_AGAIN, 1_000, [0, 23].map(answer)));
     floors
-}
-
-fn under<Name: Into<String>>(
-    section: &'static str,
-    least: usize,
-    names: impl IntoIterator<Item = Name>,
-) -> Vec<Floor> {
-    let floor = |name: Name| Floor {
-        section,
-        name: name.into(),
-        least,
-    };
-    names.into_iter().map(floor).collect()
-}
-
-pub fn answer(answer: u32) -> String {
-    format!("answer {answer}")
 }
 
 pub fn outcome(kind: Kind, is_accepted: bool) -> String {

@@ -4,15 +4,11 @@
 //   cargo run --release --offline --features engine-state --bin compare_state [seed]
 
 mod call;
-mod counts;
-mod engine;
 mod floors;
-mod lent;
 mod run;
 mod section;
 
-use std::env;
-
+use model::compare::seed;
 use model::state::practice::staged;
 
 use run::Run;
@@ -24,8 +20,8 @@ const LOADS: u64 = 60_000;
 
 fn main() {
     let mut run = Run::new();
-    match env::args().nth(1) {
-        Some(seed) => one(&mut run, seed.parse().expect("a seed is a number")),
+    match seed() {
+        Some(seed) => one(&mut run, seed),
         None => all(&mut run),
     }
     println!("engine and model agree");
@@ -53,6 +49,5 @@ fn all(run: &mut Run) {
     for seed in 0..LOADS {
         run.load(seed);
     }
-    run.counts.print();
-    run.counts.assert_enough();
+    run.counts.hold_to(&floors::all());
 }

@@ -1,23 +1,25 @@
 // Calls on lines, states and plans as they are drawn, counted.
 
-use std::process::exit;
-use std::{env, fs};
+use std::collections::HashSet;
+use std::hash::{DefaultHasher, Hash, Hasher};
 
+use model::compare::{self, Counts};
 use model::line::Line;
 use model::plan::practice::{mutate, noise, plan};
 use model::random::Random;
-use model::state::practice::{self, last_lines, lines, staged, Case};
-use model::state::{line_bytes, LENGTH};
+use model::state::practice::{self, lines, play_to_the_end, staged, Case, Kind, FEATURES};
+use model::state::{line_bytes, read_line, LENGTH};
 
 use crate::call::{self, Left};
-use crate::counts::Counts;
-use crate::floors::{LENGTHS, PLANS};
+use crate::floors::{self, LENGTHS, PLANS};
 use crate::section;
 
 pub struct Run {
     /// Of what is drawn for the calls, the practice's draws aside.
     random: Random,
     pub counts: Counts,
+    /// Hashes of the states that frames led to.
+    reached: HashSet<u64>,
 }
 
 impl Run {
@@ -25,6 +27,7 @@ impl Run {
         Run {
             random: Random::new(1),
             counts: Counts::default(),
+            reached: HashSet::new(),
         }
     }
 
@@ -39,7 +42,7 @@ impl Run {
     /// The lines of the last steps that there can be.
     pub fn reach_last(&mut self, seed: u64, worn: &Line) {
         let mut random = Random::new(seed);
-        let lines = last_lines(&mut random, worn);
+        let lines = play_to_the_end(&mut random, &mut worn.clone());
         self.reached(seed, &mut random, &lines);
     }
 
@@ -72,7 +75,35 @@ impl Run {
             let wrong = format!("both answer {answer}, unexpectedly");
             fail(seed, &told(), &wrong, case.state);
         }
-        self.counts.checked(case, answer);
+        self.count(case, answer);
+    }
+
+    fn count(&mut self, case: &Case, answer: u32) {
+        let outcome = floors::outcome(case.kind, answer == 0);
+        self.counts.add(section::STATES, outcome);
+        match case.kind {
+            Kind::Reached => self.count_reached(case.state),
+            Kind::Condition => self.counts.add(case.clause, case.name),
+            Kind::Harmless => self.counts.add(section::HARMLESS, case.name),
+            Kind::Field => self.counts.add(section::FIELDS, case.name),
+            Kind::Shuffled => self.counts.add(section::SHUFFLES, case.name),
+            Kind::Scrambled => self.counts.add(section::SCRAMBLES, case.name),
+            Kind::Disturbed | Kind::Byte | Kind::Bit | Kind::Unused | Kind::Length => {}
+        }
+    }
+
+    /// Each state once, however often it is reached.
+    fn count_reached(&mut self, state: &[u8]) {
+        let mut hasher = DefaultHasher::new();
+        state.hash(&mut hasher);
+        if !self.reached.insert(hasher.finish()) {
+            return;
+        }
+        self.counts.add(section::REACHED, floors::DIFFERENT);
+        let line = read_line(state).expect("a reached line");
+        for feature in FEATURES.iter().filter(|feature| (feature.is_in)(&line)) {
+            self.counts.add(section::REACHED, feature.name);
+        }
     }
 
     /// A plan that is right, mutated or random, into a state of any length; what is
@@ -85,7 +116,7 @@ impl Run {
         let before = random.bytes(length);
         let left = call::load(&mut self.random, &plan, &before)
             .unwrap_or_else(|wrong| fail(seed, "Load", &wrong, &plan));
-        self.counts.answered(section::LOAD, left.answer);
+        self.counts.add(section::LOAD, compare::answer(left.answer));
         self.counts.add(section::LOAD, beside(length, LENGTH));
         if left.answer == 0 {
             self.write_again(seed, &mut random, &left.bytes, &plan);
@@ -123,7 +154,8 @@ impl Run {
         if left.bytes != expected || (left.answer == 0) != has_room {
             fail(seed, "Write", "not the plan that was loaded", state);
         }
-        self.counts.answered(section::WRITE_AGAIN, left.answer);
+        let answer = compare::answer(left.answer);
+        self.counts.add(section::WRITE_AGAIN, answer);
     }
 
     /// The line's plan, also of a damaged state.
@@ -138,7 +170,8 @@ impl Run {
         let needed = line.plan.write().len();
         let before = output(random, needed);
         let left = self.write(seed, &state, &before);
-        self.counts.answered(section::WRITE, left.answer);
+        self.counts
+            .add(section::WRITE, compare::answer(left.answer));
         self.counts
             .add(section::WRITE, beside(before.len(), needed));
     }
@@ -160,12 +193,6 @@ fn beside(length: usize, needed: usize) -> &'static str {
     LENGTHS[1 + usize::from(length > needed) - usize::from(length < needed)]
 }
 
-/// Keeps the bytes in a file.
 fn fail(seed: u64, name: &str, wrong: &str, bytes: &[u8]) -> ! {
-    println!("seed {seed}, {name}: {wrong}");
-    let path = env::temp_dir().join("compare_state.bin");
-    if fs::write(&path, bytes).is_ok() {
-        println!("the bytes stand in {}", path.display());
-    }
-    exit(1);
+    compare::fail(&format!("seed {seed}, {name}"), wrong, bytes)
 }

@@ -1,61 +1,34 @@
 //! Random plans and frames: no accepted step damages a line, a refused one
 //! changes nothing.
 
+use std::collections::BTreeMap;
+
 use super::*;
 use crate::answer::NO_REPLAY;
-use crate::line::practice::{any_plan, disturb, retarget, stray, Practice};
-use crate::line::replay::placed;
+use crate::line::practice::{any_plan, disturb, retarget, stray, Practice, Stepped, EVENTS};
 use crate::random::Random;
 
+/// How often each answer was given and each event met.
 #[derive(Debug, Default)]
 struct Seen {
     answers: [usize; 25],
-    replays: usize,
-    ended_replays: usize,
-    /// Ended with a column that stayed empty.
-    gaps: usize,
-    /// Ended with a record that is no target.
-    free: usize,
-    /// Ended otherwise than it would without floors.
-    floors: usize,
-    crashes_while_replaying: usize,
+    events: BTreeMap<&'static str, usize>,
 }
 
 impl Seen {
-    fn look(&mut self, before: &Line, after: &Line) {
-        for number in 0..before.nodes.len() {
-            match (before.nodes[number].status, after.nodes[number].status) {
-                (Status::Down, Status::Replaying) => self.replays += 1,
-                (Status::Replaying, Status::Down) => self.crashes_while_replaying += 1,
-                (Status::Replaying, Status::Up) => self.look_at_end(before, after, number),
-                _ => {}
-            }
+    fn look(&mut self, before: &Line, frame: &[u8], after: Result<&Line, u32>) {
+        self.answers[after.err().unwrap_or(0) as usize] += 1;
+        let Ok(frame) = Frame::read(frame) else {
+            return;
+        };
+        let step = Stepped {
+            before,
+            frame,
+            after,
+        };
+        for event in EVENTS.iter().filter(|event| (event.is_it)(&step)) {
+            *self.events.entry(event.name).or_default() += 1;
         }
-    }
-
-    fn look_at_end(&mut self, before: &Line, after: &Line, number: usize) {
-        let low = before.nodes[number].time();
-        let ended = &after.nodes[number];
-        self.ended_replays += 1;
-        self.gaps += usize::from(ended.log.len() < (ended.time() - low) as usize);
-        let mut complete = before.clone();
-        complete.nodes[number].buffered = ended.log.iter().map(as_buffered).collect();
-        let (mut table, _) = complete.replay_table(number);
-        let columns = placed(low, ended.time(), &table);
-        assert!(columns.is_some());
-        self.free += usize::from(table.iter().any(|item| item.is_free()));
-        for item in &mut table {
-            item.floor = 0;
-        }
-        self.floors += usize::from(placed(low, ended.time(), &table) != columns);
-    }
-}
-
-fn as_buffered(entry: &Entry) -> Buffered {
-    Buffered {
-        record: entry.message.record,
-        made_from: entry.message.made_from.expect("a router's input"),
-        input_made_from: entry.input_made_from,
     }
 }
 
@@ -72,13 +45,13 @@ fn practised_lines_stay_undamaged() {
             let frame = practice.frame(&mut random, &line);
             let before = line.clone();
             let answer = step(&mut line, &frame);
-            seen.answers[answer as usize] += 1;
             if answer == 0 {
                 assert!(!damaged(&line), "{frame:?} {before:?}");
                 assert_eq!(line.steps, before.steps + 1);
-                seen.look(&before, &line);
+                seen.look(&before, &frame, Ok(&line));
             } else {
                 assert_eq!(line, before);
+                seen.look(&before, &frame, Err(answer));
             }
         }
     }
@@ -87,9 +60,16 @@ fn practised_lines_stay_undamaged() {
         assert!(seen.answers[answer] >= 20, "{answer} too seldom: {seen:?}");
     }
     assert_eq!(seen.answers[NO_REPLAY as usize], 0);
-    assert!(seen.replays > 800 && seen.ended_replays > 400);
-    assert!(seen.crashes_while_replaying > 100 && seen.gaps > 100);
-    assert!(seen.free > 50 && seen.floors > 2);
+    for (least, event) in [
+        (800, "Recover begins a replay"),
+        (100, "Crash of a node that replays"),
+        (400, "replay ended"),
+        (100, "replay ended with an empty time"),
+        (50, "replay ended with a free record"),
+        (2, "replay ended otherwise than without floors"),
+    ] {
+        assert!(seen.events[event] > least, "{event} too seldom: {seen:?}");
+    }
 }
 
 /// From any undamaged line, reached by frames or not, accepted steps lead to

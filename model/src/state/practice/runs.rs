@@ -2,43 +2,66 @@
 
 use std::cmp::Reverse;
 
+use super::pick;
 use crate::answer::ACCEPTED;
-use crate::line::practice::{any_plan, tear, Practice};
+use crate::line::practice::{self, tear, Practice};
 use crate::line::{step, Frame, Line, Status};
 use crate::plan::{Channel, Plan};
 use crate::random::Random;
 use crate::record::Record;
 use crate::rule::Rule;
 
-/// Lines on the way of one run.
-pub fn lines(random: &mut Random) -> Vec<Line> {
-    if random.one_in(2) {
-        filled(random)
-    } else {
-        practised(random)
+/// What frames are played on.
+pub trait Played {
+    fn line(&self) -> &Line;
+    /// The answer.
+    fn step(&mut self, frame: &[u8]) -> u32;
+}
+
+impl Played for Line {
+    fn line(&self) -> &Line {
+        self
+    }
+
+    fn step(&mut self, frame: &[u8]) -> u32 {
+        step(self, frame)
     }
 }
 
-/// Lines on the way of the given one to the end of all steps, and the last.
-pub fn last_lines(random: &mut Random, first: &Line) -> Vec<Line> {
-    let mut line = first.clone();
+/// Lines on the way of one run.
+pub fn lines(random: &mut Random) -> Vec<Line> {
+    let mut line = Line::of(any_plan(random));
+    play(random, &mut line)
+}
+
+/// Lines on the way.
+pub fn play(random: &mut Random, played: &mut dyn Played) -> Vec<Line> {
+    if random.one_in(2) {
+        filled(random, played)
+    } else {
+        practised(random, played)
+    }
+}
+
+/// Lines on the way to the end of all steps, and the last.
+pub fn play_to_the_end(random: &mut Random, played: &mut dyn Played) -> Vec<Line> {
     let mut practice = Practice::new(random);
     let mut lines = Vec::new();
-    while line.steps < Line::MOST_STEPS {
-        let frame = practice.frame(random, &line);
-        if step(&mut line, &frame) == ACCEPTED && random.one_in(16) {
-            lines.push(line.clone());
+    while played.line().steps < Line::MOST_STEPS {
+        let frame = practice.frame(random, played.line());
+        if played.step(&frame) == ACCEPTED && random.one_in(16) {
+            lines.push(played.line().clone());
         }
     }
-    lines.push(line);
+    lines.push(played.line().clone());
     lines
 }
 
-fn drawn_plan(random: &mut Random) -> Plan {
+pub fn any_plan(random: &mut Random) -> Plan {
     if random.one_in(3) {
         deep(random)
     } else {
-        any_plan(random)
+        practice::any_plan(random)
     }
 }
 
@@ -78,58 +101,57 @@ fn deep(random: &mut Random) -> Plan {
 }
 
 /// A mixture of all frames, some of them refused.
-fn practised(random: &mut Random) -> Vec<Line> {
-    let mut line = Line::of(drawn_plan(random));
+fn practised(random: &mut Random, played: &mut dyn Played) -> Vec<Line> {
     let mut practice = Practice::new(random);
     let mut lines = Vec::new();
     let most = random.pick(&[32, 128, 400]);
     for _ in 0..random.between(0, most) {
-        let frame = practice.frame(random, &line);
-        step(&mut line, &frame);
+        let frame = practice.frame(random, played.line());
+        played.step(&frame);
         // More often while something is held.
+        let line = played.line();
         let holds = line.nodes.iter().any(|node| !node.buffered.is_empty());
         if random.one_in(if holds { most / 16 } else { most / 4 }) {
             lines.push(line.clone());
         }
     }
-    lines.push(line);
+    lines.push(played.line().clone());
     lines
 }
 
 /// Fed, sent and taken until nothing more can be, save on channels that are
 /// never taken on; then routers crash and replay.
-fn filled(random: &mut Random) -> Vec<Line> {
-    let mut line = Line::of(drawn_plan(random));
+fn filled(random: &mut Random, played: &mut dyn Played) -> Vec<Line> {
     let lazy = (random.draw() & random.draw()) as u32;
-    fill(random, &mut line, lazy);
-    let mut lines = vec![line.clone()];
-    let mut nodes = shuffled(random, line.nodes.len());
+    fill(random, played, lazy);
+    let mut lines = vec![played.line().clone()];
+    let mut nodes = shuffled(random, played.line().nodes.len());
     if !random.one_in(4) {
-        nodes.sort_by_key(|&node| Reverse(tear(&line, node)));
+        nodes.sort_by_key(|&node| Reverse(tear(played.line(), node)));
     }
     for node in nodes {
         if random.one_in(8) {
             continue;
         }
-        let crashed = step(&mut line, &Frame::Crash { node: node as u8 }.write()) == 0;
+        let crashed = played.step(&Frame::Crash { node: node as u8 }.write()) == ACCEPTED;
         if crashed && !random.one_in(4) {
-            step(&mut line, &Frame::Recover { node: node as u8 }.write());
+            played.step(&Frame::Recover { node: node as u8 }.write());
         }
     }
-    lines.push(line.clone());
+    lines.push(played.line().clone());
     for _ in 0..random.between(1, 4) {
         for _ in 0..random.pick(&[2, 4, 8, 40]) {
-            replay_on(random, &mut line);
+            replay_on(random, played);
         }
-        lines.push(line.clone());
+        lines.push(played.line().clone());
     }
-    fill(random, &mut line, lazy);
-    lines.push(line);
+    fill(random, played, lazy);
+    lines.push(played.line().clone());
     lines
 }
 
-fn fill(random: &mut Random, line: &mut Line, lazy: u32) {
-    let (nodes, channels) = (line.nodes.len(), line.queues.len());
+fn fill(random: &mut Random, played: &mut dyn Played, lazy: u32) {
+    let (nodes, channels) = (played.line().nodes.len(), played.line().queues.len());
     let most_rounds = random.pick(&[10, 60, 1000]);
     for _ in 0..most_rounds {
         let mut is_stuck = true;
@@ -150,7 +172,7 @@ fn fill(random: &mut Random, line: &mut Line, lazy: u32) {
                 }
                 Frame::Take { channel }
             };
-            is_stuck &= step(line, &frame.write()) != 0;
+            is_stuck &= played.step(&frame.write()) != ACCEPTED;
         }
         if is_stuck {
             return;
@@ -158,18 +180,17 @@ fn fill(random: &mut Random, line: &mut Line, lazy: u32) {
     }
 }
 
-/// Sends and takes once for a node that replays.
-fn replay_on(random: &mut Random, line: &mut Line) {
-    let channels: Vec<usize> = (0..line.queues.len())
-        .filter(|&channel| {
-            line.nodes[line.plan.channels[channel].receiver].status == Status::Replaying
-        })
-        .collect();
-    if !channels.is_empty() {
-        let channel = random.pick(&channels) as u8;
-        step(line, &Frame::Send { channel }.write());
-        step(line, &Frame::Take { channel }.write());
-    }
+/// Sends and takes once for a node that replays, if there is one. The answer to
+/// the Take.
+pub fn replay_on(random: &mut Random, played: &mut dyn Played) -> Option<u32> {
+    let line = played.line();
+    let replaying = pick::channel(random, line, |channel| {
+        let receiver = line.plan.channels[channel].receiver;
+        line.nodes[receiver].status == Status::Replaying
+    });
+    let channel = replaying? as u8;
+    played.step(&Frame::Send { channel }.write());
+    Some(played.step(&Frame::Take { channel }.write()))
 }
 
 fn shuffled(random: &mut Random, count: usize) -> Vec<usize> {

@@ -66,6 +66,21 @@ pub fn full() -> Line {
     line
 }
 
+/// All but full: node 0 can be fed once more, the last channel holds 7 messages
+/// of 8, and its receiver can take one of them.
+pub fn nearly_full() -> Line {
+    let mut line = full();
+    let last = line.queues.len() - 1;
+    for node in [0, line.plan.channels[last].receiver] {
+        line.nodes[node].log.pop();
+        line.nodes[node].clock.time -= 1;
+    }
+    let queue = &mut line.queues[last];
+    queue.messages.pop();
+    queue.mark = queue.messages[Line::MOST_MESSAGES - 2].time;
+    line
+}
+
 /// Four routers between four sources and four sinks: each takes from all of the
 /// sources and sends to two of the sinks.
 pub fn routers_plan() -> Plan {
@@ -74,9 +89,22 @@ pub fn routers_plan() -> Plan {
     plan_of(12, entering.chain(leaving).collect())
 }
 
-/// The routers replay with 64 targets each, of which 63 are held. The sources'
-/// and sinks' logs are full, and so are the channels that enter the routers.
+/// The routers replay, and one Take more ends the replay of each.
 pub fn replaying() -> Line {
+    holding(Line::MOST_TARGETS - 1)
+}
+
+/// One of them is down instead: its children tell 64 targets.
+pub fn down() -> Line {
+    let mut line = replaying();
+    accept(&mut line, Frame::Crash { node: 4 });
+    line
+}
+
+/// The routers replay with 64 targets each, of which so many are held. The
+/// sources' and sinks' logs are full, and so are the channels that enter the
+/// routers.
+pub fn holding(held: usize) -> Line {
     let mut line = Line::of(routers_plan());
     for source in 0..4 {
         fill_source(&mut line, source);
@@ -91,7 +119,7 @@ pub fn replaying() -> Line {
     }
     for router in 4..8 {
         restart(&mut line, router);
-        take_in_turn(&mut line, router, Line::MOST_TARGETS - 1);
+        take_in_turn(&mut line, router, held);
     }
     fill_channels(&mut line);
     line

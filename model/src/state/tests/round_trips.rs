@@ -35,6 +35,8 @@ fn features_of_reached_lines() {
 fn lines_that_hold_most() {
     assert_round_trip(&staged::fresh());
     assert_round_trip(&staged::mixed());
+    assert_round_trip(&staged::nearly_full());
+    assert_round_trip(&staged::down());
     let full = staged::full();
     assert_round_trip(&full);
     assert!(full.nodes.iter().all(|node| node.log.len() == 64));

@@ -1,7 +1,8 @@
-// A buffer lent to the engine, with bytes before and after it that it must not
-// touch.
+//! A buffer that is lent, with bytes before and after it that must not be
+//! touched.
 
-use model::random::Random;
+use super::Compared;
+use crate::random::Random;
 
 const BORDER: usize = 64;
 
@@ -37,7 +38,24 @@ impl Lent {
         &mut self.bytes[self.start..][..self.length]
     }
 
-    pub fn is_border_whole(&self) -> bool {
+    /// Whether it has the expected bytes and all is whole around it.
+    pub fn holds(&self, name: &str, expected: &[u8]) -> Compared<()> {
+        if !self.is_border_whole() {
+            return Err(format!("a byte outside the lent {name} has changed"));
+        }
+        if self.bytes() == expected {
+            return Ok(());
+        }
+        let mut pairs = self.bytes().iter().zip(expected);
+        let at = pairs.position(|(left, right)| left != right);
+        let at = at.expect("buffers of one length");
+        let (byte, other) = (self.bytes()[at], expected[at]);
+        Err(format!(
+            "byte {at} of the {name} is {byte}, the model has {other}"
+        ))
+    }
+
+    fn is_border_whole(&self) -> bool {
         let (before, rest) = self.bytes.split_at(self.start);
         let after = &rest[self.length..];
         before.iter().chain(after).all(|&byte| byte == self.border)

@@ -1,0 +1,98 @@
+// The rows of the counts and the least count of each.
+
+use model::compare::{answer, under, Floor};
+use model::line::practice::EVENTS;
+use model::line::Frame;
+use model::state::practice::{Kind, HARMLESS};
+
+/// What the rows stand under.
+pub mod section {
+    pub const CALLS: &str = "calls, by their states";
+    pub const FRAMES: &str = "calls, by their frames";
+    pub const ANSWERS: &str = "answers";
+    pub const KINDS: &str = "frames of the right form on undamaged states";
+    pub const EVENTS: &str = "what steps do and why they are refused";
+    pub const HARMLESS: &str = "undamaged states that no run leads to, each with every frame";
+    pub const DAMAGED: &str = "damaged states";
+}
+
+pub const ALL: &str = "all";
+
+/// What the states of the calls are.
+pub mod on {
+    pub const LOADED: &str = "on runs from Load";
+    pub const WORN: &str = "to the end of all steps";
+    pub const STAGED: &str = "on the fullest lines";
+    pub const TORN: &str = "replays of what no run leaves";
+    pub const CHANGED: &str = "undamaged, no run leads there";
+    pub const DAMAGED: &str = "damaged";
+}
+
+/// How their frames are made.
+pub mod with {
+    pub const PLAYED: &str = "drawn in a run";
+    pub const EVERY: &str = "every kind at every place";
+    pub const TYPED: &str = "as people type";
+    pub const CUT: &str = "cut or too long";
+    pub const RANDOM: &str = "random bytes";
+}
+
+pub fn all() -> Vec<Floor> {
+    let mut floors = under(section::CALLS, 1_000_000, [ALL]);
+    floors.extend(under(section::CALLS, 300_000, [on::LOADED]));
+    floors.extend(under(section::CALLS, 10_000, [on::WORN]));
+    floors.extend(under(section::CALLS, 10_000, [on::STAGED]));
+    floors.extend(under(section::CALLS, 300_000, [on::TORN, on::CHANGED]));
+    floors.extend(under(section::CALLS, 30_000, [on::DAMAGED]));
+    floors.extend(under(section::FRAMES, 300_000, [with::PLAYED, with::EVERY]));
+    floors.extend(under(section::FRAMES, 30_000, [with::TYPED]));
+    floors.extend(under(section::FRAMES, 5_000, [with::CUT]));
+    floors.extend(under(section::FRAMES, 5_000, [with::RANDOM]));
+    floors.extend(under(section::ANSWERS, 100_000, [0].map(answer)));
+    floors.extend(under(
+        section::ANSWERS,
+        1_000,
+        (8..=21).chain([24]).map(answer),
+    ));
+    let outcomes = KINDS
+        .iter()
+        .flat_map(|kind| [true, false].map(|is| outcome(kind, is)));
+    floors.extend(under(section::KINDS, 2_000, outcomes));
+    let events = EVENTS.iter().map(|event| event.name);
+    floors.extend(under(section::EVENTS, 100, events));
+    let harmless = HARMLESS.iter().map(|harmless| harmless.name);
+    floors.extend(under(section::HARMLESS, 20, harmless));
+    let damaged = DAMAGED.iter().map(|kind| format!("{kind:?}"));
+    floors.extend(under(section::DAMAGED, 500, damaged));
+    floors
+}
+
+const DAMAGED: &[Kind] = &[
+    Kind::Condition,
+    Kind::Disturbed,
+    Kind::Field,
+    Kind::Byte,
+    Kind::Bit,
+    Kind::Shuffled,
+    Kind::Scrambled,
+    Kind::Unused,
+    Kind::Length,
+];
+
+const KINDS: [&str; 5] = ["Feed", "Send", "Take", "Crash", "Recover"];
+
+pub fn kind(frame: &Frame, is_accepted: bool) -> String {
+    let kind = match frame {
+        Frame::Feed { .. } => 0,
+        Frame::Send { .. } => 1,
+        Frame::Take { .. } => 2,
+        Frame::Crash { .. } => 3,
+        Frame::Recover { .. } => 4,
+    };
+    outcome(KINDS[kind], is_accepted)
+}
+
+fn outcome(kind: &str, is_accepted: bool) -> String {
+    let outcome = if is_accepted { "accepted" } else { "refused" };
+    format!("{kind}, {outcome}")
+}

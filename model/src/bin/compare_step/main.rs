@@ -1,0 +1,52 @@
+// Compares the engine's Step, and the model's own step in place, with the
+// model's step on lines: on runs from Load, on undamaged states that no run
+// leads to, and on damaged ones. Run in model/:
+//   cargo run --release --offline --features engine-state --bin compare_step [seed]
+
+mod floors;
+mod run;
+mod states;
+
+use model::compare::seed;
+use model::state::practice::staged;
+
+use run::Run;
+
+const RUNS: u64 = 600;
+const CHANGED_RUNS: u64 = 50;
+const LAST_RUNS: u64 = 200;
+const TORN: u64 = 18_000;
+
+fn main() {
+    let mut run = Run::new();
+    match seed() {
+        Some(seed) => one(&mut run, seed),
+        None => all(&mut run),
+    }
+    println!("{} and the model's step agree", states::names());
+}
+
+fn one(run: &mut Run, seed: u64) {
+    let lines = run.play(seed);
+    run.change(seed, &lines);
+    run.play_to_the_end(seed, &staged::worn());
+    run.tear(seed);
+}
+
+fn all(run: &mut Run) {
+    for seed in 0..RUNS {
+        let lines = run.play(seed);
+        if seed < CHANGED_RUNS {
+            run.change(seed, &lines);
+        }
+    }
+    let worn = staged::worn();
+    for seed in 0..LAST_RUNS {
+        run.play_to_the_end(seed, &worn);
+    }
+    for seed in 0..TORN {
+        run.tear(seed);
+    }
+    run.stage();
+    run.counts.hold_to(&floors::all());
+}

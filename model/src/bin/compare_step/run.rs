@@ -1,0 +1,247 @@
+// Calls on states and frames as they are drawn, counted.
+
+use model::answer::NO_REPLAY;
+use model::compare::{self, Counts};
+use model::line::practice::{
+    cut_frames, every_frame, random_frames, stray, torn, Practice, Stepped, EVENTS,
+};
+use model::line::{Frame, Line};
+use model::random::Random;
+use model::state::line_bytes;
+use model::state::practice::{self, any_plan, replay_on, staged, Case, Kind, Played};
+
+use crate::floors::{self, on, section, with};
+use crate::states::States;
+
+/// How often each staged line's replays are played.
+const STAGED_RUNS: usize = 100;
+/// How often wrong frames are drawn for a state.
+const WRONG: usize = 8;
+
+pub struct Run {
+    /// Of what is drawn for the calls, the practice's draws aside.
+    random: Random,
+    pub counts: Counts,
+    /// What is said of a call that goes wrong.
+    seed: u64,
+}
+
+/// States that frames are played on.
+struct Playing<'a> {
+    run: &'a mut Run,
+    states: States,
+    /// What they are counted as.
+    kind: &'static str,
+}
+
+impl Played for Playing<'_> {
+    fn line(&self) -> &Line {
+        self.states.line.as_ref().expect("an undamaged state")
+    }
+
+    fn step(&mut self, frame: &[u8]) -> u32 {
+        self.run
+            .call(&mut self.states, self.kind, with::PLAYED, frame, true)
+    }
+}
+
+impl Run {
+    pub fn new() -> Run {
+        Run {
+            random: Random::new(1),
+            counts: Counts::default(),
+            seed: 0,
+        }
+    }
+
+    /// A run from Load. Lines on the way.
+    pub fn play(&mut self, seed: u64) -> Vec<Line> {
+        self.seed = seed;
+        let mut random = Random::new(seed);
+        let plan = any_plan(&mut random);
+        let states = States::load(&mut self.random, &plan)
+            .unwrap_or_else(|wrong| compare::fail("Load", &wrong, &plan.write()));
+        practice::play(&mut random, &mut self.playing(states, on::LOADED))
+    }
+
+    /// The last steps that there can be, and one more of each kind.
+    pub fn play_to_the_end(&mut self, seed: u64, worn: &Line) {
+        self.seed = seed;
+        let mut random = Random::new(seed);
+        let states = States::of(&mut self.random, &line_bytes(worn));
+        let mut playing = self.playing(states, on::WORN);
+        practice::play_to_the_end(&mut random, &mut playing);
+        let mut states = playing.states;
+        self.try_every_frame(&mut random, &mut states, on::WORN);
+    }
+
+    fn playing(&mut self, states: States, kind: &'static str) -> Playing<'_> {
+        Playing {
+            run: self,
+            states,
+            kind,
+        }
+    }
+
+    /// What is made of the lines: undamaged states that no run leads to, and
+    /// damaged ones.
+    pub fn change(&mut self, seed: u64, lines: &[Line]) {
+        self.seed = seed;
+        let mut random = Random::new(!seed);
+        for line in lines {
+            let mut states = States::of(&mut self.random, &line_bytes(line));
+            self.try_every_frame(&mut random, &mut states, on::LOADED);
+            self.try_wrong_frames(&mut random, &mut states, on::LOADED);
+        }
+        let mut drawn = Random::new(seed);
+        practice::damaged(&mut random, lines, &mut |case| {
+            self.case(&mut drawn, case, &lines[0])
+        });
+    }
+
+    fn case(&mut self, random: &mut Random, case: &Case, line: &Line) {
+        let mut states = States::of(&mut self.random, case.state);
+        if states.line.is_none() {
+            self.counts
+                .add(section::DAMAGED, format!("{:?}", case.kind));
+            let frame = stray(random, line);
+            self.call(&mut states, on::DAMAGED, with::TYPED, &frame, false);
+            return;
+        }
+        match case.kind {
+            Kind::Harmless => {
+                self.counts.add(section::HARMLESS, case.name);
+                self.try_every_frame(random, &mut states, on::CHANGED);
+            }
+            Kind::Disturbed => self.try_every_frame(random, &mut states, on::CHANGED),
+            _ => {
+                let mut playing = self.playing(states, on::CHANGED);
+                let mut practice = Practice::new(random);
+                for _ in 0..4 {
+                    let frame = practice.frame(random, playing.line());
+                    playing.step(&frame);
+                }
+            }
+        }
+    }
+
+    /// A router that recovers from what no run leaves its children, and the
+    /// replay as far as it goes.
+    pub fn tear(&mut self, seed: u64) {
+        self.seed = seed;
+        let mut random = Random::new(seed);
+        let (line, router) = torn(&mut random);
+        let mut states = States::of(&mut self.random, &line_bytes(&line));
+        if states.line.is_none() {
+            compare::fail("torn", "damaged", &states.bytes);
+        }
+        if random.one_in(4) {
+            self.try_every_frame(&mut random, &mut states, on::TORN);
+        }
+        let mut playing = self.playing(states, on::TORN);
+        let node = router as u8;
+        playing.step(&Frame::Recover { node }.write());
+        for _ in 0..random.pick(&[8, 150, 150]) {
+            let taken = replay_on(&mut random, &mut playing);
+            if taken.is_none_or(|answer| answer == NO_REPLAY) {
+                break;
+            }
+        }
+        let mut states = playing.states;
+        if random.one_in(4) {
+            self.try_every_frame(&mut random, &mut states, on::TORN);
+        }
+    }
+
+    /// The staged lines, with every frame; their replays to the end.
+    pub fn stage(&mut self) {
+        self.seed = 0;
+        let mut random = Random::new(0);
+        for line in [
+            staged::fresh(),
+            staged::mixed(),
+            staged::full(),
+            staged::nearly_full(),
+            staged::replaying(),
+            staged::down(),
+        ] {
+            let state = line_bytes(&line);
+            let mut states = States::of(&mut self.random, &state);
+            self.try_every_frame(&mut random, &mut states, on::STAGED);
+            for _ in 0..STAGED_RUNS {
+                let states = States::of(&mut self.random, &state);
+                let mut playing = self.playing(states, on::STAGED);
+                for node in 0..line.nodes.len() as u8 {
+                    playing.step(&Frame::Recover { node }.write());
+                }
+                while replay_on(&mut random, &mut playing).is_some() {}
+            }
+        }
+    }
+
+    fn try_every_frame(&mut self, random: &mut Random, states: &mut States, kind: &'static str) {
+        let line = states.line.as_ref().expect("an undamaged state");
+        for frame in every_frame(random, line) {
+            self.call(states, kind, with::EVERY, &frame, false);
+        }
+    }
+
+    fn try_wrong_frames(&mut self, random: &mut Random, states: &mut States, kind: &'static str) {
+        let line = states.line.as_ref().expect("an undamaged state");
+        for frame in cut_frames(random, line) {
+            self.call(states, kind, with::CUT, &frame, false);
+        }
+        for _ in 0..WRONG {
+            for frame in random_frames(random) {
+                self.call(states, kind, with::RANDOM, &frame, false);
+            }
+            let line = states.line.as_ref().expect("an undamaged state");
+            let frame = stray(random, line);
+            self.call(states, kind, with::TYPED, &frame, false);
+        }
+    }
+
+    /// The answer. Goes on from an accepted step, or back to before it.
+    fn call(
+        &mut self,
+        states: &mut States,
+        kind: &'static str,
+        made: &'static str,
+        frame: &[u8],
+        goes_on: bool,
+    ) -> u32 {
+        let after = states
+            .call(&mut self.random, frame)
+            .unwrap_or_else(|wrong| {
+                let told = format!("seed {}, {kind}, frame {frame:02X?}", self.seed);
+                compare::fail(&told, &wrong, &states.bytes)
+            });
+        self.counts.add(section::CALLS, floors::ALL);
+        self.counts.add(section::CALLS, kind);
+        self.counts.add(section::FRAMES, made);
+        let answer = after.as_ref().err().copied().unwrap_or(0);
+        self.counts.add(section::ANSWERS, compare::answer(answer));
+        if let (Some(before), Ok(frame)) = (&states.line, Frame::read(frame)) {
+            let outcome = after.as_ref().map(|(line, _)| line);
+            self.count(&Stepped {
+                before,
+                frame,
+                after: outcome.map_err(|&refusal| refusal),
+            });
+        }
+        match after {
+            Ok((line, bytes)) if goes_on => states.go_on(line, bytes),
+            Ok(_) => states.go_back(),
+            Err(_) => {}
+        }
+        answer
+    }
+
+    fn count(&mut self, step: &Stepped) {
+        let row = floors::kind(&step.frame, step.after.is_ok());
+        self.counts.add(section::KINDS, row);
+        for event in EVENTS.iter().filter(|event| (event.is_it)(step)) {
+            self.counts.add(section::EVENTS, event.name);
+        }
+    }
+}

@@ -1,0 +1,112 @@
+// A state as the model's line, and as the bytes of those that are compared with
+// it.
+
+use model::answer::{ACCEPTED, STATE};
+use model::compare::{same_answers, Compared, Lent};
+use model::engine;
+use model::line::{stepped, Line};
+use model::plan::Plan;
+use model::random::Random;
+use model::state::{self, direct, line_bytes, undamaged, LENGTH};
+
+struct Beside {
+    name: &'static str,
+    load: fn(&[u8], &mut [u8]) -> u32,
+    step: fn(&mut [u8], &[u8]) -> u32,
+}
+
+const BESIDE: &[Beside] = &[
+    Beside {
+        name: "step in place",
+        load: state::load,
+        step: direct::step,
+    },
+    Beside {
+        name: "engine",
+        load: engine::load,
+        step: engine::step,
+    },
+];
+
+pub fn names() -> String {
+    let names: Vec<&str> = BESIDE.iter().map(|beside| beside.name).collect();
+    names.join(", ")
+}
+
+pub struct States {
+    /// None where the state is damaged.
+    pub line: Option<Line>,
+    pub bytes: Vec<u8>,
+    /// One for each of those beside the model.
+    lent: Vec<Lent>,
+}
+
+/// The line after an accepted step with its bytes, or the refusal.
+pub type After = Result<(Line, Vec<u8>), u32>;
+
+impl States {
+    /// All of them by Load.
+    pub fn load(random: &mut Random, plan: &Plan) -> Compared<States> {
+        let line = Line::of(plan.clone());
+        let bytes = line_bytes(&line);
+        let mut loaded = Vec::new();
+        for beside in BESIDE {
+            let before = random.bytes(LENGTH);
+            let mut lent = Lent::new(random, &before);
+            let answer = (beside.load)(&plan.write(), lent.bytes_mut());
+            same_answers(beside.name, answer, ACCEPTED)?;
+            lent.holds("state", &bytes)?;
+            loaded.push(lent);
+        }
+        Ok(States {
+            line: Some(line),
+            bytes,
+            lent: loaded,
+        })
+    }
+
+    pub fn of(random: &mut Random, bytes: &[u8]) -> States {
+        let lent = BESIDE.iter().map(|_| Lent::new(random, bytes));
+        States {
+            lent: lent.collect(),
+            line: undamaged(bytes),
+            bytes: bytes.to_vec(),
+        }
+    }
+
+    /// The call of each beside the model's, on its own bytes. The line stays.
+    pub fn call(&mut self, random: &mut Random, frame: &[u8]) -> Compared<After> {
+        let after = match &self.line {
+            None => Err(STATE),
+            Some(line) => stepped(line, frame),
+        };
+        let after = after.map(|line| {
+            let bytes = line_bytes(&line);
+            (line, bytes)
+        });
+        let (answer, expected) = match &after {
+            Ok((_, bytes)) => (ACCEPTED, bytes),
+            Err(refusal) => (*refusal, &self.bytes),
+        };
+        let lent_frame = Lent::new(random, frame);
+        for (beside, lent) in BESIDE.iter().zip(&mut self.lent) {
+            let given = (beside.step)(lent.bytes_mut(), lent_frame.bytes());
+            same_answers(beside.name, given, answer)?;
+            lent.holds("state", expected)?;
+            lent_frame.holds("frame", frame)?;
+        }
+        Ok(after)
+    }
+
+    pub fn go_on(&mut self, line: Line, bytes: Vec<u8>) {
+        self.line = Some(line);
+        self.bytes = bytes;
+    }
+
+    /// To before the call.
+    pub fn go_back(&mut self) {
+        for lent in &mut self.lent {
+            lent.bytes_mut().copy_from_slice(&self.bytes);
+        }
+    }
+}

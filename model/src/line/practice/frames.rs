@@ -1,0 +1,113 @@
+//! Frames of all kinds, right and wrong.
+
+use super::drawn_record;
+use crate::line::{Frame, Line};
+use crate::random::Random;
+use crate::record::Record;
+
+/// A frame as people type: any place and record, now and then a byte changed,
+/// lost or added.
+pub fn stray(random: &mut Random, line: &Line) -> Vec<u8> {
+    let near = random.index(line.queues.len().max(line.nodes.len()) + 2) as u8;
+    let any = random.draw() as u8;
+    let place = random.pick(&[near, near, near, any]);
+    let frames = frames_at(place, typed_record(random));
+    let mut bytes = random.pick(&frames).write();
+    match random.index(8) {
+        0 => {
+            let index = random.index(bytes.len());
+            bytes[index] = random.draw() as u8;
+        }
+        1 => {
+            bytes.pop();
+        }
+        2 => bytes.push(random.draw() as u8),
+        3 => bytes[3] = random.pick(&[0, 6, 7, 255]),
+        _ => {}
+    }
+    bytes
+}
+
+fn typed_record(random: &mut Random) -> [u8; Record::LENGTH] {
+    let mut record = Record {
+        piece: random.draw() as u32,
+        material: random.pick(&[0, 15, 16, 255]),
+        mass: random.draw() as u16,
+    }
+    .write();
+    if random.one_in(4) {
+        record[5] = random.pick(&[1, 128, 255]);
+    }
+    record
+}
+
+/// One of each kind.
+fn frames_at(place: u8, record: [u8; Record::LENGTH]) -> [Frame; 5] {
+    [
+        Frame::Feed {
+            node: place,
+            record,
+        },
+        Frame::Send { channel: place },
+        Frame::Take { channel: place },
+        Frame::Crash { node: place },
+        Frame::Recover { node: place },
+    ]
+}
+
+/// Each kind at each place that the line has, and at some that it has not.
+pub fn every_frame(random: &mut Random, line: &Line) -> Vec<Vec<u8>> {
+    let places = line.queues.len().max(line.nodes.len()) as u8;
+    let mut frames = Vec::new();
+    for place in (0..=places).chain([254, 255]) {
+        let piece = random.draw() as u32;
+        let right = drawn_record(random, piece).write();
+        let typed = typed_record(random);
+        let record = random.pick(&[right, right, right, typed]);
+        frames.extend(frames_at(place, record).map(|frame| frame.write()));
+    }
+    frames
+}
+
+/// Each kind cut short everywhere and a byte too long, with the length field that
+/// it had and with the right one.
+pub fn cut_frames(random: &mut Random, line: &Line) -> Vec<Vec<u8>> {
+    let place = random.index(line.nodes.len()) as u8;
+    let mut cut = Vec::new();
+    for frame in frames_at(place, typed_record(random)) {
+        let whole = frame.write();
+        for length in 0..=whole.len() + 1 {
+            let mut bytes = whole.clone();
+            bytes.resize(length, 0);
+            cut.push(bytes.clone());
+            if length >= 2 {
+                bytes[1] = length as u8;
+                cut.push(bytes);
+            }
+        }
+    }
+    cut
+}
+
+/// Bytes of any number, behind no head, the right length, or that and the right
+/// version; and a frame whose length is right but for the bits that the field
+/// lacks.
+pub fn random_frames(random: &mut Random) -> Vec<Vec<u8>> {
+    let heads: [&[u8]; 4] = [&[], &[0], &[0, 0], &[0, 0, Frame::VERSION]];
+    let mut frames = Vec::new();
+    for head in heads {
+        let length = random.pick(&[5, 13, 300]);
+        for length in [random.index(20).max(head.len()), length] {
+            let mut bytes = random.bytes(length);
+            bytes[..head.len()].copy_from_slice(head);
+            if head.len() >= 2 {
+                bytes[..2].copy_from_slice(&(length as u16).to_be_bytes());
+            }
+            frames.push(bytes);
+        }
+    }
+    let mut long = random.pick(&frames_at(0, [0; Record::LENGTH])).write();
+    long.resize(long.len() + (1 << 16), 0);
+    frames.push(long);
+    frames
+}

@@ -1,0 +1,161 @@
+//! Routers down between sources and sinks whose logs no frames leave so. Their
+//! Recover finds targets that agree, that conflict, that are too many or whose
+//! rows are complete at once; what the sources then send can be placed, or not.
+
+use crate::line::{Entry, Line, Message, Node, Origin, Status};
+use crate::plan::{Channel, Plan};
+use crate::random::Random;
+use crate::record::Record;
+use crate::rule::Rule;
+
+/// Sink `c` takes the materials that have bit `c`.
+const MASKS: [u16; Plan::MOST_AT_A_NODE] = [0xAAAA, 0xCCCC, 0xF0F0, 0xFF00];
+
+/// What a router logged at one of its times.
+struct Made {
+    time: u32,
+    input: Origin,
+    material: u8,
+}
+
+/// The line, and its router.
+pub fn torn(random: &mut Random) -> (Line, usize) {
+    let sources = random.between(1, 4) as usize;
+    let sinks = random.pick(&[1, 2, 3, 3, 4, 4]);
+    let mut line = Line::of(plan(random, sources, sinks));
+    let high = random.pick(&[2, 4, 8, 20, 100]);
+    let made = drawn_made(random, sources, high);
+    line.steps = if random.one_in(16) {
+        Line::MOST_STEPS - 1
+    } else {
+        1_000
+    };
+    for source in 0..sources {
+        fill_source(random, &mut line.nodes[source], source, &made);
+    }
+    let is_right = !random.one_in(4);
+    for (sink, mask) in MASKS.into_iter().take(sinks).enumerate() {
+        let any = random.between(0, high);
+        let entry = random.pick(&[any, any, high]);
+        let node = &mut line.nodes[sources + 1 + sink];
+        node.clock.raise_taken(sources, entry);
+        let made = made.iter().filter(|made| made.time <= entry);
+        for made in made.filter(|made| mask >> made.material & 1 == 1) {
+            log_made(random, node, sources, made, is_right);
+        }
+    }
+    line.nodes[sources].status = Status::Down;
+    line.nodes[sources].crash_marked = true;
+    (line, sources)
+}
+
+fn plan(random: &mut Random, sources: usize, sinks: usize) -> Plan {
+    let channel = |sender, receiver, mask| Channel {
+        sender,
+        receiver,
+        mask,
+        modulus: 1,
+        remainder: 0,
+    };
+    let entering = (0..sources).map(|source| channel(source, sources, 0xFFFF));
+    let leaving = (0..sinks).map(|sink| channel(sources, sources + 1 + sink, MASKS[sink]));
+    let mut rules = vec![Rule::Keep; sources + 1 + sinks];
+    rules[sources] = random.pick(&[
+        Rule::Keep,
+        Rule::Keep,
+        Rule::Cap { greatest: 7 },
+        Rule::Relabel { from: 5, to: 0 },
+    ]);
+    Plan {
+        rules,
+        channels: entering.chain(leaving).collect(),
+    }
+}
+
+/// Most times up to high, each from another input; along a parent inputs rise.
+fn drawn_made(random: &mut Random, sources: usize, high: u32) -> Vec<Made> {
+    let mut last = vec![0; sources];
+    let gap = random.pick(&[1, 1, 1, 1, 2, 3]);
+    let empty = random.pick(&[2, 4, 16]);
+    let mut made = Vec::new();
+    for time in 1..=high {
+        if random.one_in(empty) {
+            continue;
+        }
+        let sender = random.index(sources);
+        last[sender] += random.between(1, gap);
+        made.push(Made {
+            time,
+            input: Origin {
+                sender,
+                time: last[sender],
+            },
+            material: random.between(1, 15) as u8,
+        });
+    }
+    made
+}
+
+/// All that was made from the source, and what was between, as far as there is
+/// room.
+fn fill_source(random: &mut Random, node: &mut Node, source: usize, made: &[Made]) {
+    let of_source = made.iter().filter(|made| made.input.sender == source);
+    let last = of_source.clone().map(|made| made.input.time).max();
+    let misses = random.pick(&[8, 1_000, 1_000]);
+    for time in 1..=last.unwrap_or(0) + random.between(0, 70) {
+        let known = of_source.clone().find(|made| made.input.time == time);
+        let any = random.index(16) as u8;
+        if node.log.len() < Line::MOST_ENTRIES && !random.one_in(misses) {
+            let material = known.map_or(any, |made| made.material);
+            node.log.push(entry(random, time, material, None, None));
+        }
+        node.clock.time = time;
+    }
+}
+
+/// A sink logs what it took, if there is room. One in some is told otherwise than
+/// it was, unless all is to be right.
+fn log_made(random: &mut Random, node: &mut Node, router: usize, made: &Made, is_right: bool) {
+    if node.log.len() == Line::MOST_ENTRIES {
+        return;
+    }
+    let (mut time, mut input) = (made.time, made.input);
+    if !is_right && random.one_in(6) {
+        match random.index(3) {
+            0 => time = random.between(1, node.clock.taken(router)),
+            1 => input.time = random.between(1, 20),
+            _ => input.sender = random.index(router),
+        }
+    }
+    let sender = Origin {
+        sender: router,
+        time,
+    };
+    node.clock.raise_heard(router, input.sender, input.time);
+    node.clock.time += 1;
+    let own = node.clock.time;
+    let logged = entry(random, own, made.material, Some(sender), Some(input));
+    node.log.push(logged);
+}
+
+fn entry(
+    random: &mut Random,
+    time: u32,
+    material: u8,
+    made_from: Option<Origin>,
+    input_made_from: Option<Origin>,
+) -> Entry {
+    let record = Record {
+        piece: random.draw() as u32,
+        material,
+        mass: random.pick(&[0, 7, 8, 65_535]),
+    };
+    Entry {
+        message: Message {
+            record,
+            time,
+            made_from,
+        },
+        input_made_from,
+    }
+}
