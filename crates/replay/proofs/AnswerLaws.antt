@@ -1,5 +1,5 @@
 -- What a Take of a replaying node answers and leaves, by what the code finds: the receiver n, the record h as it would be held, and whether it goes on.
-use Prim.Native.Nat.{ℕ, zero, suc, _≤_, _<_}
+use Prim.Native.Nat.{ℕ, _≤_, _<_}
 use mathlib.Core.Path.{_≡_, refl, sym, ap, ap₂, subst, _∙_}
 use mathlib.Core.Bool.{Bool, true, false, _&&_}
 use mathlib.Core.List.{List, [], _∷_, _++_}
@@ -16,7 +16,7 @@ use Rattle.rules.specs.Recover.{rowGoal, rowComplete}
 use Rattle.rules.specs.Replay.{passedOn, entryAt, replayEnd}
 use Rattle.rules.specs.Step.{noStepsLeft, endDown, replaying, isNothing, effect, lineRefusal}
 use Rattle.rules.specs.Damaged.{isParent}
-use Rattle.rules.proofs.lists.Members.{In, here, there, in-map, map-in, in-right, any-in}
+use Rattle.rules.proofs.lists.Members.{in-map, map-in, in-right, any-in}
 use Rattle.rules.proofs.line.Joins.{entering-in}
 use Rattle.rules.proofs.steps.PlanOrder.{ordered-channels}
 use Rattle.rules.proofs.undamaged.Standing.{Empties, Sound}
@@ -28,16 +28,12 @@ use Rattle.buffer.specs.Nothing.{noHeld, noMessage}
 use Rattle.buffer.specs.Holds.{Holds, Undamaged, Did}
 use Rattle.buffer.proofs.HoldsLaws.{holds-channels}
 use Rattle.passing.proofs.RefusalLaws.{refused, accepted}
+use Rattle.replay_items.proofs.ItemLaws.{in-at}
 use Rattle.replay_table.specs.Ends.{heldWith, loggedFrom, Ends}
 use Rattle.replay.specs.After.{rowsAfter, wouldHold, First, takenNow, heldMore, endedNode, Loggable}
 use Rattle.replay.proofs.TakeLaws.{inside, as-in, goes-on, comes-up, ended-is, number-is}
 
 -- ---- what an undamaged line says of a replaying node
-
-in-at : {A : Type 0} (xs : List A) (i : ℕ) (d : A) → i < length xs → In (getD xs i d) xs
-in-at [] i d h = let no : ⊥ = omega arith in absurd no
-in-at (x ∷ xs) zero d h = here
-in-at (x ∷ xs) (suc i) d h = there (in-at xs i d (omega arith))
 
 module _ (l : Line) (sound : Sound l) (n : ℕ) (within : n < nodeCount (l .plan)) where
   parent-small : (q : ℕ) → isParent (l .plan) n q ≡ true → q < 255

@@ -1,15 +1,17 @@
 -- A held record as it is read: itself, its fixed column and its floor.
-use Prim.Native.Nat.{ℕ, suc, _+_, _-_, _^_, _≤_, _<_, max}
+use Prim.Native.Nat.{ℕ, zero, suc, _+_, _-_, _^_, _≤_, _<_, max}
 use mathlib.Core.Path.{_≡_, refl, sym, ap, _∙_}
 use mathlib.Core.Logic.{_≢_}
-use mathlib.Core.Bool.{Bool, true, false, cond, _&&_}
+use mathlib.Core.Logic.{_⊎_, inl, inr}
+use mathlib.Core.Bool.{Bool, true, false, cond, _&&_, or-true, true≢false}
 use mathlib.Core.List.{List, [], _∷_, _++_, map}
 use native.Mathlib.Omega.{arith}
 use native.Mathlib.Nat.{lt-of-not-le}
-use native.Mathlib.Numerals.{add-one}
+use borrow.Author.Tests.{eqb-true, eq-eqb}
 use lib.Dec.{eqb}
-use lib.ListN.{length, getD, drop, length-append, length-map, List·getD-append, List·getD-map, drop-of-length-le}
-use lib.Seq.{getD-take, getD-append-seam, drop-cons, length-take-le}
+use Rattle.basics.specs.Bools.{both-true, neither-true, below-or-not}
+use lib.ListN.{length, getD, length-append, length-map, List·getD-append, List·getD-map, List·getD-eq-default}
+use lib.Seq.{getD-take, getD-append-seam, length-take-le}
 use lib.Pow.{pow-mono}
 use Rattle.plan.specs.declared.Record.{Record}
 use Rattle.plan.specs.Plan.{planOf, planChannels, leaving}
@@ -17,10 +19,11 @@ use Rattle.plan.specs.Mask.{maskOf, Rising, channelsIn, taking, planMask, First
 use Rattle.plan.proofs.MaskLaws.{rising-lower, channels-listed, taking-rise, mask-few}
 use Rattle.plan.proofs.TakingLaws.{taking-listed}
 use Rattle.plan.proofs.PlanLaws.{channel-count}
-use Rattle.rules.specs.Lists.{keep, keepOne, greatestOf}
+use Rattle.rules.specs.Lists.{keep, keepOne, anyOf, greatestOf}
 use Rattle.rules.specs.Line.{Held, Target, nodeAt, laneAt}
+use Rattle.rules.specs.Recover.{clash, conflict}
 use Rattle.rules.specs.Replay.{fixedAt, floorOf}
-use Rattle.rules.proofs.lists.Members.{In, here, there}
+use Rattle.rules.proofs.lists.Members.{In, here, there, none-any}
 use Rattle.rules.proofs.line.Joins.{taking-in}
 use Rattle.state.specs.State.{lineOf}
 use Rattle.state.proofs.InPlace.{line-plan}
@@ -28,7 +31,7 @@ use Rattle.slots.specs.Slots.{heldIs}
 use Rattle.buffer.specs.Ready.{Ready}
 use Rattle.buffer.specs.Nothing.{noHeld, noTarget}
 use Rattle.replay_items.specs.declared.Ending.{Ending}
-use Rattle.replay_items.specs.Items.{heldBy, Asked, spotAt, isSpot, Listed, goalSpot}
+use Rattle.replay_items.specs.Items.{heldBy, Asked, spotAt, isSpot, Sought, Listed, goalSpot, goalSpots}
 use Rattle.replay_items.proofs.PairLaws.{listed-at}
 
 -- ---- the held records, stored and last
@@ -51,37 +54,78 @@ module _ (s : List ℕ) (e : Ending) (a : Asked s e) where
         ∙ ap (λ (j : ℕ). getD (stored ++ heldIs (e .last) ∷ []) j noHeld) is
         ∙ getD-append-seam stored (heldIs (e .last)) [] noHeld
 
--- ---- the fixed column, target by target
+-- ---- the fixed column
 
 abbrev pub isTarget : Held → Target → Bool
 isTarget h t = eqb (t .parent) (h .sender) && eqb (t .parentTime) (h .time)
 
-pub record FixedTo (ts : List Target) (h : Held) (i fixed : ℕ) : Type 0 where
-  pub within : i ≤ length ts
-  pub now : max fixed (fixedAt (drop i ts) h) ≡ fixedAt ts h
+-- Two targets that are one record clash.
+both-clash : (h : Held) (t u : Target) → isTarget h t ≡ true → isTarget h u ≡ true → clash t u ≡ true
+both-clash h t u e f =
+    let (a, b) = both-true (eqb (t .parent) (h .sender)) (eqb (t .parentTime) (h .time)) e in
+    let (c, d) = both-true (eqb (u .parent) (h .sender)) (eqb (u .parentTime) (h .time)) f in
+    let parent : t .parent ≡ u .parent = eqb-true (t .parent) (h .sender) a ∙ sym (eqb-true (u .parent) (h .sender) c) in
+    let time : t .parentTime ≡ u .parentTime = eqb-true (t .parentTime) (h .time) b ∙ sym (eqb-true (u .parentTime) (h .time) d) in
+    rw (eq-eqb (t .parent) (u .parent) parent, eq-eqb (t .parentTime) (u .parentTime) time) (or-true (eqb (t .time) (u .time)))
 
-module _ (ts : List Target) (h : Held) where
-  pub fixed-start : FixedTo ts h 0 0
-  fixed-start = record { within = omega arith; now = omega arith }
+fixed-cons : (h : Held) (t : Target) (ts : List Target) (b : Bool) → isTarget h t ≡ b → fixedAt (t ∷ ts) h ≡ cond b (max (t .time) (fixedAt ts h)) (fixedAt ts h)
+fixed-cons h t ts b e = ap (λ (x : Bool). greatestOf (map (λ (u : Target). u .time) (keepOne x t (keep (isTarget h) ts)))) e ∙ one b
+  where
+    one : (x : Bool) → greatestOf (map (λ (u : Target). u .time) (keepOne x t (keep (isTarget h) ts))) ≡ cond x (max (t .time) (fixedAt ts h)) (fixedAt ts h)
+    one true = refl
+    one false = refl
 
-  fixed-one : (b : Bool) (fixed : ℕ) (t : Target) (rest : List Target) → max fixed (greatestOf (map (λ (t : Target). t .time) (keepOne b t (keep (isTarget h) rest)))) ≡ max (cond b (max fixed (t .time)) fixed) (fixedAt rest h)
-  fixed-one true fixed t rest = omega arith
-  fixed-one false fixed t rest = refl
+not-true-false : (b : Bool) → (b ≡ true → ⊥) → b ≡ false
+not-true-false true d = absurd (d refl)
+not-true-false false d = refl
 
-  pub fixed-turn : (i fixed : ℕ) (t : Target) → i < length ts → t ≡ getD ts i noTarget → FixedTo ts h i fixed → FixedTo ts h (i + 1) (cond (isTarget h t) (max fixed (t .time)) fixed)
-  fixed-turn i fixed t l e k =
-      rw (add-one i) (record {
-        within = l;
-        now = sym (rw (drop-cons ts i noTarget l, ← e) (fixed-one (isTarget h t) fixed t (drop (suc i) ts))) ∙ k .now;
-      })
+pub in-at : {A : Type 0} (xs : List A) (i : ℕ) (d : A) → i < length xs → In (getD xs i d) xs
+in-at [] i d h = let no : ⊥ = omega arith in absurd no
+in-at (x ∷ xs) zero d h = here
+in-at (x ∷ xs) (suc i) d h = there (in-at xs i d (omega arith))
 
-  pub fixed-end : (i fixed : ℕ) → length ts ≤ i → FixedTo ts h i fixed → fixed ≡ fixedAt ts h
-  fixed-end i fixed l k = omega (arith, rw (drop-of-length-le ts l) at (k .now))
+-- No target is the record: it is free.
+pub fixed-none : (ts : List Target) (h : Held) → ((j : ℕ) → j < length ts → isTarget h (getD ts j noTarget) ≡ false) → fixedAt ts h ≡ 0
+fixed-none [] h f = refl
+fixed-none (t ∷ ts) h f = fixed-cons h t ts false (f zero (omega arith)) ∙ fixed-none ts h (λ j l. f (suc j) (omega arith))
+
+-- One is: it is fixed at that one's time, since no other is.
+pub fixed-found : (ts : List Target) (h : Held) (i : ℕ) → conflict ts ≡ false → i < length ts → isTarget h (getD ts i noTarget) ≡ true → fixedAt ts h ≡ getD ts i noTarget .time
+fixed-found [] h i q l e = let no : ⊥ = omega arith in absurd no
+fixed-found (t ∷ ts) h zero q l e =
+    let apart = neither-true (anyOf (clash t) ts) (conflict ts) q .0 in
+    let others : fixedAt ts h ≡ 0 = fixed-none ts h (λ j k. not-true-false (isTarget h (getD ts j noTarget)) (λ f. true≢false (sym (both-clash h t (getD ts j noTarget) e f) ∙ none-any (clash t) apart (in-at ts j noTarget k)))) in
+    fixed-cons h t ts true e ∙ omega (arith, others)
+fixed-found (t ∷ ts) h (suc i) q l e =
+    let (apart, rest) = neither-true (anyOf (clash t) ts) (conflict ts) q in
+    let not-this : isTarget h t ≡ false = not-true-false (isTarget h t) (λ f. true≢false (sym (both-clash h t (getD ts i noTarget) f e) ∙ none-any (clash t) apart (in-at ts i noTarget (omega arith)))) in
+    fixed-cons h t ts false not-this ∙ fixed-found ts h i rest (omega arith) e
 
 -- A target's pair is a record's exactly if the target is the record.
 pub goal-is : (ts : List Target) (h : Held) (xs : List ℕ) (i : ℕ) → i < length ts → Listed xs (map goalSpot ts) → isSpot (h .sender) (h .time) (spotAt xs i) ≡ isTarget h (getD ts i noTarget)
 goal-is ts h xs i l k =
     ap (isSpot (h .sender) (h .time)) (listed-at xs (map goalSpot ts) i (goalSpot noTarget) (omega (arith, length-map ts goalSpot)) k ∙ List·getD-map goalSpot ts i noTarget)
+
+-- Where a record's pair is looked for among the targets', the time there is its fixed column.
+module _ (s : List ℕ) (e : Ending) (a : Asked s e) (xs : List ℕ) (listed : Listed xs (goalSpots s e)) (h : Held) (from r : ℕ) (k : Sought xs (e .targets) (h .sender) (h .time) from r) where
+  abbrev goals : List Target
+  goals = nodeAt (lineOf s) (e .node) .targets
+
+  pub sought-found : r < e .targets → getD (nodeAt (lineOf s) (e .node) .targets) r noTarget .time ≡ fixedAt (nodeAt (lineOf s) (e .node) .targets) h
+  sought-found l =
+      let below : r < length goals = omega (arith, a .goals) in
+      sym (fixed-found goals h r (a .agreed) below (sym (goal-is goals h xs r below listed) ∙ k .found l))
+
+  pub sought-all : from ≡ 0 → getD (nodeAt (lineOf s) (e .node) .targets) r noTarget .time ≡ fixedAt (nodeAt (lineOf s) (e .node) .targets) h
+  sought-all z = one (below-or-not r (e .targets))
+    where
+      one : (r < e .targets) ⊎ (e .targets ≤ r) → getD goals r noTarget .time ≡ fixedAt goals h
+      one (inl l) = sought-found l
+      one (inr l) =
+          let past : length goals ≤ r = omega (arith, a .goals) in
+          let end : r ≡ e .targets = omega (arith, k .within) in
+          ap (λ (t : Target). t .time) (List·getD-eq-default goals noTarget past)
+          ∙ sym (fixed-none goals h (λ j q. sym (goal-is goals h xs j q listed) ∙ k .nowhere end j (omega arith) (omega (arith, a .goals))))
 
 -- ---- what is left of a mask, channel by channel
 

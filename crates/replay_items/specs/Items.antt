@@ -1,7 +1,7 @@
 -- What the end of a replay is asked of, pairs of numbers in one array, and the replay table as the code lays it out.
-use Prim.Native.Nat.{ℕ, zero, suc, _+_, _≤_}
+use Prim.Native.Nat.{ℕ, zero, suc, _+_, _≤_, _<_}
 use mathlib.Core.Path.{_≡_}
-use mathlib.Core.Bool.{Bool, _&&_}
+use mathlib.Core.Bool.{Bool, true, false, _&&_}
 use mathlib.Core.List.{List, [], _∷_, _++_, map}
 use lib.ListN.{length, getD, set, take, drop}
 use lib.Dec.{eqb}
@@ -9,6 +9,7 @@ use Rattle.plan.specs.Plan.{planOf, keepIf, numbersFrom, leaving}
 use Rattle.plan.specs.Mask.{planMask}
 use Rattle.placing.specs.Item.{Item}
 use Rattle.rules.specs.Line.{heldLimit, targetLimit, logLimit, Held, Target, Line, nodeAt, senderOf}
+use Rattle.rules.specs.Recover.{conflict}
 use Rattle.rules.specs.Replay.{itemOf}
 use Rattle.state.specs.State.{lineOf}
 use Rattle.slots.specs.Slots.{heldIs}
@@ -29,6 +30,7 @@ pub record Asked (s : List ℕ) (e : Ending) : Type 0 where
   pub few : e .held ≤ heldLimit
   pub goals : e .targets ≡ length (nodeAt (lineOf s) (e .node) .targets)
   pub goals-few : e .targets ≤ targetLimit
+  pub agreed : conflict (nodeAt (lineOf s) (e .node) .targets) ≡ false
 
 -- ---- pairs of numbers, 64 places for each
 
@@ -53,6 +55,12 @@ spotsIn out i (suc m) = spotAt out i ∷ spotsIn out (suc i) m
 -- Whether a pair is this one.
 abbrev pub isSpot : ℕ → ℕ → Spot → Bool
 isSpot number column x = eqb (x .number) number && eqb (x .column) column
+
+-- Looked for from a place on: found at r, or nowhere.
+pub record Sought (xs : List ℕ) (count number column from r : ℕ) : Type 0 where
+  pub within : r ≤ count
+  pub found : r < count → isSpot number column (spotAt xs r) ≡ true
+  pub nowhere : r ≡ count → (j : ℕ) → from ≤ j → j < count → isSpot number column (spotAt xs j) ≡ false
 
 -- The pairs that stand there.
 pub record Listed (xs : List ℕ) (ps : List Spot) : Type 0 where

@@ -1,7 +1,7 @@
 // What the end of a replay is worked out from, without writing the state: the replay table, gathered row by row, and whether all targets are held (document 01, "While B replays" and "Placing").
 ghost use mathlib.Core.Path.{_≡_};
 ghost use mathlib.Core.Bool.{true, cond};
-ghost use Prim.Native.Nat.{_+_, _-_, _^_, _≤_, _<_, max};
+ghost use Prim.Native.Nat.{_+_, _-_, _^_, _≤_, _<_};
 ghost use lib.ListN.{length, getD};
 ghost use lib.Dec.{eqb};
 ghost use Rattle.plan.specs.Plan.{planOf, leaving, entering};
@@ -12,7 +12,7 @@ ghost use Rattle.state.specs.State.{lineOf};
 ghost use Rattle.slots.specs.Slots.{heldIs};
 ghost use Rattle.buffer.specs.Holds.{AtNode};
 ghost use Rattle.buffer.specs.Nothing.{noHeld, noTarget};
-ghost use Rattle.replay_items.specs.Items.{heldBy, Asked, tableLong, pushed, oneSlot, rowSlots, slotsFrom, Filled, spot, spotAt, putSpot, isSpot, goalSpots, Listed};
+ghost use Rattle.replay_items.specs.Items.{heldBy, Asked, tableLong, pushed, oneSlot, rowSlots, slotsFrom, Filled, spot, spotAt, putSpot, isSpot, goalSpots, Listed, Sought};
 use buffer::Line;
 use buffer::bytes;
 use buffer::look;
@@ -86,32 +86,46 @@ fn goal_pairs(s: &[u8], e: Ending, xs: &mut [u32; 128])
 
 // ---- a held record's item
 
-// The greater of a column and a target's time, if the target is the record.
-fn fixed_with(s: &[u8], n: usize, i: usize, same: bool, fixed: u32) -> u32
-    requires { ⌜ AtNode (now s) n × (i < length (nodeAt (lineOf (now s)) n .targets)) ⌝ }
-    ensures { λ r. ⌜ r ≡ cond same (max fixed (getD (nodeAt (lineOf (now (s .entry))) n .targets) i noTarget .time)) fixed ⌝ }
+// The first pair from a place on that is this one, else how many there are.
+fn seek(xs: &[u32; 128], count: usize, number: u32, column: u32, from: usize) -> usize
+    requires { ⌜ (length (now xs) ≡ 128) × (count ≤ 64) × (from ≤ count) ⌝ }
+    ensures { λ r. ⌜ Sought (now (xs .entry)) count number column from r ⌝ }
 {
-    if same {
-        let g = node_fields::target_of(s, n, i);
-        bytes::greater(fixed, g.time)
-    } else {
-        fixed
+    let mut i = from;
+    while i < count {
+        if is_pair(xs, i, number, column) {
+            return i;
+        }
+        i += 1;
     }
+    i
 }
 
-// "A target is fixed at its B-time": 0 for a free record.
-fn fixed_of(s: &[u8], e: Ending, goals: &[u32; 128], h: Waiting) -> u32
+// A target's time, 0 past the last.
+fn time_at(s: &[u8], e: Ending, i: usize) -> u32
+    requires { ⌜ Asked (now s) e ⌝ }
+    ensures { λ r. ⌜ r ≡ getD (nodeAt (lineOf (now (s .entry))) (e .node) .targets) i noTarget .time ⌝ }
+{
+    if i < e.targets {
+        let g = node_fields::target_of(s, e.node, i);
+        return g.time;
+    }
+    0
+}
+
+// "A target is fixed at its B-time": 0 for a free record. No two targets are one record; it is looked for from a place on first, since rows often come again as they came before.
+fn fixed_of(s: &[u8], e: Ending, goals: &[u32; 128], h: Waiting, hint: usize) -> u32
     requires { ⌜ Asked (now s) e × Listed (now goals) (goalSpots (now s) e) ⌝ }
     ensures { λ r. ⌜ r ≡ fixedAt (nodeAt (lineOf (now (s .entry))) (e .node) .targets) (heldIs h) ⌝ }
 {
-    let mut fixed: u32 = 0;
-    let mut i: usize = 0;
-    while i < e.targets {
-        let same = is_pair(goals, i, h.sender as u32, h.time);
-        fixed = fixed_with(s, e.node, i, same, fixed);
-        i += 1;
+    if hint < e.targets {
+        let near = seek(goals, e.targets, h.sender as u32, h.time, hint);
+        if near < e.targets {
+            return time_at(s, e, near);
+        }
     }
-    fixed
+    let at = seek(goals, e.targets, h.sender as u32, h.time, 0);
+    time_at(s, e, at)
 }
 
 // A mask without a channel that is in it.
@@ -179,7 +193,7 @@ fn gather_one(
     if look::index(h.sender) != parent {
         return k;
     }
-    let fixed = fixed_of(s, e, goals, h);
+    let fixed = fixed_of(s, e, goals, h, i);
     let floor = floor_with(s, e, h, fixed);
     push(t, k, row, h.time, fixed, floor, i as u32);
     k + 1
