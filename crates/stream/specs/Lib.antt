@@ -1,0 +1,3 @@
+-- A sheet read block by block.
+pub mod Reading
+pub mod Blocks
