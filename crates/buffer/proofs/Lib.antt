@@ -6,3 +6,4 @@ pub mod LookLaws
 pub mod OriginLaws
 pub mod TableLaws
 pub mod HoldsLaws
+pub mod MaskWalk

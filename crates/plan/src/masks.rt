@@ -1,7 +1,7 @@
 // Sets of channels as masks: ones count them, trailing zeros give the next.
 ghost use mathlib.Core.Path.{_≡_};
 ghost use mathlib.Core.Bool.{cond};
-ghost use Prim.Native.Nat.{_+_, _^_, _<_};
+ghost use Prim.Native.Nat.{_+_, _-_, _^_, _≤_, _<_};
 ghost use Rattle.plan.specs.Plan.{planOf, numbersFrom, entering, leaving};
 ghost use Rattle.plan.specs.Mask.{picked, taking, someTakes, planMask, CountOf, FirstOf, TakingOf};
 use crate::Channel;
@@ -79,6 +79,14 @@ fn bit_of(b: u32) -> u32
     ensures { λ r. ⌜ r ≡ 2 ^ b ⌝ }
 {
     1 << b
+}
+
+// A mask without a channel that is in it.
+pub fn without(mask: u32, b: u32) -> u32
+    requires { ⌜ (b < 32) × (2 ^ b ≤ mask) ⌝ }
+    ensures { λ r. ⌜ r ≡ mask - 2 ^ b ⌝ }
+{
+    mask - bit_of(b)
 }
 
 // Of a mask's channels those that take a record, as a mask.

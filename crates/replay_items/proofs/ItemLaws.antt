@@ -25,6 +25,7 @@ use Rattle.rules.specs.Recover.{clash, conflict}
 use Rattle.rules.specs.Replay.{fixedAt, floorOf}
 use Rattle.rules.proofs.lists.Members.{In, here, there, none-any}
 use Rattle.rules.proofs.line.Joins.{taking-in}
+use Rattle.buffer.proofs.MaskWalk.{Left, Next, next, left-none}
 use Rattle.state.specs.State.{lineOf}
 use Rattle.state.proofs.InPlace.{line-plan}
 use Rattle.slots.specs.Slots.{heldIs}
@@ -126,45 +127,6 @@ module _ (s : List ℕ) (e : Ending) (a : Asked s e) (xs : List ℕ) (listed : L
           let end : r ≡ e .targets = omega (arith, k .within) in
           ap (λ (t : Target). t .time) (List·getD-eq-default goals noTarget past)
           ∙ sym (fixed-none goals h (λ j q. sym (goal-is goals h xs j q listed) ∙ k .nowhere end j (omega arith) (omega (arith, a .goals))))
-
--- ---- what is left of a mask, channel by channel
-
-pub record Left (m left : ℕ) (bs : List ℕ) : Type 0 where
-  pub rise : Rising 0 bs
-  pub is : left ≡ maskOf bs
-  pub small : left < 2 ^ 32
-  pub inside : (b : ℕ) → In b bs → b < m
-
-pub record Next (m left b : ℕ) (bs : List ℕ) : Type 0 where
-  pub rest : List ℕ
-  pub first : bs ≡ b ∷ rest
-  pub small : b < 32
-  pub bit : 2 ^ b ≤ left
-  pub below : b < m
-  pub after : Left m (left - 2 ^ b) rest
-
-pub next : (m left b : ℕ) (bs : List ℕ) → Left m left bs → left ≢ 0 → FirstOf left b → Next m left b bs
-next m left b [] k some first = absurd (some (k .is))
-next m left b (c ∷ cs) k some first =
-    let same : b ≡ c = first .listed (c ∷ cs) (k .rise) (k .is) in
-    let bit : 2 ^ b ≡ 2 ^ c = ap (λ (x : ℕ). 2 ^ x) same in
-    record {
-      rest = cs;
-      first = ap (λ (x : ℕ). x ∷ cs) (sym same);
-      small = lt-of-not-le (λ (z : 32 ≤ b). let p : 2 ^ 32 ≤ 2 ^ b = pow-mono z in omega (arith, k .is, k .small));
-      bit = omega (arith, k .is);
-      below = omega (arith, k .inside c here);
-      after = record {
-        rise = rising-lower 0 (suc c) cs (omega arith) (k .rise .1);
-        is = omega (arith, k .is);
-        small = omega (arith, k .small);
-        inside = λ d i. k .inside d (there i);
-      };
-    }
-
-pub left-none : (m : ℕ) (bs : List ℕ) → Left m 0 bs → bs ≡ []
-left-none m [] k = refl
-left-none m (b ∷ bs) k = let p : 2 ^ 0 ≤ 2 ^ b = pow-mono {i = 0} {j = b} (omega arith) in let no : ⊥ = omega (arith, k .is) in absurd no
 
 -- ---- the floor
 

@@ -24,7 +24,7 @@ use Rattle.state.proofs.InPlace.{line-plan}
 use Rattle.buffer.specs.Ready.{Ready}
 use Rattle.buffer.specs.Nothing.{noHeld}
 use Rattle.replay_items.specs.Items.{tableLong, Slot, slotItem, Part, Table, pushed, slotOf, oneSlot, rowSlots, slotsFrom, Filled}
-use Rattle.replay_items.proofs.ItemLaws.{Left, Next, left-none}
+use Rattle.buffer.proofs.MaskWalk.{Left, Next, left-none}
 
 -- ---- one part of the table
 

@@ -1,7 +1,7 @@
 // What the end of a replay is worked out from, without writing the state: the replay table, gathered row by row, and whether all targets are held (document 01, "While B replays" and "Placing").
 ghost use mathlib.Core.Path.{_≡_};
 ghost use mathlib.Core.Bool.{true, cond};
-ghost use Prim.Native.Nat.{_+_, _-_, _^_, _≤_, _<_};
+ghost use Prim.Native.Nat.{_+_, _≤_, _<_};
 ghost use lib.ListN.{length, getD};
 ghost use lib.Dec.{eqb};
 ghost use Rattle.plan.specs.Plan.{planOf, leaving, entering};
@@ -128,14 +128,6 @@ fn fixed_of(s: &[u8], e: Ending, goals: &[u32; 128], h: Waiting, hint: usize) ->
     time_at(s, e, at)
 }
 
-// A mask without a channel that is in it.
-fn without(mask: u32, b: u32) -> u32
-    requires { ⌜ (b < 32) × (2 ^ b ≤ mask) ⌝ }
-    ensures { λ r. ⌜ r ≡ mask - 2 ^ b ⌝ }
-{
-    mask - (1 << b)
-}
-
 // "A free record's floor is the greatest entry for B among children whose belts take it."
 fn floor_of(s: &[u8], n: usize, mask: u32, r: Record) -> u32
     requires { ⌜ AtNode (now s) n × (mask ≡ planMask (now s) (leaving (planOf (now s)) n)) ⌝ }
@@ -146,7 +138,7 @@ fn floor_of(s: &[u8], n: usize, mask: u32, r: Record) -> u32
     while left != 0 {
         let b = plan::masks::mask_next(left);
         floor = bytes::greater(floor, channel_fields::taken_of(s, b as usize));
-        left = without(left, b);
+        left = plan::masks::without(left, b);
     }
     floor
 }
@@ -236,7 +228,7 @@ pub fn gather(s: &[u8], e: Ending, t: &mut [u32]) -> usize
         let parent = look::sender_of(s, b as usize);
         k = gather_row(s, e, &goals, parent, row, t, k);
         row += 1;
-        left = without(left, b);
+        left = plan::masks::without(left, b);
     }
     k
 }

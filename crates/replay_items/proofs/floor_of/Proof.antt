@@ -1,7 +1,8 @@
 use native.Mathlib.Omega.{arith}
 use lib.Pow.{pow-pos}
 use Rattle.plan.specs.Plan.{planChannels}
-use Rattle.replay_items.proofs.ItemLaws.{FloorTo, floor-start, floor-turn, floor-end, next}
+use Rattle.buffer.proofs.MaskWalk.{next}
+use Rattle.replay_items.proofs.ItemLaws.{FloorTo, floor-start, floor-turn, floor-end}
 use Rattle.replay_items.proofs.floor_of.Statement.{statement}
 use Rattle.replay_items.proofs.floor_of.Tie as tie
 

@@ -4,7 +4,7 @@ use borrow.Author.Needs.{needs}
 use lib.Pow.{pow-pos}
 use Rattle.plan.specs.Plan.{planChannels}
 use Rattle.replay_items.specs.Items.{heldBy}
-use Rattle.replay_items.proofs.ItemLaws.{next}
+use Rattle.buffer.proofs.MaskWalk.{next}
 use Rattle.replay_items.proofs.TableLaws.{sender-same, RowsTo, rows-start, rows-room, rows-turn, rows-end}
 use Rattle.replay_items.proofs.gather.Statement.{statement}
 use Rattle.replay_items.proofs.gather.Tie as tie
