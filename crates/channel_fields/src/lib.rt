@@ -39,6 +39,17 @@ pub fn taken_of(s: &[u8], b: usize) -> u32
     bytes::get32(s, layout::BLOCKS + layout::BLOCK * b + layout::TAKEN)
 }
 
+// The entry heard at a place among the sender's parents.
+pub fn heard_of(s: &[u8], b: usize, place: usize) -> u32
+    requires { ⌜ AtLane (now s) b × (place < length (laneAt (lineOf (now s)) b .heard)) ⌝ }
+    ensures { λ r. ⌜ r ≡ getD (laneAt (lineOf (now (s .entry))) b .heard) place 0 ⌝ }
+{
+    bytes::get32(
+        s,
+        layout::BLOCKS + layout::BLOCK * b + layout::HEARD + 4 * place,
+    )
+}
+
 pub fn queue_count(s: &[u8], b: usize) -> usize
     requires { ⌜ AtLane (now s) b ⌝ }
     ensures { λ r. ⌜ (r ≡ length (laneAt (lineOf (now (s .entry))) b .queue)) × (r ≤ queueLimit) ⌝ }

@@ -40,7 +40,6 @@ textLine ws = spaced ws ++ endLine
 
 -- "Each frame gives `A`, its number from 1, its answer."
 unfoldable pub answerLine : ℕ → ℕ → List ℕ
-unfolding decimal
 answerLine k n = textLine ((65 ∷ []) ∷ decimal k ∷ decimal n ∷ [])
 
 -- up, down, replay
@@ -56,7 +55,6 @@ originWords (made s t) = decimal s ∷ decimal t ∷ []
 
 -- "a line `L` per log entry (node, time, sender, sender's time, or `-` twice, piece, material, mass)"
 unfoldable pub entryLine : ℕ → Entry → List ℕ
-unfolding decimal
 entryLine n e = textLine ((76 ∷ []) ∷ decimal n ∷ decimal (e .time) ∷ (originWords (e .origin) ++ decimal (e .what .piece) ∷ decimal (e .what .material) ∷ decimal (e .what .mass) ∷ []))
 
 abbrev pub bracketed : List (List ℕ) → List ℕ
@@ -72,19 +70,16 @@ listed l zero n t ts = nodeAndTime n t
 listed l (suc layers) n t ts = nodeAndTime n t ++ bracketed (zipWith (λ b u. listed l layers (senderOf l b) u (laneAt l b .heard)) (entering (l .plan) n) ts)
 
 unfoldable pub clockText : Line → ℕ → List ℕ
-unfolding entering zipWith decimal
 clockText l n = listed l 2 n (nodeAt l n .time) (map (λ (b : ℕ). laneAt l b .taken) (entering (l .plan) n))
 
 -- "per node: `N` node, up, down or replay, time; a line `L` per log entry", "`T` and the clock"
 unfoldable pub nodeText : Line → ℕ → List ℕ
-unfolding clockText decimal entryLine
 nodeText l n =
     textLine ((78 ∷ []) ∷ decimal n ∷ statusWord (nodeAt l n .status) ∷ decimal (nodeAt l n .time) ∷ [])
     ++ joined (map (entryLine n) (nodeAt l n .log))
     ++ textLine ((84 ∷ []) ∷ clockText l n ∷ [])
 
 unfoldable pub lineText : Line → List ℕ
-unfolding nodeText
 lineText l = joined (map (nodeText l) (nodeNumbers l))
 
 -- The number that two bytes spell at the front, a plan's or a frame's length field.
@@ -114,7 +109,7 @@ planText refused plan frames = elim (eqb refused 0) [ true ↦ framesText (lengt
 
 -- "The plan is as long as its length field says, or all there is."
 unfoldable pub sheet : List ℕ → List ℕ
-unfolding planRefusal planOf initialLine step lineText answerLine
+unfolding planRefusal planOf initialLine step entering zipWith decimal answerLine entryLine clockText nodeText lineText
 sheet input =
     let n = lengthField input in
     opening ++ planText (planRefusal (take n input)) (take n input) (drop n input)

@@ -1,0 +1,8 @@
+-- What the text rests on.
+pub mod WroteLaws
+pub mod DecimalLaws
+pub mod PartsLaws
+pub mod OriginText
+pub mod StatusLaws
+pub mod ClockLaws
+pub mod NodesLaws
