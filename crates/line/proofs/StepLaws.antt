@@ -88,7 +88,7 @@ pub record OneCall (s f : List ℕ) : Type 0 where
   pub accepted : stateAnswer (stepLeft s f) ≡ 0
   pub line : lineOf (stepLeft s f) ≡ step (lineOf s) f .line
 
-step-number : (l : Line) (f : List ℕ) → step l f .number ≡ refusal l f
+pub step-number : (l : Line) (f : List ℕ) → step l f .number ≡ refusal l f
 unfolding step
 step-number l f = elim (ℕ-discrete (refusal l f) 0) [ yes e ↦ rw (e, step) refl | no d ↦ rw (ne-eqb (refusal l f) 0 d, step) refl ]
 
