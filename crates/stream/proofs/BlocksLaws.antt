@@ -50,7 +50,7 @@ frames-rest (suc f) k l x s p = by (front x) (λ h. frames-rest f (suc k) (stepp
     by (short two under) more =
         rw (told-short k l x (suc f) two under p, append-nil) (text-short k l (x ++ s) (length (x ++ s)) (omega (arith, reach k l x s)) (omega arith) (rw (field-front x s two) under))
     by (few less) more = rw (told-few k l x (suc f) less)
-    by (part five less) more = rw (told-part k l x (suc f) five less)
+    by (part two five less) more = rw (told-part k l x (suc f) five less)
     by (frame five all) more =
         rw (told-next k l x f five all, append-assoc) (frame-front k l x s five all ∙ ap (_++_ (answerLine k (stepped l x .number))) (more (behind-less x f five p)))
 

@@ -26,19 +26,19 @@ field-front x s h = ap (spelled 0) (take-append-le 2 x s h)
 pub data Front (s : List ℕ) : Type 0 where
   short : 2 ≤ length s → lengthField s < 5 → Front s
   few : length s < 2 → Front s
-  part : 5 ≤ lengthField s → length s < lengthField s → Front s
+  part : 2 ≤ length s → 5 ≤ lengthField s → length s < lengthField s → Front s
   frame : 5 ≤ lengthField s → lengthField s ≤ length s → Front s
 
 pub front : (s : List ℕ) → Front s
 front s = here (below-or-not (length s) 2)
   where
-    there : 5 ≤ lengthField s → (length s < lengthField s) ⊎ (lengthField s ≤ length s) → Front s
-    there five (inl less) = part five less
-    there five (inr all) = frame five all
+    there : 2 ≤ length s → 5 ≤ lengthField s → (length s < lengthField s) ⊎ (lengthField s ≤ length s) → Front s
+    there two five (inl less) = part two five less
+    there two five (inr all) = frame five all
 
     behind : 2 ≤ length s → (lengthField s < 5) ⊎ (5 ≤ lengthField s) → Front s
     behind two (inl under) = short two under
-    behind two (inr five) = there five (below-or-not (length s) (lengthField s))
+    behind two (inr five) = there two five (below-or-not (length s) (lengthField s))
 
     here : (length s < 2) ⊎ (2 ≤ length s) → Front s
     here (inl less) = few less
@@ -75,7 +75,7 @@ or-true : (b : Bool) → (b || true) ≡ true
 or-true true = refl
 or-true false = refl
 
-is-short : (s : List ℕ) → 2 ≤ length s → lengthField s < 5 → tooShort s ≡ true
+pub is-short : (s : List ℕ) → 2 ≤ length s → lengthField s < 5 → tooShort s ≡ true
 is-short s two under = rw (le-leb 2 (length s) two) (lt-ltb (lengthField s) 5 under)
 
 none-short : (s : List ℕ) → 5 ≤ lengthField s → tooShort s ≡ false
@@ -110,7 +110,7 @@ told-bound (suc f) g k l s p q = by g q (front s) (λ m. told-bound f m (suc k) 
         → framesTold (suc f) k l s ≡ framesTold g k l s
     by g q (short two under) more = told-short k l s (suc f) two under p ∙ sym (told-short k l s g two under q)
     by g q (few less) more = told-few k l s (suc f) less ∙ sym (told-few k l s g less)
-    by g q (part five less) more = told-part k l s (suc f) five less ∙ sym (told-part k l s g five less)
+    by g q (part two five less) more = told-part k l s (suc f) five less ∙ sym (told-part k l s g five less)
     by zero q (frame five all) more = let no : ⊥ = omega arith in absurd no
     by (suc g) q (frame five all) more =
         told-next k l s f five all ∙ ap (before (answerLine k (stepped l s .number))) (more g (behind-less s f five p) (behind-less s g five q)) ∙ sym (told-next k l s g five all)
@@ -178,7 +178,7 @@ text-bound (suc f) g k l s p q = by g q (below-or-not 0 (length s)) (front s) (�
     by g q (inr none) at more = text-none k l s (suc f) (omega arith) ∙ sym (text-none k l s g (omega arith))
     by g q (inl some) (short two under) more = text-short k l s (suc f) some p under ∙ sym (text-short k l s g some q under)
     by g q (inl some) (few less) more = text-few k l s (suc f) some p less ∙ sym (text-few k l s g some q less)
-    by g q (inl some) (part five less) more = text-part k l s (suc f) some p less ∙ sym (text-part k l s g some q less)
+    by g q (inl some) (part two five less) more = text-part k l s (suc f) some p less ∙ sym (text-part k l s g some q less)
     by zero q (inl some) (frame five all) more = let no : ⊥ = omega arith in absurd no
     by (suc g) q (inl some) (frame five all) more =
         text-next k l s f five all ∙ ap (_++_ (answerLine k (stepped l s .number))) (more g (behind-less s f five p) (behind-less s g five q)) ∙ sym (text-next k l s g five all)

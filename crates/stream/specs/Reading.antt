@@ -1,14 +1,14 @@
 -- A sheet whose input comes in blocks (document 01, "The sheet"): what is kept between two blocks, what text a block gives, and what the end of the input gives.
 use Prim.Native.Nat.{ℕ, zero, suc}
-use mathlib.Core.Bool.{Bool, true, false, not, _&&_, _||_}
-use mathlib.Core.List.{List, [], _∷_, _++_}
+use mathlib.Core.Bool.{Bool, true, false, _&&_}
+use mathlib.Core.List.{List, [], _++_, zipWith}
 use lib.ListN.{length, take, drop}
 use lib.Dec.{leb, ltb, eqb}
-use Rattle.plan.specs.Plan.{planOf}
+use Rattle.plan.specs.Plan.{planOf, entering}
 use Rattle.plan.specs.Check.{planRefusal}
 use Rattle.rules.specs.Line.{Line, initialLine}
 use Rattle.rules.specs.Step.{step}
-use Rattle.rules.specs.Sheet.{answerLine, lineText, lengthField, framesText, planText}
+use Rattle.rules.specs.Sheet.{decimal, answerLine, entryLine, clockText, nodeText, lineText, lengthField, framesText, planText}
 
 -- What is kept: the bytes that are no whole plan yet; then the bytes that are no whole frame yet, the next frame's number and the line; nothing once the sheet's text is complete, whatever still comes.
 pub data Reading : Type 0 where
@@ -67,7 +67,7 @@ planTold s =
 
 -- A block, behind what was kept.
 unfoldable pub taken : Reading → List ℕ → Told
-unfolding planRefusal planOf initialLine step lineText
+unfolding planRefusal planOf initialLine step entering zipWith decimal answerLine entryLine clockText nodeText lineText
 taken (planning s) block = planTold (s ++ block)
 taken (framing s k l) block = framesTold (length (s ++ block)) k l (s ++ block)
 taken ended block = record { text = []; next = ended }
@@ -80,7 +80,7 @@ planAll s =
 
 -- The end of the input: what was kept is all there is.
 unfoldable pub closed : Reading → List ℕ
-unfolding planRefusal planOf initialLine step lineText
+unfolding planRefusal planOf initialLine step entering zipWith decimal answerLine entryLine clockText nodeText lineText
 closed (planning s) = planAll s
 closed (framing s k l) = framesText (length s) k l s
 closed ended = []

@@ -1,0 +1,112 @@
+-- A part of the window: its length, its length field, the frame in front of it, what stands behind that, and what moves to the front.
+use Prim.Native.Nat.{ℕ, _+_, _-_, _≤_, _<_}
+use mathlib.Core.Path.{_≡_, refl, sym, ap, ap₂, _∙_}
+use mathlib.Core.Bool.{false}
+use mathlib.Core.List.{List}
+use native.Mathlib.Nat.{zero-add}
+use native.Mathlib.Omega.{arith}
+use borrow.Author.Tests.{lt-ltb, lt-leb, le-leb}
+use lib.Dec.{ltb}
+use lib.ListN.{length, getD, take, drop, set, length-take, drop-of-length-le}
+use lib.Seq.{slice, length-slice, length-take-le, take-take, take-all, drop-drop}
+use Rattle.basics.specs.Put.{put}
+use Rattle.plan.specs.Layout.{spelled}
+use Rattle.plan.specs.Check.{badLength, planRefusal}
+use Rattle.plan.proofs.BytesLaws.{drop-take}
+use Rattle.rules.specs.Sheet.{answerLine, lengthField, planText}
+use Rattle.buffer.proofs.BytesLaws.{gap-turn}
+use Rattle.stream.specs.Reading.{tooShort}
+use Rattle.stream.specs.Reader.{windowSize}
+use Rattle.stream.specs.Frames.{FrameSize, PlanSize}
+
+module _ (w : List ℕ) (at end : ℕ) where
+  pub part-long : end ≤ length w → length (slice at end w) ≡ end - at
+  part-long h = length-slice at end w h
+
+  pub part-front : (n : ℕ) → n ≤ end - at → take n (slice at end w) ≡ take n (drop at w)
+  part-front n h = rw drop-take (take-take n (end - at) (drop at w) h)
+
+  pub part-field : 2 ≤ end - at → lengthField (slice at end w) ≡ spelled 0 (take 2 (drop at w))
+  part-field h = ap (spelled 0) (part-front 2 h)
+
+  pub part-behind : (n : ℕ) → drop n (slice at end w) ≡ slice (at + n) end w
+  part-behind n = drop-drop n at (take end w)
+
+-- ---- the frame in front
+
+no-frame : (s : List ℕ) → (2 ≤ length s → 5 ≤ lengthField s → (length s < lengthField s) × (lengthField s < windowSize)) → FrameSize s 0
+no-frame s h = record { none = λ e. h; one = λ other. absurd (other refl) }
+
+module _ (w : List ℕ) (at end : ℕ) (inside : end ≤ length w) where
+  abbrev rest : List ℕ
+  rest = slice at end w
+
+  pub frame-few : end - at < 2 → FrameSize rest 0
+  frame-few less = no-frame rest (λ two five. omega (arith, part-long w at end inside))
+
+  pub short-few : end - at < 2 → false ≡ tooShort rest
+  short-few less =
+      let few : length rest < 2 = omega (arith, part-long w at end inside) in
+      sym (rw (lt-leb 2 (length rest) few))
+
+  module _ (n : ℕ) (two : 2 ≤ end - at) (e : n ≡ spelled 0 (take 2 (drop at w))) where
+    field-is : n ≡ lengthField rest
+    field-is = e ∙ sym (part-field w at end two)
+
+    pub frame-under : n < 5 → FrameSize rest 0
+    frame-under under = no-frame rest (λ two five. omega (arith, field-is))
+
+    pub frame-part : end - at < n → n < windowSize → FrameSize rest 0
+    frame-part less small = no-frame rest (λ two five. omega (arith, field-is, part-long w at end inside))
+
+    pub frame-whole : 5 ≤ n → n ≤ end - at → FrameSize rest n
+    frame-whole five all = record { none = λ z long full. omega arith; one = λ other. (field-is, (five, omega (arith, part-long w at end inside))) }
+
+    pub short-by : ltb n 5 ≡ tooShort rest
+    short-by =
+        let long : 2 ≤ length rest = omega (arith, part-long w at end inside) in
+        rw (le-leb 2 (length rest) long, field-is)
+
+-- ---- the plan in front
+
+plan-too-short : (p : List ℕ) → length p < 5 → planRefusal p ≡ 1
+unfolding planRefusal badLength
+plan-too-short p h = rw (lt-ltb (length p) 5 h, planRefusal)
+
+module _ (w : List ℕ) (end : ℕ) (inside : end ≤ length w) where
+  abbrev all : List ℕ
+  all = take end w
+
+  all-long : length all ≡ end
+  all-long = length-take-le end w inside
+
+  abbrev planFrom : ℕ → List ℕ
+  planFrom n = planText (planRefusal (take n all)) (take n all) (drop n all)
+
+  pub plan-few : end < 2 → PlanSize all end
+  plan-few less =
+      let refused : (n : ℕ) → planFrom n ≡ answerLine 0 1 = λ n. rw (plan-too-short (take n all) (rw length-take (omega (arith, all-long)))) refl in
+      record { within = omega (arith, all-long); same = refused end ∙ sym (refused (lengthField all)) }
+
+  module _ (n : ℕ) (two : 2 ≤ end) (e : n ≡ spelled 0 (take 2 w)) where
+    plan-is : n ≡ lengthField all
+    plan-is = e ∙ sym (part-field w 0 end (omega arith))
+
+    pub plan-field : n ≤ end → PlanSize all n
+    plan-field h = record { within = omega (arith, all-long); same = ap planFrom plan-is }
+
+    pub plan-all : end ≤ n → PlanSize all end
+    plan-all h =
+        let past : length all ≤ lengthField all = omega (arith, plan-is, all-long) in
+        record {
+          within = omega (arith, all-long);
+          same = ap₂ (λ (p r : List ℕ). planText (planRefusal p) p r)
+              (take-all end all (omega (arith, all-long)) ∙ sym (take-all (lengthField all) all past))
+              (drop-of-length-le all {i = end} (omega (arith, all-long)) ∙ sym (drop-of-length-le all {i = lengthField all} past));
+        }
+
+-- ---- what moves to the front
+
+pub move-turn : (w : List ℕ) (at i : ℕ) → at + i < length w
+    → set (put w 0 (take i (drop at w))) i (getD (put w 0 (take i (drop at w))) (at + i) 0) ≡ put w 0 (take (i + 1) (drop at w))
+move-turn w at i h = simp zero-add at (gap-turn w 0 at i (simp zero-add h))
