@@ -1,0 +1,2 @@
+-- What a turn rests on.
+pub mod TurnLaws

@@ -1,0 +1,50 @@
+use native.Mathlib.Omega.{arith}
+use borrow.Author.Needs.{needs}
+use Rattle.sheet.specs.Turned.{Between}
+use Rattle.sheet.proofs.TurnLaws.{turned-on, first-holding}
+use Rattle.sheet.proofs.run.Statement.{statement}
+use Rattle.sheet.proofs.run.Tie as tie
+
+abbrev Inv-loop : tie.InvT-loop
+Inv-loop state₀ window₀ out₀ reader₀ left₀ state window out reader left = Between reader left state
+
+abbrev μ-loop : tie.MeasureT-loop
+μ-loop state₀ window₀ out₀ reader₀ left₀ state window out reader left = left
+
+loop-holds : tie.Need-loop-holds Inv-loop μ-loop
+loop-holds c =
+    let begun = c .before .before .before .before in
+    let b = begun .begin .ensures in
+    let r = begun .begin .result in
+    record { holding = first-holding (r .phase) (r .count) (begun .before .before .args .state .now) (b .phase) (b .count); room = omega (arith, b .have); few = omega (arith, b .have, b .count) }
+
+loop-less : tie.Need-loop-less Inv-loop μ-loop
+loop-less c =
+    let turned = c .before .before .before in
+    let t = c .before .t .given in
+    turned-on (t .0 .0) (t .0 .1 .0) (turned .before .before .before .before .before .loop .left) (turned .turn .last .1 .1 .0) (t .1) (turned .turn .ensures) .1
+
+loop-again : tie.Need-loop-again Inv-loop μ-loop
+loop-again c =
+    let turned = c .before .before .before in
+    let t = c .before .t .given in
+    turned-on (t .0 .0) (t .0 .1 .0) (turned .before .before .before .before .before .loop .left) (turned .turn .last .1 .1 .0) (t .1) (turned .turn .ensures) .0
+
+pub run-spec : {M : Type 1} → statement M
+run-spec =
+    tie.close
+    (tie.spec
+    Inv-loop
+    μ-loop
+    (λ c κs. search needs)
+    (λ c κs. search needs)
+    (λ c. search needs)
+    loop-holds
+    (λ c κs. search needs)
+    (λ c. search needs)
+    (λ c. search needs)
+    (λ c. search needs)
+    loop-less
+    loop-again
+    (λ c κs. search needs)
+    (λ c. search needs))

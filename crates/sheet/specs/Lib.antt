@@ -1,0 +1,2 @@
+-- What holds from turn to turn.
+pub mod Turned

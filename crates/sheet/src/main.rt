@@ -1,0 +1,125 @@
+// The program `sheet` (document 01, "The sheet"): standard input, block by block, gives the text on standard output. It only moves bytes.
+ghost use mathlib.Core.Path.{_≡_};
+ghost use Prim.Native.Nat.{_≤_};
+ghost use lib.ListN.{length};
+ghost use Rattle.stream.specs.Reader.{windowSize};
+ghost use Rattle.sheet.specs.Turned.{Within, Between, Turned};
+use buffer::Line;
+use libc::STDERR_FILENO;
+use libc::STDIN_FILENO;
+use libc::STDOUT_FILENO;
+use stream::OUT;
+use stream::Phase;
+use stream::Reader;
+use stream::WINDOW;
+
+// A proved loop has to end, and nothing says that the input does: so many bytes are read at most, which no run uses up.
+const ALLOWANCE: usize = 4_611_686_018_427_387_904;
+
+// What a read gives.
+pub enum Got {
+    Bytes(usize),
+    End,
+    Failed,
+}
+
+// Whether another block is read, with what reader and what is left of the allowance.
+pub enum Next {
+    On(Reader, usize),
+    Stop,
+}
+
+// One read, behind the bytes that are kept.
+fn read_behind(window: &mut [u8], have: usize) -> Got
+    requires { ⌜ (have ≤ length (now window)) × (length (now window) ≡ windowSize) ⌝ }
+    ensures { λ r. ⌜ Within r have ⌝ }
+{
+    let got = libc::read(STDIN_FILENO, &mut window[have..]);
+    if got < 0 {
+        return Got::Failed;
+    }
+    let n = io::count(got, &window[have..]);
+    if n == 0 {
+        return Got::End;
+    }
+    Got::Bytes(n)
+}
+
+// The text that was written, to standard output; no call is made for none.
+fn write(out: &[u8], wrote: usize) -> bool
+    requires { ⌜ wrote ≤ length (now out) ⌝ }
+{
+    let is_written = io::write_all(STDOUT_FILENO, &out[..wrote]);
+    if !is_written {
+        os::fail(b"sheet: write");
+    }
+    is_written
+}
+
+// "and no more", "ends reading"
+fn is_ended(phase: Phase) -> bool {
+    match phase {
+        Phase::Ended => true,
+        Phase::Planning | Phase::Framing => false,
+    }
+}
+
+// One block, or the end of the input.
+fn turn(
+    reader: Reader,
+    left: usize,
+    state: &mut [u8; Line::STATE_SIZE],
+    window: &mut [u8; WINDOW],
+    out: &mut [u8; OUT],
+) -> Next
+    requires { ⌜ Between reader left (now state) × (windowSize ≤ left) ⌝ }
+    ensures { λ r. ⌜ Turned r left (now (state .exit)) ⌝ }
+{
+    let have = reader.have;
+    let got = read_behind(window, have);
+    match got {
+        Got::Bytes(n) => {
+            let next = stream::take_block(reader, state, window, n, out);
+            let phase = next.phase;
+            if write(out, next.wrote) & !is_ended(phase) {
+                return Next::On(next, left - n);
+            }
+        }
+        Got::End => {
+            let wrote = stream::finish(reader, state, window, out);
+            write(out, wrote);
+        }
+        Got::Failed => {
+            os::fail(b"sheet: read");
+        }
+    }
+    Next::Stop
+}
+
+fn too_long() {
+    io::write_all(STDERR_FILENO, b"sheet: input too long\n");
+}
+
+fn run(state: &mut [u8; Line::STATE_SIZE], window: &mut [u8; WINDOW], out: &mut [u8; OUT]) {
+    let mut reader = stream::begin(out);
+    if !write(out, reader.wrote) {
+        return;
+    }
+    let mut left = ALLOWANCE;
+    while WINDOW <= left {
+        let t = turn(reader, left, state, window, out);
+        let Next::On(next, rest) = t else {
+            return;
+        };
+        reader = next;
+        left = rest;
+    }
+    too_long();
+}
+
+fn main() {
+    let mut state = [0u8; Line::STATE_SIZE];
+    let mut window = [0u8; WINDOW];
+    let mut out = [0u8; OUT];
+    run(&mut state, &mut window, &mut out);
+}
