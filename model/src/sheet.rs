@@ -1,5 +1,6 @@
 //! Document 01, "The sheet": what the program `sheet` writes for what it reads.
 
+pub mod practice;
 #[cfg(test)]
 mod tests;
 pub mod vectors;
