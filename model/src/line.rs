@@ -103,6 +103,12 @@ pub struct Line {
     pub queues: Vec<Queue>,
 }
 
+impl From<Plan> for Line {
+    fn from(plan: Plan) -> Line {
+        Line::of(plan)
+    }
+}
+
 impl Line {
     /// "The limits belong to the line itself: 64 log entries a node, 8 messages
     /// on a belt, 64 held records a node, 64 targets a node, 1,000,000 accepted

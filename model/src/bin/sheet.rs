@@ -6,5 +6,7 @@ use std::io::{self, Read, Write};
 fn main() -> io::Result<()> {
     let mut input = Vec::new();
     io::stdin().read_to_end(&mut input)?;
-    io::stdout().write_all(&model::sheet::sheet(&input))
+    io::stdout()
+        .lock()
+        .write_all(&model::sheet::sheet_in_place(&input))
 }

@@ -37,6 +37,12 @@ impl Counts {
         *self.rows.entry((section, name.into())).or_default() += 1;
     }
 
+    pub fn join(&mut self, other: Counts) {
+        for (row, count) in other.rows {
+            *self.rows.entry(row).or_default() += count;
+        }
+    }
+
     /// Prints every row, and fails where one has too few or has no floor.
     pub fn hold_to(&self, floors: &[Floor]) {
         let mut section = "";

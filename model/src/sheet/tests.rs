@@ -97,12 +97,12 @@ fn clock_of_three_layers() {
             })
             .collect(),
     });
-    let mut text = String::new();
+    let mut text = Vec::new();
     list_clock(&mut text, &line.nodes[3].clock);
-    assert_eq!(text, "3:0[1:0 2:0[0:0 1:0]]");
+    assert_eq!(text, b"3:0[1:0 2:0[0:0 1:0]]");
     text.clear();
     list_clock(&mut text, &line.nodes[4].clock);
-    assert_eq!(text, "4:0[3:0[1:0 2:0]]");
+    assert_eq!(text, b"4:0[3:0[1:0 2:0]]");
 }
 
 #[test]

@@ -5,7 +5,7 @@ use std::collections::BTreeMap;
 use std::path::{Path, PathBuf};
 use std::{fs, io};
 
-use super::sheet;
+use super::{sheet, sheet_in_place};
 
 #[derive(Debug, Default)]
 pub struct Checked {
@@ -32,8 +32,10 @@ pub fn check_folder(folder: &Path) -> io::Result<Checked> {
     let mut checked = Checked::default();
     for input in inputs {
         let name = input.file_stem().unwrap_or_default().to_string_lossy();
-        let written = sheet(&fs::read(&input)?);
-        if written != fs::read(input.with_extension("out"))? {
+        let read = fs::read(&input)?;
+        let kept = fs::read(input.with_extension("out"))?;
+        let written = sheet(&read);
+        if written != kept || sheet_in_place(&read) != kept {
             checked.wrong.push(name.to_string());
         }
         for answer in answers(&written) {

@@ -18,7 +18,7 @@ const LAST_RUNS: u64 = 20;
 fn runs() -> &'static [Vec<Line>] {
     static LINES: OnceLock<Vec<Vec<Line>>> = OnceLock::new();
     LINES.get_or_init(|| {
-        let worn = staged::worn();
+        let worn: Line = staged::worn();
         let runs = (0..RUNS).map(|seed| lines(&mut Random::new(seed)));
         let last =
             (0..LAST_RUNS).map(|seed| play_to_the_end(&mut Random::new(seed), &mut worn.clone()));

@@ -1,23 +1,28 @@
 //! Lines that hold nothing, a little of everything, or as much as they can,
-//! reached by frames.
+//! reached by frames: as lines, or as the sheets that lead there.
 
 use super::pick::channel_between;
-use crate::line::{step, Frame, Line, Status};
+use super::Played;
+use crate::line::{Frame, Line, Status};
 use crate::plan::{Channel, Plan};
 use crate::record::Record;
 use crate::rule::Rule;
 
+pub trait Staged: Played + From<Plan> {}
+
+impl<T: Played + From<Plan>> Staged for T {}
+
 /// Two nodes, one channel, no step.
-pub fn fresh() -> Line {
-    Line::of(plan_of(2, vec![(0, 1)]))
+pub fn fresh<T: Staged>() -> T {
+    plan_of(2, vec![(0, 1)]).into()
 }
 
 /// A little of everything: node 3 replays and holds a record from node 1, node 7
 /// is down, messages wait before node 11.
-pub fn mixed() -> Line {
+pub fn mixed<T: Staged>() -> T {
     let replay = [(0, 1), (1, 3), (2, 3), (3, 4), (3, 5)];
     let others = [(6, 7), (7, 8), (9, 10), (10, 11)];
-    let mut line = Line::of(plan_of(12, [&replay[..], &others[..]].concat()));
+    let mut line: T = plan_of(12, [&replay[..], &others[..]].concat()).into();
     for piece in 1..=3 {
         feed(&mut line, 0, piece);
         pass(&mut line, 0);
@@ -46,21 +51,16 @@ pub fn mixed() -> Line {
 
 /// Twelve full logs and 24 full channels: two sources, then nodes that take
 /// from the two or three before them.
-pub fn full() -> Line {
+pub fn full<T: Staged>() -> T {
     let near = (2..12).flat_map(|node| [(node - 2, node), (node - 1, node)]);
     let far = (8..12).map(|node| (node - 3, node));
-    let mut line = Line::of(plan_of(12, near.chain(far).collect()));
+    let mut line: T = plan_of(12, near.chain(far).collect()).into();
     for node in 0..12 {
-        if line.plan.is_source(node) {
+        if line.line().plan.is_source(node) {
             fill_source(&mut line, node);
         }
-        let entering: Vec<usize> = line.plan.entering(node).collect();
-        for channel in entering.iter().cycle() {
-            if line.nodes[node].log.len() == Line::MOST_ENTRIES {
-                break;
-            }
-            pass(&mut line, *channel);
-        }
+        let room = Line::MOST_ENTRIES - line.line().nodes[node].log.len();
+        take_in_turn(&mut line, node, room);
     }
     fill_channels(&mut line);
     line
@@ -69,7 +69,7 @@ pub fn full() -> Line {
 /// All but full: node 0 can be fed once more, the last channel holds 7 messages
 /// of 8, and its receiver can take one of them.
 pub fn nearly_full() -> Line {
-    let mut line = full();
+    let mut line: Line = full();
     let last = line.queues.len() - 1;
     for node in [0, line.plan.channels[last].receiver] {
         line.nodes[node].log.pop();
@@ -90,12 +90,12 @@ pub fn routers_plan() -> Plan {
 }
 
 /// The routers replay, and one Take more ends the replay of each.
-pub fn replaying() -> Line {
+pub fn replaying<T: Staged>() -> T {
     holding(Line::MOST_TARGETS - 1)
 }
 
 /// One of them is down instead: its children tell 64 targets.
-pub fn down() -> Line {
+pub fn down<T: Staged>() -> T {
     let mut line = replaying();
     accept(&mut line, Frame::Crash { node: 4 });
     line
@@ -104,15 +104,15 @@ pub fn down() -> Line {
 /// The routers replay with 64 targets each, of which so many are held. The
 /// sources' and sinks' logs are full, and so are the channels that enter the
 /// routers.
-pub fn holding(held: usize) -> Line {
-    let mut line = Line::of(routers_plan());
+pub fn holding<T: Staged>(held: usize) -> T {
+    let mut line: T = routers_plan().into();
     for source in 0..4 {
         fill_source(&mut line, source);
     }
     for router in 4..8 {
         take_in_turn(&mut line, router, Line::MOST_ENTRIES);
         // To its own sink only, so that the other one has heard nothing.
-        let own = channel_between(&line, router, router + 4);
+        let own = channel_between(line.line(), router, router + 4);
         for _ in 0..Line::MOST_ENTRIES {
             pass(&mut line, own);
         }
@@ -125,19 +125,23 @@ pub fn holding(held: usize) -> Line {
     line
 }
 
-/// All steps but fifty are used up: a router between a source and two sinks has
-/// crashed and recovered time and again.
-pub fn worn() -> Line {
-    let mut line = Line::of(plan_of(4, vec![(0, 1), (1, 2), (1, 3)]));
-    for piece in 0..3 {
+/// All steps but about fifty are used up: a router between a source and two sinks,
+/// one of which has taken more than the other, crashes, recovers, replays and
+/// goes on, time and again.
+pub fn worn<T: Staged>() -> T {
+    let mut line: T = plan_of(4, vec![(0, 1), (1, 2), (1, 3)]).into();
+    for piece in 0..4 {
         feed(&mut line, 0, piece);
-        for channel in 0..3 {
-            pass(&mut line, channel);
-        }
     }
-    while line.steps < Line::MOST_STEPS - 50 {
-        accept(&mut line, Frame::Crash { node: 1 });
-        accept(&mut line, Frame::Recover { node: 1 });
+    for channel in [0, 1, 0, 1, 0, 1, 2] {
+        pass(&mut line, channel);
+    }
+    while line.line().steps < Line::MOST_STEPS - 60 {
+        restart(&mut line, 1);
+        for _ in 0..3 {
+            pass(&mut line, 0);
+        }
+        accept(&mut line, Frame::Send { channel: 2 });
     }
     line
 }
@@ -158,11 +162,11 @@ pub fn plan_of(node_count: usize, mut ends: Vec<(usize, usize)>) -> Plan {
     }
 }
 
-fn accept(line: &mut Line, frame: Frame) {
-    assert_eq!(step(line, &frame.write()), 0, "{frame:?}");
+fn accept(line: &mut impl Played, frame: Frame) {
+    assert_eq!(line.step(&frame.write()), 0, "{frame:?}");
 }
 
-fn feed(line: &mut Line, node: usize, piece: u32) {
+fn feed(line: &mut impl Played, node: usize, piece: u32) {
     let record = Record {
         piece,
         material: (piece % 16) as u8,
@@ -175,36 +179,36 @@ fn feed(line: &mut Line, node: usize, piece: u32) {
     accept(line, frame);
 }
 
-fn fill_source(line: &mut Line, node: usize) {
+fn fill_source(line: &mut impl Played, node: usize) {
     for number in 0..Line::MOST_ENTRIES as u32 {
         feed(line, node, 1000 * node as u32 + number);
     }
 }
 
-fn restart(line: &mut Line, router: usize) {
+fn restart(line: &mut impl Played, router: usize) {
     let node = router as u8;
     accept(line, Frame::Crash { node });
     accept(line, Frame::Recover { node });
-    assert_eq!(line.nodes[router].status, Status::Replaying);
+    assert_eq!(line.line().nodes[router].status, Status::Replaying);
 }
 
-fn pass(line: &mut Line, channel: usize) {
+fn pass(line: &mut impl Played, channel: usize) {
     let channel = channel as u8;
     accept(line, Frame::Send { channel });
     accept(line, Frame::Take { channel });
 }
 
 /// So many messages, parents in turn.
-fn take_in_turn(line: &mut Line, node: usize, messages: usize) {
-    let entering: Vec<usize> = line.plan.entering(node).collect();
+fn take_in_turn(line: &mut impl Played, node: usize, messages: usize) {
+    let entering: Vec<usize> = line.line().plan.entering(node).collect();
     for channel in entering.iter().cycle().take(messages) {
         pass(line, *channel);
     }
 }
 
 /// Sends on every channel for as long as there is something and room for it.
-fn fill_channels(line: &mut Line) {
-    for channel in 0..line.queues.len() as u8 {
-        while step(line, &Frame::Send { channel }.write()) == 0 {}
+fn fill_channels(line: &mut impl Played) {
+    for channel in 0..line.line().queues.len() as u8 {
+        while line.step(&Frame::Send { channel }.write()) == 0 {}
     }
 }

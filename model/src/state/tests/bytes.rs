@@ -116,7 +116,7 @@ fn replaying_routers() {
 /// A sender is written as its number and 1, a held record's as its number.
 #[test]
 fn numbers_of_senders() {
-    let mut line = staged::full();
+    let mut line: Line = staged::full();
     line.nodes[2].log[0].message.made_from = Some(Origin {
         sender: 254,
         time: 0x01020304,

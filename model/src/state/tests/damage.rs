@@ -83,7 +83,7 @@ fn every_unused_byte() {
 /// A step count above the limit is damage even where no time needs it.
 #[test]
 fn limits_of_the_steps() {
-    let mut line = staged::fresh();
+    let mut line: Line = staged::fresh();
     line.steps = Line::MOST_STEPS;
     assert_eq!(check(&crate::state::line_bytes(&line)), 0);
     line.steps += 1;

@@ -1,0 +1,81 @@
+// The rows of the counts and the least count of each.
+
+use model::compare::{answer, under, Floor};
+
+/// What the rows stand under.
+pub mod section {
+    pub const SHEETS: &str = "sheets";
+    pub const PIECES: &str = "passed to the program";
+    pub const ANSWERS: &str = "answers";
+    pub const LINES: &str = "lines of nodes";
+}
+
+pub mod kind {
+    pub const RIGHT: &str = "mostly accepted, with crashes and replays";
+    pub const SLIPPED: &str = "typed with slips";
+    pub const RAW: &str = "raw bytes";
+    pub const LIMITS: &str = "at the limits";
+    pub const LONG: &str = "with a long frame, whole or cut";
+    pub const CUT: &str = "short ones cut at every byte";
+    pub const EDGES: &str = "length fields at their edges";
+    pub const MANY: &str = "over 65,536 frames, at every shift";
+    pub const MILLION: &str = "1,000,000 accepted steps and more frames";
+}
+
+pub const WHOLE: &str = "in one piece";
+pub const PIECES: [(&str, usize); 4] = [
+    ("in pieces of 1 byte", 1),
+    ("in pieces of 2 bytes", 2),
+    ("in pieces of 3 bytes", 3),
+    ("in pieces of 4,096 bytes", 4_096),
+];
+
+/// Lines of the text, by the first that they are.
+pub mod line {
+    pub type Kind = (&'static str, fn(&str) -> bool);
+
+    pub const KINDS: &[Kind] = &[
+        ("N up", |line| line.contains(" up ")),
+        ("N down", |line| line.contains(" down ")),
+        ("N replay", |line| line.contains(" replay ")),
+        ("L of a source", |line| line.contains(" - - ")),
+        ("L made from a message", |line| line.starts_with("L ")),
+        ("T of one layer", |line| layers(line) == Some(1)),
+        ("T of two layers", |line| layers(line) == Some(2)),
+        ("T of three layers", |line| layers(line) == Some(3)),
+    ];
+
+    fn layers(line: &str) -> Option<usize> {
+        let clock = line.strip_prefix("T ")?;
+        let opened = clock.bytes().take_while(|&byte| byte != b']');
+        Some(1 + opened.filter(|&byte| byte == b'[').count())
+    }
+}
+
+pub fn all() -> Vec<Floor> {
+    let mut floors = under(
+        section::SHEETS,
+        4_000,
+        [
+            kind::RIGHT,
+            kind::SLIPPED,
+            kind::RAW,
+            kind::CUT,
+            kind::EDGES,
+        ],
+    );
+    floors.extend(under(section::SHEETS, 200, [kind::LIMITS, kind::LONG]));
+    floors.extend(under(section::SHEETS, 33, [kind::MANY]));
+    floors.extend(under(section::SHEETS, 1, [kind::MILLION]));
+    floors.extend(under(section::PIECES, 20_000, [WHOLE]));
+    floors.extend(under(section::PIECES, 1_000, PIECES.map(|(name, _)| name)));
+    floors.extend(under(section::ANSWERS, 1_000_000, [0].map(answer)));
+    floors.extend(under(
+        section::ANSWERS,
+        20,
+        (1..=7).chain(9..=21).map(answer),
+    ));
+    let lines = line::KINDS.iter().map(|(name, _)| *name);
+    floors.extend(under(section::LINES, 1_000, lines));
+    floors
+}

@@ -1,0 +1,132 @@
+// Compares what a program writes for sheets with what the model writes, byte for
+// byte. The program reads from a pipe, in one piece and in small ones. Run in
+// model/:
+//   cargo run --release --offline --bin compare_sheet [program]
+
+mod floors;
+mod program;
+
+use std::{env, thread};
+
+use model::compare::{self, answer, Counts};
+use model::random::Random;
+use model::sheet::vectors::answers;
+use model::sheet::{practice, sheet, sheet_in_place};
+
+use floors::{kind, line, section, PIECES, WHOLE};
+
+/// Each has its share of the sheets.
+const WORKERS: usize = 2;
+
+const RIGHT: usize = 8_000;
+const SLIPPED: usize = 6_000;
+const RAW: usize = 4_000;
+const LIMITS: usize = 200;
+const LONG: usize = 400;
+/// Short sheets: each is cut at every byte and has its length fields changed.
+const SHORT: usize = 40;
+const SHORT_LENGTH: usize = 160;
+/// No longer sheet is passed in pieces of a few bytes.
+const SMALL_PIECES: usize = 400;
+
+fn main() {
+    let built = concat!(env!("CARGO_MANIFEST_DIR"), "/../target/bin/sheet");
+    let program = &env::args().nth(1).unwrap_or(built.to_string());
+    let counts = thread::scope(|scope| {
+        let workers: Vec<_> = (0..WORKERS)
+            .map(|number| scope.spawn(move || worked(program, number)))
+            .collect();
+        let mut counts = Counts::default();
+        for worker in workers {
+            counts.join(worker.join().expect("no panic"));
+        }
+        counts
+    });
+    counts.hold_to(&floors::all());
+    println!("{program} and the model write the same sheets");
+}
+
+fn worked(program: &str, number: usize) -> Counts {
+    let mut work = Work {
+        program,
+        counts: Counts::default(),
+        passed: 0,
+    };
+    let random = &mut Random::new(number as u64);
+    let share = |of: usize| (number..of).step_by(WORKERS);
+    for _ in share(RIGHT) {
+        work.compare(kind::RIGHT, &practice::right(random));
+    }
+    for _ in share(SLIPPED) {
+        work.compare(kind::SLIPPED, &practice::slipped(random));
+    }
+    for _ in share(RAW) {
+        work.compare(kind::RAW, &practice::raw(random));
+    }
+    for _ in share(LIMITS) {
+        work.compare(kind::LIMITS, &practice::at_the_limits(random));
+    }
+    for _ in share(LONG) {
+        work.compare(kind::LONG, &practice::long_frame(random));
+    }
+    for _ in share(SHORT) {
+        let short = practice::short(random, SHORT_LENGTH);
+        for length in 0..=short.len() {
+            work.compare(kind::CUT, &short[..length]);
+        }
+        for edge in practice::edges(&short) {
+            work.compare(kind::EDGES, &edge);
+        }
+    }
+    for shift in share(practice::SHIFTS) {
+        work.compare(kind::MANY, &practice::many(random, shift));
+    }
+    for _ in share(1) {
+        work.compare(kind::MILLION, &practice::million(random));
+    }
+    work.counts
+}
+
+struct Work<'a> {
+    program: &'a str,
+    counts: Counts,
+    /// How many sheets: pieces come in turn.
+    passed: usize,
+}
+
+impl Work<'_> {
+    fn compare(&mut self, kind: &'static str, input: &[u8]) {
+        let text = sheet(input);
+        if sheet_in_place(input) != text {
+            compare::fail(kind, "the model's two sheets differ", input);
+        }
+        let fit: Vec<(&str, usize)> = PIECES
+            .into_iter()
+            .filter(|&(_, piece)| piece < input.len())
+            .filter(|&(_, piece)| piece > 3 || input.len() <= SMALL_PIECES)
+            .collect();
+        self.passed += 1;
+        let pieces = fit.get(self.passed % fit.len().max(1));
+        for &(name, piece) in [(WHOLE, usize::MAX)].iter().chain(pieces) {
+            match program::written(self.program, input, piece) {
+                Ok(written) if written == text => self.counts.add(section::PIECES, name),
+                Ok(_) => compare::fail(kind, &format!("{name}: another text"), input),
+                Err(error) => compare::fail(kind, &format!("{name}: {error}"), input),
+            }
+        }
+        self.counts.add(section::SHEETS, kind);
+        self.count_lines(&text);
+    }
+
+    fn count_lines(&mut self, text: &[u8]) {
+        for number in answers(text) {
+            self.counts.add(section::ANSWERS, answer(number));
+        }
+        let text = String::from_utf8_lossy(text);
+        for line in text.lines() {
+            if let Some((name, _)) = line::KINDS.iter().find(|(_, is_it)| is_it(line)) {
+                self.counts.add(section::LINES, *name);
+            }
+        }
+    }
+}
