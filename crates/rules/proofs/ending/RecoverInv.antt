@@ -12,7 +12,7 @@ use lib.Dec.{eqb}
 use borrow.Author.Tests.{eq-eqb, ne-eqb}
 use Rattle.plan.specs.Plan.{channelAt, nodeCount, channelCount}
 use Rattle.rules.specs.Lists.{keep, isEmpty}
-use Rattle.rules.specs.Line.{Message, Entry, Held, Target, Status, up, down, replay, Node, Lane, Line, nodeAt, laneAt, withNode, freshLane}
+use Rattle.rules.specs.Line.{logLimit, Message, Entry, Held, Target, Status, up, down, replay, Node, Lane, Line, nodeAt, laneAt, withNode, freshLane}
 use Rattle.rules.specs.Clock.{messageOf}
 use Rattle.rules.specs.Recover.{lowOf, targetsOf, restored, recovered, statusOf, rowGoal, conflict}
 use Rattle.rules.specs.Replay.{endedIfComplete}
@@ -24,15 +24,16 @@ use Rattle.rules.proofs.lists.Options.{some-same, none-some}
 use Rattle.rules.proofs.histories.Witness.{Taken, none}
 use Rattle.rules.proofs.line.LineLaws.{node-there, node-else}
 use Rattle.rules.proofs.histories.Ghost.{Ghost, inputOf, entryOf, takesMessage, put, logPut}
-use Rattle.rules.proofs.histories.Passing.{goesOn, heldOf}
+use Rattle.rules.proofs.histories.Passing.{passing, goesOn, heldOf}
 use Rattle.rules.proofs.ending.Kept.{cuts-at}
 use Rattle.rules.proofs.line.Joins.{no-source}
-use Rattle.rules.proofs.ending.Targets.{low-below, targets-from, targets-of}
+use Rattle.rules.proofs.ending.Targets.{low-below, low-above, targets-from, targets-of}
 use Rattle.rules.proofs.ending.Children.{Child, triples-from, triples-of, restored-reach, restored-is, none-above}
-use Rattle.rules.proofs.invariant.Inv.{timeOf, Enters, Leaves, targetFrom, Nodes, Channels, Ends, Row, Replays, Inv}
+use Rattle.rules.proofs.invariant.Inv.{timeOf, Enters, Leaves, targetFrom, Nodes, Channels, Ends, Row, Replays, Room, takens, Inv}
 use Rattle.rules.proofs.invariant.InvLaws.{took-enters, up-not-replay, up-not-down, marked-unless-up, replay-marked, marked-took, ends-up}
 use Rattle.rules.proofs.invariant.MarkedLaws.{sender-other, receiver-other, parent-unmarked, child-unmarked, parent-up, child-up, own, got-rises, taken-cut}
 use Rattle.rules.proofs.invariant.Stays.{moved, unmarked-other, marks-beside, nodes-stay, reached-back, reached-on, channels-beside, ends-beside, events-stay, replays-stay}
+use Rattle.rules.proofs.invariant.Rooms.{room-stays, waits-few}
 use Rattle.rules.proofs.undamaged.Restored.{recovered-is, restored-shape, restored-enters, restored-leaves, restored-beside}
 use Rattle.rules.proofs.ending.RebuildEvents.{Rebuilding}
 use Rattle.rules.proofs.ending.RebuildInv.{rebuild-inv}
@@ -72,7 +73,7 @@ module _ (l : Line) (g : Ghost) (cut base : ℕ → ℕ) (fed : List Act) (recei
   took-own = own inv n marked
 
   -- A restored entry is not past what was got.
-  restored-got : (b : ℕ) → Enters (l .plan) n b → restored l n (channelAt (l .plan) b .sender) ≤ cut b
+  pub restored-got : (b : ℕ) → Enters (l .plan) n b → restored l n (channelAt (l .plan) b .sender) ≤ cut b
   restored-got b h = elim (restored-is l g n (inv .ordered) took-own child b (h .0) (h .1)) [ inl z ↦ omega arith | inr (m, t, i, _, _, e) ↦ omega (arith, e, taken-cut inv n marked b m t h i) ]
 
   abbrev restoredNode : Status → Node
@@ -225,19 +226,46 @@ module _ (l : Line) (g : Ghost) (cut base : ℕ → ℕ) (fed : List Act) (recei
         rows = row-now;
       }
 
-  -- Another node that replays is not joined to this one.
+  -- Another node that has crashed is not joined to this one: its channels are as they were.
+  module _ (m : ℕ) (d : m ≢ n) (mark : nodeAt l m .crashed ≡ true) where
+    pub lane-into : (b : ℕ) → Enters (l .plan) m b → laneAt r b ≡ laneAt l b
+    lane-into b h = lane-other b (λ q. d (sym (h .1) ∙ q)) (λ q. true≢false (sym mark ∙ ap (λ (x : ℕ). nodeAt l x .crashed) (sym (h .1)) ∙ child-unmarked inv n marked b (h .0, q)))
+
+    lane-out : (c : ℕ) → Leaves (l .plan) m c → laneAt r c ≡ laneAt l c
+    lane-out c h = lane-other c (λ q. true≢false (sym mark ∙ ap (λ (x : ℕ). nodeAt l x .crashed) (sym (h .1)) ∙ parent-unmarked inv n marked c (h .0, q))) (λ q. d (sym (h .1) ∙ q))
+
   replays-other : (m : ℕ) → m ≢ n → nodeAt r m .status ≡ replay → Replays r g cut baseAfter m
   replays-other m d e =
       let same = node-other replay m d in
       let old : nodeAt l m .status ≡ replay = ap (λ (x : Node). x .status) (sym same) ∙ e in
       let mark = replay-marked (inv .marks) m old in
-      let into : (b : ℕ) → Enters (l .plan) m b → laneAt r b ≡ laneAt l b =
-      λ b h. lane-other b (λ q. d (sym (h .1) ∙ q)) (λ q. true≢false (sym mark ∙ ap (λ (x : ℕ). nodeAt l x .crashed) (sym (h .1)) ∙ child-unmarked inv n marked b (h .0, q))) in
-      let out : (c : ℕ) → Leaves (l .plan) m c → laneAt r c ≡ laneAt l c =
-      λ c h. lane-other c (λ q. true≢false (sym mark ∙ ap (λ (x : ℕ). nodeAt l x .crashed) (sym (h .1)) ∙ parent-unmarked inv n marked c (h .0, q))) (λ q. d (sym (h .1) ∙ q)) in
-      replays-stay l (l .steps) (r .nodes) (r .lanes) g g m same refl cut cut base baseAfter (λ c h. ap (λ (x : Lane). x .taken) (out c h))
+      replays-stay l (l .steps) (r .nodes) (r .lanes) g g m same refl cut cut base baseAfter (λ c h. ap (λ (x : Lane). x .taken) (lane-out m d mark c h))
       (λ b y t i. base-other b (λ q. d (sym (took-enters (g m) b y t (marked-took (inv .marks) (inv .nodes) m mark) i .1) ∙ q)))
-      (λ b h. (ap (λ (x : Lane). x .taken) (into b h), omega arith, base-other b (λ q. d (sym (h .1) ∙ q)), refl)) (inv .replays m old)
+      (λ b h. (ap (λ (x : Lane). x .taken) (lane-into m d mark b h), omega arith, base-other b (λ q. d (sym (h .1) ∙ q)), refl)) (inv .replays m old)
+
+  -- Nothing is held yet, and what it waits for had room in a log.
+  room-now : Room r g n
+  room-now =
+      let old = inv .rooms n marked in
+      let few : length (past timeOf (old .floor) (passing (l .plan) n (g n))) ≤ logLimit = rw is-down at (old .few) in
+      let low : old .floor ≤ lowOf l n = low-above l n (inv .marks .between n marked .1) (λ c h q. old .below c (h, q)) in
+      record {
+        floor = old .floor;
+        below = λ c h. omega (arith, old .below c h, taken-leaves c h);
+        few = rw now-replays few;
+        held-few = λ e. rw (ap (λ (x : Node). x .held) (node-now replay), time-now) (omega (arith, waits-few (l .plan) n (old .floor) (lowOf l n) (takens r) (g n) low));
+      }
+
+  restored-rooms : (m : ℕ) → nodeAt r m .crashed ≡ true → Room r g m
+  restored-rooms m e =
+      elim (ℕ-discrete m n) [
+        | yes q ↦ subst (Room r g) (sym q) room-now
+        | no d ↦
+            (let same = node-other replay m d in
+            let mark : nodeAt l m .crashed ≡ true = ap (λ (x : Node). x .crashed) (sym same) ∙ e in
+            room-stays l (l .steps) (r .nodes) (r .lanes) g g m same refl (marked-took (inv .marks) (inv .nodes) m mark)
+            (λ c h. omega (arith, ap (λ (x : Lane). x .taken) (lane-out m d mark c h))) (λ b h. omega (arith, ap (λ (x : Lane). x .taken) (lane-into m d mark b h))) (inv .rooms m mark))
+      ]
 
   restored-inv : Inv r g cut baseAfter fed receipts crashes
   restored-inv =
@@ -253,6 +281,7 @@ module _ (l : Line) (g : Ghost) (cut base : ℕ → ℕ) (fed : List Act) (recei
           | yes q ↦ subst (Replays r g cut baseAfter) (sym q) replays-now
           | no d ↦ replays-other m d e
         ];
+        rooms = restored-rooms;
       }
 
   -- Without targets nothing is to be placed: the node is up with what its children all have.

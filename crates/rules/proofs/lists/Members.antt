@@ -143,6 +143,11 @@ least-greatest (n ∷ ns) =
     let high = in-greatest first in
     omega arith
 
+pub least-above : {k : ℕ} (ns : List ℕ) → isEmpty ns ≡ false → ((n : ℕ) → In n ns → k ≤ n) → k ≤ leastOf ns
+least-above [] e f = absurd (true≢false e)
+least-above (n ∷ []) e f = f n here
+least-above (n ∷ m ∷ ns) e f = let first = f n here in let rest = least-above (m ∷ ns) refl (λ x i. f x (there i)) in omega arith
+
 -- The numbers from k on.
 pub in-up-to : (k n i : ℕ) → k ≤ i → i < k + n → In i (upTo k n)
 in-up-to k zero i l h = let no : ⊥ = omega arith in absurd no
