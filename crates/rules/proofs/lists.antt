@@ -4,3 +4,4 @@ pub mod Options
 pub mod Rising
 pub mod Members
 pub mod Counts
+pub mod Linked

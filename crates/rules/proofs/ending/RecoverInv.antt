@@ -51,16 +51,16 @@ module _ (l : Line) (g : Ghost) (cut base : ℕ → ℕ) (fed : List Act) (recei
   marked = marked-unless-up (inv .marks) n (λ e. up-not-down (sym e ∙ is-down))
 
   -- The restored entries of the entering channels.
-  abbrev baseAfter : ℕ → ℕ
+  abbrev pub baseAfter : ℕ → ℕ
   baseAfter b = cond (eqb (channelAt (l .plan) b .receiver) n) (restored l n (channelAt (l .plan) b .sender)) (base b)
 
-  base-now : (b : ℕ) → channelAt (l .plan) b .receiver ≡ n → baseAfter b ≡ restored l n (channelAt (l .plan) b .sender)
+  pub base-now : (b : ℕ) → channelAt (l .plan) b .receiver ≡ n → baseAfter b ≡ restored l n (channelAt (l .plan) b .sender)
   base-now b q = ap (λ (t : Bool). cond t (restored l n (channelAt (l .plan) b .sender)) (base b)) (eq-eqb (channelAt (l .plan) b .receiver) n q)
 
   base-other : (b : ℕ) → channelAt (l .plan) b .receiver ≢ n → baseAfter b ≡ base b
   base-other b d = ap (λ (t : Bool). cond t (restored l n (channelAt (l .plan) b .sender)) (base b)) (ne-eqb (channelAt (l .plan) b .receiver) n d)
 
-  child : (c : ℕ) → c < channelCount (l .plan) → channelAt (l .plan) c .sender ≡ n → Child l g c
+  pub child : (c : ℕ) → c < channelCount (l .plan) → channelAt (l .plan) c .sender ≡ n → Child l g c
   child c h q =
       record {
         took = inv .nodes .others (channelAt (l .plan) c .receiver) (no-source (l .plan) c h) .1;
@@ -69,21 +69,21 @@ module _ (l : Line) (g : Ghost) (cut base : ℕ → ℕ) (fed : List Act) (recei
         exact = inv .ends c h .exact (child-unmarked inv n marked c (h, q));
       }
 
-  took-own : Taken (l .plan) n (map inputOf (g n))
+  pub took-own : Taken (l .plan) n (map inputOf (g n))
   took-own = own inv n marked
 
   -- A restored entry is not past what was got.
   pub restored-got : (b : ℕ) → Enters (l .plan) n b → restored l n (channelAt (l .plan) b .sender) ≤ cut b
   restored-got b h = elim (restored-is l g n (inv .ordered) took-own child b (h .0) (h .1)) [ inl z ↦ omega arith | inr (m, t, i, _, _, e) ↦ omega (arith, e, taken-cut inv n marked b m t h i) ]
 
-  abbrev restoredNode : Status → Node
+  abbrev pub restoredNode : Status → Node
   restoredNode s = record { status = s; crashed = true; time = lowOf l n; log = []; held = []; targets = targetsOf l n }
 
   -- The line with the node restored, in a given status.
-  abbrev restoredAs : Status → Line
+  abbrev pub restoredAs : Status → Line
   restoredAs s = moved l (l .steps) (withNode n (restoredNode s) l .nodes) (recovered n l .lanes)
 
-  whole-is : recovered n l ≡ restoredAs (statusOf (targetsOf l n))
+  pub whole-is : recovered n l ≡ restoredAs (statusOf (targetsOf l n))
   whole-is = recovered-is l n (inv .ordered) (inv .shape)
 
   module _ (s : Status) where
@@ -112,19 +112,19 @@ module _ (l : Line) (g : Ghost) (cut base : ℕ → ℕ) (fed : List Act) (recei
   lane-other = restored-beside l n (inv .ordered) (inv .shape)
 
   -- The node shown as replaying.
-  abbrev r : Line
+  abbrev pub r : Line
   r = restoredAs replay
 
   still-marked : nodeAt r n .crashed ≡ true
   still-marked = ap (λ (x : Node). x .crashed) (node-now replay)
 
-  now-replays : nodeAt r n .status ≡ replay
+  pub now-replays : nodeAt r n .status ≡ replay
   now-replays = ap (λ (x : Node). x .status) (node-now replay)
 
   taken-leaves : (c : ℕ) → Leaves (l .plan) n c → laneAt r c .taken ≡ laneAt l c .taken
   taken-leaves c h = ap (λ (x : Lane). x .taken) (lane-leaves c h)
 
-  taken-enters : (b : ℕ) → Enters (l .plan) n b → laneAt r b .taken ≡ restored l n (channelAt (l .plan) b .sender)
+  pub taken-enters : (b : ℕ) → Enters (l .plan) n b → laneAt r b .taken ≡ restored l n (channelAt (l .plan) b .sender)
   unfolding freshLane
   taken-enters b h = ap (λ (x : Lane). x .taken) (lane-enters b h)
 
@@ -186,7 +186,7 @@ module _ (l : Line) (g : Ghost) (cut base : ℕ → ℕ) (fed : List Act) (recei
   time-now : nodeAt r n .time ≡ lowOf l n
   time-now = ap (λ (x : Node). x .time) (node-now replay)
 
-  targets-now : nodeAt r n .targets ≡ targetsOf l n
+  pub targets-now : nodeAt r n .targets ≡ targetsOf l n
   targets-now = ap (λ (x : Node). x .targets) (node-now replay)
 
   row-now : (b : ℕ) → Enters (l .plan) n b → Row r g (cut b) (baseAfter b) n b
@@ -267,7 +267,7 @@ module _ (l : Line) (g : Ghost) (cut base : ℕ → ℕ) (fed : List Act) (recei
             (λ c h. omega (arith, ap (λ (x : Lane). x .taken) (lane-out m d mark c h))) (λ b h. omega (arith, ap (λ (x : Lane). x .taken) (lane-into m d mark b h))) (inv .rooms m mark))
       ]
 
-  restored-inv : Inv r g cut baseAfter fed receipts crashes
+  pub restored-inv : Inv r g cut baseAfter fed receipts crashes
   restored-inv =
       record {
         shape = record { nodes-long = nodes-count replay ∙ inv .shape .nodes-long; lanes-long = restored-shape l n (inv .ordered) (inv .shape) .lanes-long };

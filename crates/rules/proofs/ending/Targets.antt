@@ -112,7 +112,7 @@ in-rest : {A : Type 0} {y v : A} {xs ys : List A} → (In v xs → In v ys) → 
 in-rest f here = here
 in-rest f (there i) = there (f i)
 
-add-in : (t : Target) (us : List Target) {v : Target} → In v (addTarget t us) → In v (t ∷ us)
+pub add-in : (t : Target) (us : List Target) {v : Target} → In v (addTarget t us) → In v (t ∷ us)
 add-in t [] i = i
 add-in t (u ∷ us) {v} i = one (targetBefore t u) (sameTarget t u) i (λ j. add-in t us j)
   where

@@ -102,6 +102,10 @@ pub none-any : {A : Type 0} (f : A → Bool) {x : A} {xs : List A} → anyOf f x
 none-any f {x = x} e (here {xs = xs}) = neither-true (f x) (anyOf f xs) e .0
 none-any f e (there {y = y} {xs = xs} i) = none-any f (neither-true (f y) (anyOf f xs) e .1) i
 
+pub all-by : {A : Type 0} (f : A → Bool) (xs : List A) → ((x : A) → In x xs → f x ≡ true) → allOf f xs ≡ true
+all-by f [] h = refl
+all-by f (x ∷ xs) h = rw (h x here, all-by f xs (λ y i. h y (there i)))
+
 -- The greatest of some numbers is none below any, and one of them or 0.
 pub in-greatest : {n : ℕ} {ns : List ℕ} → In n ns → n ≤ greatestOf ns
 in-greatest (here {xs = ns}) = omega arith
