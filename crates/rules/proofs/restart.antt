@@ -5,3 +5,7 @@ pub mod TableFits
 pub mod ReplayEnds
 pub mod TargetsRise
 pub mod RecoverGoes
+pub mod Frames
+pub mod Known
+pub mod NeverUnplaced
+pub mod Answers

@@ -1,6 +1,6 @@
 -- Take, of a node that replays, keeps the invariant: the record is held or dropped, and the replay may end.
 use Prim.Native.Nat.{ℕ, max, _<_}
-use mathlib.Core.Path.{_≡_, refl, sym, ap, _∙_}
+use mathlib.Core.Path.{_≡_, refl, sym, ap, subst, _∙_}
 use mathlib.Core.Bool.{Bool, true, false}
 use mathlib.Core.List.{List, [], _∷_, _++_}
 use mathlib.Core.Option.{some}
@@ -55,17 +55,20 @@ module _ (l : Line) (g : Ghost) (cut base : ℕ → ℕ) (fed : List Act) (recei
   abbrev given : List Receipt
   given = receipts ++ record { receiver = n; what = m .what; sender = channelAt (l .plan) b .sender } ∷ []
 
-  from-held : goesOn (l .plan) n m ≡ true → (k : Line) → endedIfComplete n (takenReplaying b m (takenLane b m rest l)) ≡ some k → Goes k base fed given crashes
-  unfolding withNode withLane
-  from-held t k e = ended-inv held g cut base fed given crashes (hold-inv l g cut base fed receipts crashes inv b here m rest heard first sender again open-row t) n still inside k (ap (endedIfComplete n) (sym (holds t)) ∙ e)
+  -- The line before the replay may end.
+  abbrev pub Again : Line → Type 0
+  Again k = Inv k g cut base fed given crashes × (nodeAt k n .status ≡ replay) × (k .plan ≡ l .plan) × (k .steps ≡ l .steps)
 
-  from-cleared : goesOn (l .plan) n m ≡ false → (k : Line) → endedIfComplete n (takenReplaying b m (takenLane b m rest l)) ≡ some k → Goes k base fed given crashes
-  unfolding withLane
-  from-cleared t k e = ended-inv cleared g cut base fed given crashes (drop-inv l g cut base fed receipts crashes inv b here m rest heard first sender again open-row t) n still-cleared inside k (ap (endedIfComplete n) (sym (drops t)) ∙ e)
+  pub again-inv : Inv (takenReplaying b m (takenLane b m rest l)) g cut base fed (receipts ++ record { receiver = n; what = m .what; sender = channelAt (l .plan) b .sender } ∷ []) crashes
+      × (nodeAt (takenReplaying b m (takenLane b m rest l)) n .status ≡ replay) × (takenReplaying b m (takenLane b m rest l) .plan ≡ l .plan) × (takenReplaying b m (takenLane b m rest l) .steps ≡ l .steps)
+  unfolding withNode withLane
+  again-inv = go (goesOn (l .plan) n m) refl
+    where
+      go : (t : Bool) → goesOn (l .plan) n m ≡ t → Again (takenReplaying b m (takenLane b m rest l))
+      go true t = subst Again (sym (holds t)) (hold-inv l g cut base fed receipts crashes inv b here m rest heard first sender again open-row t, still, refl, refl)
+      go false t = subst Again (sym (drops t)) (drop-inv l g cut base fed receipts crashes inv b here m rest heard first sender again open-row t, still-cleared, refl, refl)
 
   pub replay-take-inv : (k : Line) → endedIfComplete n (takenReplaying b m (takenLane b m rest l)) ≡ some k → Goes k base fed (receipts ++ record { receiver = n; what = m .what; sender = channelAt (l .plan) b .sender } ∷ []) crashes
-  replay-take-inv k e = go (goesOn (l .plan) n m) refl
-    where
-      go : (t : Bool) → goesOn (l .plan) n m ≡ t → Goes k base fed given crashes
-      go true t = from-held t k e
-      go false t = from-cleared t k e
+  replay-take-inv k e =
+      let (kept, status, plan, _) = again-inv in
+      ended-inv (takenReplaying b m (takenLane b m rest l)) g cut base fed given crashes kept n status (rw plan inside) k e

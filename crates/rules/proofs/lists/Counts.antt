@@ -14,6 +14,10 @@ use Rattle.rules.proofs.lists.Members.{In, here, there, in-none, in-fir
 pub length-snoc : {A : Type 0} (xs : List A) (x : A) → length (xs ++ x ∷ []) ≡ suc (length xs)
 length-snoc xs x = omega (arith, length-append xs (x ∷ []))
 
+pub in-long : {A : Type 0} {x : A} {xs : List A} → In x xs → 0 < length xs
+in-long here = omega arith
+in-long (there i) = omega arith
+
 pub keep-short : {A : Type 0} (f : A → Bool) (xs : List A) → length (keep f xs) ≤ length xs
 keep-short f [] = omega arith
 keep-short f (x ∷ xs) = one (f x) (keep-short f xs)

@@ -96,7 +96,7 @@ module _ (l : Line) (g : Ghost) (cut base : ℕ → ℕ) (fed : List Act) (recei
       here-first : In m (m ∷ [])
       here-first = here-in
 
-  waited : goesOn (l .plan) n m ≡ true → (t : ℕ) × In (tookAt b m t) (g n) × (waits (l .plan) n (nodeAt l n .time) (takens l) (tookAt b m t) ≡ true)
+  pub waited : goesOn (l .plan) n m ≡ true → (t : ℕ) × In (tookAt b m t) (g n) × (waits (l .plan) n (nodeAt l n .time) (takens l) (tookAt b m t) ≡ true)
   waited goes =
       let (t, i) = put-taken inv n marked b m (here, refl) was-put (omega (arith, to-goal, goal-cut inv n replaying b (here, refl))) in
       let late : nodeAt l n .time < t = elim (decLe t (nodeAt l n .time)) [ yes z ↦ (let no : ⊥ = omega (arith, old .base-cuts b m t i goes .1 z, own-row .base-taken, next .2) in absurd no) | no z ↦ omega arith ] in

@@ -168,7 +168,7 @@ module _ (l : Line) (g : Ghost) (cut base : ℕ → ℕ) (acts : List Act) (rece
         (log-steady beside steady n inside alive (leb-false logLimit (length (nodeAt l n .log)) space) (madeBy l n (m .what)) (made (senderOf l b) (m .time)) (m .origin))
 
     -- Held or dropped, the node's log and time are as they were.
-    abbrev Fair : Line → Type 0
+    abbrev pub Fair : Line → Type 0
     Fair k = Limits 1 k × ((m : ℕ) → m ≢ n → OpenAt k m) × (n < length (k .nodes))
 
     held-fair : (h : Held) → Fair (withNode n (holding h (nodeAt beside n)) beside)
@@ -182,7 +182,7 @@ module _ (l : Line) (g : Ghost) (cut base : ℕ → ℕ) (acts : List Act) (rece
           omega (arith, inside, length-set (l .nodes) n x),
         )
 
-    again-fair : Fair (takenReplaying b m (takenLane b m (can .rest) l))
+    pub again-fair : Fair (takenReplaying b m (takenLane b m (can .rest) l))
     unfolding takenReplaying takenLane takenFrom withLane
     again-fair = go (passedOn (l .plan) n (madeBy l n (m .what))) refl
       where
