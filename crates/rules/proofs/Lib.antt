@@ -19,3 +19,4 @@ pub mod Order
 pub mod undamaged
 -- A crashed node can always come back.
 pub mod restart
+pub mod AlwaysBack

@@ -9,3 +9,6 @@ pub mod Frames
 pub mod Known
 pub mod NeverUnplaced
 pub mod Answers
+pub mod RowsLeft
+pub mod Advance
+pub mod Bring

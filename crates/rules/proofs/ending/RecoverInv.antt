@@ -40,7 +40,7 @@ use Rattle.rules.proofs.ending.RebuildInv.{rebuild-inv}
 use Rattle.rules.proofs.ending.EndInv.{ended-inv}
 
 -- The log of a node that never crashed holds all that it put on a channel.
-log-whole : {l : Line} {g : Ghost} {fed : List Act} {receipts : List Receipt} → Nodes l g fed receipts → (b : ℕ) → nodeAt l (channelAt (l .plan) b .sender) .crashed ≡ false → logPut l b ≡ put (l .plan) g b
+pub log-whole : {l : Line} {g : Ghost} {fed : List Act} {receipts : List Receipt} → Nodes l g fed receipts → (b : ℕ) → nodeAt l (channelAt (l .plan) b .sender) .crashed ≡ false → logPut l b ≡ put (l .plan) g b
 unfolding logPut put
 log-whole {l} {g} nodes b e =
     let n = channelAt (l .plan) b .sender in

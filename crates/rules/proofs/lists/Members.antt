@@ -2,7 +2,7 @@
 use Prim.Native.Nat.{ℕ, zero, suc, max, _+_, _<_, _≤_}
 use mathlib.Core.Path.{_≡_, refl, sym, ap, subst, _∙_}
 use mathlib.Core.Logic.{_⊎_, inl, inr}
-use mathlib.Core.Bool.{Bool, true, false, true≢false, _||_}
+use mathlib.Core.Bool.{Bool, true, false, true≢false, _&&_, _||_}
 use mathlib.Core.List.{List, [], _∷_, _++_, map}
 use native.Mathlib.Omega.{arith}
 use native.Mathlib.Decide.{decLe, ℕ-discrete}
@@ -101,6 +101,14 @@ any-in {A} f (x ∷ xs) e = one (f x) refl e (λ z. any-in f xs z)
 pub none-any : {A : Type 0} (f : A → Bool) {x : A} {xs : List A} → anyOf f xs ≡ false → In x xs → f x ≡ false
 none-any f {x = x} e (here {xs = xs}) = neither-true (f x) (anyOf f xs) e .0
 none-any f e (there {y = y} {xs = xs} i) = none-any f (neither-true (f y) (anyOf f xs) e .1) i
+
+pub not-all : {A : Type 0} (f : A → Bool) (xs : List A) → allOf f xs ≡ false → (x : A) × In x xs × (f x ≡ false)
+not-all f [] e = absurd (true≢false e)
+not-all {A} f (x ∷ xs) e = one (f x) refl e (λ z. not-all f xs z)
+  where
+    one : (t : Bool) → f x ≡ t → (t && allOf f xs) ≡ false → (allOf f xs ≡ false → (y : A) × In y xs × (f y ≡ false)) → (y : A) × In y (x ∷ xs) × (f y ≡ false)
+    one false q z ih = (x, here, q)
+    one true q z ih = let (y, i, k) = ih z in (y, there i, k)
 
 pub all-by : {A : Type 0} (f : A → Bool) (xs : List A) → ((x : A) → In x xs → f x ≡ true) → allOf f xs ≡ true
 all-by f [] h = refl

@@ -52,14 +52,37 @@ answered l f u goes = go (noStepsLeft l) refl
     go true e = rw (e, lineRefusal, unlessUsedUp)
     go false e =
         let (k, leads) = goes (leb-false stepLimit (l .steps) e) in
-        rw (e, lineRefusal, u .is-there, lineRefusal, u .right-node, lineRefusal, u .right-status, lineRefusal, u .apart, lineRefusal, u .record-good, lineRefusal, u .something, lineRefusal, u .room, lineRefusal, u .row-open, lineRefusal,
-          u .space, lineRefusal, leads, lineRefusal, unlessUsedUp)
+        rw (
+          e,
+          lineRefusal,
+          u .is-there,
+          lineRefusal,
+          u .right-node,
+          lineRefusal,
+          u .right-status,
+          lineRefusal,
+          u .apart,
+          lineRefusal,
+          u .record-good,
+          lineRefusal,
+          u .something,
+          lineRefusal,
+          u .room,
+          lineRefusal,
+          u .row-open,
+          lineRefusal,
+          u .space,
+          lineRefusal,
+          leads,
+          lineRefusal,
+          unlessUsedUp,
+        )
 
 -- A node that is down is one of the plan's, and a channel with a message on it too.
 module _ (l : Line) (known : Known l) where
   open Known known using (ghost, cut, base, fed, receipts, crashes, inv)
 
-  down-inside : (n : ℕ) → nodeAt l n .status ≢ up → n < nodeCount (l .plan)
+  pub down-inside : (n : ℕ) → nodeAt l n .status ≢ up → n < nodeCount (l .plan)
   down-inside n d = elim (decLt n (nodeCount (l .plan))) [
     | yes h ↦ h
     | no h ↦ absurd (d (ap (λ (x : _). x .status) (List·getD-eq-default (l .nodes) freshNode (omega (arith, inv .shape .nodes-long)))))
@@ -94,7 +117,7 @@ module _ (l : Line) (known : Known l) where
       recover-asks l n ∙ answered l (recover n) u (λ h. (_, recover-goes l known n (may-recover l n (u .is-there) (u .right-node) (u .right-status))))
 
   -- The ends of a channel that enters a replaying node are not down.
-  ends-there : (b : ℕ) → b < channelCount (l .plan) → nodeAt l (channelAt (l .plan) b .receiver) .status ≡ replay → wrongStatus l (take b) ≡ false
+  pub ends-there : (b : ℕ) → b < channelCount (l .plan) → nodeAt l (channelAt (l .plan) b .receiver) .status ≡ replay → wrongStatus l (take b) ≡ false
   ends-there b h again =
       let n = channelAt (l .plan) b .receiver in
       let sender = parent-up inv n (replay-marked (inv .marks) n again) b (h, refl) in
@@ -110,7 +133,7 @@ module _ (l : Line) (known : Known l) where
     done : rowDone l (take b) ≡ false
     done = rw (again, open-row)
 
-    can : CanTake l b
+    pub can : CanTake l b
     can = may-take l b (lt-leb (channelCount (l .plan)) b inside) (ends-there b inside again) queued done
 
     sender-up : isUp l (channelAt (l .plan) b .sender)

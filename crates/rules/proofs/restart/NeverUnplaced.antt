@@ -10,7 +10,7 @@ use Rattle.rules.specs.Frame.{Frame, feed, send, take, crash, recover, f
 use Rattle.rules.specs.Recover.{recovered}
 use Rattle.rules.specs.Step.{takenLane, takenReplaying, effect, refusal}
 use Rattle.rules.proofs.lists.Options.{none-some}
-use Rattle.rules.proofs.ending.ReplayTakeInv.{again-inv}
+use Rattle.rules.proofs.ending.ReplayTakeInv.{Again, again}
 use Rattle.rules.proofs.theorem.Accepted.{CanTake, may-take, CanRecover, may-recover, Unplaced, unplaced, line-unplaced}
 use Rattle.rules.proofs.theorem.StepInv.{up-or-replay, sender-gives, taken-is, again-is}
 use Rattle.rules.proofs.theorem.SteadyKept.{again-fair}
@@ -25,20 +25,27 @@ module _ (l : Line) (known : Known l) where
   unfolding effect
   recover-goes n can = recovers l ghost cut base fed receipts crashes inv n (can .here) (can .stopped)
 
+  -- The line before a replaying node's Take may end its replay.
+  pub again-here : (b : ℕ) (can : CanTake l b) (replays : nodeAt l (channelAt (l .plan) b .receiver) .status ≡ replay)
+      → Again l ghost cut base fed receipts crashes inv b (can .here) (can .message) (can .rest) (can .first) (sender-gives l ghost cut base fed receipts crashes inv b (can .message) (can .rest) (can .here) (can .first)) replays (can .below-goal replays)
+      (takenReplaying b (can .message) (takenLane b (can .message) (can .rest) l))
+  again-here b can replays =
+      again l ghost cut base fed receipts crashes inv b (can .here) (can .message) (can .rest) (can .first) (sender-gives l ghost cut base fed receipts crashes inv b (can .message) (can .rest) (can .here) (can .first)) replays (can .below-goal replays)
+
   take-again : (b : ℕ) (can : CanTake l b) → nodeAt l (channelAt (l .plan) b .receiver) .status ≡ replay → l .steps < stepLimit → (k : Line) × (effect l (take b) ≡ some k)
-  take-again b can again left =
+  take-again b can replays left =
       let n = channelAt (l .plan) b .receiver in
       let r = takenReplaying b (can .message) (takenLane b (can .message) (can .rest) l) in
-      let (kept, status, plan, steps) = again-inv l ghost cut base fed receipts crashes inv b (can .here) (can .message) (can .rest) (can .first) (sender-gives l ghost cut base fed receipts crashes inv b (can .message) (can .rest) (can .here) (can .first)) again (can .below-goal again) in
+      let a = again-here b can replays in
       let (limits, _, _) = again-fair l ghost cut base fed receipts crashes inv steady b can in
-      let (k, e) = goes-on r ghost cut base fed _ crashes kept n status limits (rw steps left) (rw plan (rows n (inv .ordered .inside b (can .here)))) in
-      (k, again-is l ghost cut base fed receipts crashes inv b can again ∙ e)
+      let (k, e) = goes-on r ghost cut base fed _ crashes (a .kept) n (a .status) limits (rw (a .steps) left) (rw (a .plan) (rows n (inv .ordered .inside b (can .here)))) in
+      (k, again-is l ghost cut base fed receipts crashes inv b can replays ∙ e)
 
   pub take-goes : (b : ℕ) → CanTake l b → l .steps < stepLimit → (k : Line) × (effect l (take b) ≡ some k)
   take-goes b can left =
       elim (up-or-replay (nodeAt l (channelAt (l .plan) b .receiver) .status) (can .receiver)) [
         | inl alive ↦ (_, taken-is l ghost cut base fed receipts crashes inv b can alive)
-        | inr again ↦ take-again b can again left
+        | inr replays ↦ take-again b can replays left
       ]
 
   never-unplaced : (f : Frame) → Unplaced l f → ⊥

@@ -66,7 +66,7 @@ module _ (l : Line) (g : Ghost) (cut base : ℕ → ℕ) (fed : List Act) (recei
   sent = inv .channels b here .sender-up sender
 
   -- The message is the next to come.
-  next : SenderUp (nodeAt l (channelAt (l .plan) b .sender) .time) (record { mark = laneAt l b .mark; taken = m .time; heard = heardOf; queue = rest }) (logPut l b) puts (m .time) (nodeAt l n .status ≢ down)
+  pub next : SenderUp (nodeAt l (channelAt (l .plan) b .sender) .time) (record { mark = laneAt l b .mark; taken = m .time; heard = heardOf; queue = rest }) (logPut l b) puts (m .time) (nodeAt l n .status ≢ down)
       × (until timeOf (m .time) puts ≡ until timeOf (laneAt l b .taken) puts ++ m ∷ []) × (laneAt l b .taken < m .time)
   next = sender-taken m rest heardOf (λ q. replay-not-down (sym replaying ∙ q)) (inv .channels b here .rises) first refl (sender-cut (sent .taken-within) sent)
 
