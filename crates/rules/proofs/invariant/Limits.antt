@@ -2,7 +2,7 @@
 use Prim.Native.Nat.{ℕ, _+_, _<_, _≤_}
 use mathlib.Core.Path.{_≡_, ap, subst, sym, _∙_}
 use mathlib.Core.Logic.{_≢_, inl, inr}
-use mathlib.Core.Bool.{Bool, true, false}
+use mathlib.Core.Bool.{false}
 use mathlib.Core.List.{List, map}
 use native.Mathlib.Omega.{arith}
 use native.Mathlib.Decide.{ℕ-discrete}
@@ -11,7 +11,7 @@ use lib.Dec.{leb}
 use Rattle.plan.specs.Plan.{channelAt, channelCount, entering, leaving}
 use Rattle.rules.specs.Line.{logLimit, Target, replay, Node, Lane, Line, nodeAt, laneAt, counted}
 use Rattle.rules.specs.Recover.{childTimes, highOf, rowGoal, rowComplete, rowsComplete}
-use Rattle.rules.proofs.lists.Members.{In, map-in, greatest-in}
+use Rattle.rules.proofs.lists.Members.{map-in, greatest-in}
 use Rattle.rules.proofs.line.Joins.{entering-in, leaving-in}
 use Rattle.rules.proofs.invariant.Inv.{Enters}
 use Rattle.rules.proofs.invariant.Stays.{moved}

@@ -1,6 +1,6 @@
 -- The space of a crashed node: what keeps it, and the counts behind it.
 use Prim.Native.Nat.{ℕ, suc, _+_, _<_, _≤_}
-use mathlib.Core.Path.{_≡_, refl, sym, ap, subst, _∙_}
+use mathlib.Core.Path.{_≡_, refl, sym, ap, _∙_}
 use mathlib.Core.Bool.{Bool, true, false, _&&_, true≢false}
 use mathlib.Core.List.{List, [], _∷_, _++_, map}
 use native.Mathlib.Omega.{arith}
@@ -11,14 +11,14 @@ use borrow.Author.Tests.{lt-ltb, le-ltb, ltb-true, ltb-false}
 use Rattle.basics.specs.Bools.{both-true}
 use Rattle.plan.specs.Plan.{Plan}
 use Rattle.rules.specs.Lists.{keep, keepOne}
-use Rattle.rules.specs.Line.{logLimit, heldLimit, Message, Entry, Status, up, down, replay, Node, Lane, Line, nodeAt, laneAt, withNode}
+use Rattle.rules.specs.Line.{logLimit, Message, Entry, Status, up, down, replay, Node, Lane, Line, nodeAt, laneAt, withNode}
 use Rattle.rules.specs.Clock.{logged}
 use Rattle.rules.specs.Replay.{passedOn}
 use Rattle.rules.proofs.lists.ListLaws.{keep-append}
 use Rattle.rules.proofs.lists.Rising.{past}
-use Rattle.rules.proofs.lists.Members.{In, here, there}
+use Rattle.rules.proofs.lists.Members.{In, there}
 use Rattle.rules.proofs.lists.Counts.{length-snoc, keep-short, keep-fewer}
-use Rattle.rules.proofs.histories.Witness.{Taken, none, more}
+use Rattle.rules.proofs.histories.Witness.{Taken}
 use Rattle.rules.proofs.histories.Ghost.{Event, fedAt, tookAt, Ghost, inputOf, sentOf, later, later-there, later-else}
 use Rattle.rules.proofs.histories.Passing.{passing, passing-append, goesOn}
 use Rattle.rules.proofs.line.LineLaws.{node-there, node-else}

@@ -1,34 +1,34 @@
 -- While a node replays, some step on a channel that enters it is accepted and leaves less to do, or brings it up.
-use Prim.Native.Nat.{ℕ, suc, max, _<_, _≤_}
+use Prim.Native.Nat.{ℕ, suc, max, _<_}
 use mathlib.Core.Path.{_≡_, refl, sym, ap, subst, _∙_}
 use mathlib.Core.Logic.{_≢_, _⊎_, inl, inr}
-use mathlib.Core.Bool.{Bool, true, false, _&&_, true≢false}
-use mathlib.Core.List.{List, [], _∷_, map}
+use mathlib.Core.Bool.{Bool, true, false}
+use mathlib.Core.List.{List, [], _∷_}
 use mathlib.Core.Option.{Option, none, some}
 use native.Mathlib.Omega.{arith}
-use native.Mathlib.Decide.{decLe, ℕ-discrete}
+use native.Mathlib.Decide.{decLe}
 use lib.ListN.{length, getD}
 use lib.Dec.{leb, ltb}
 use borrow.Author.Tests.{leb-false, lt-leb, le-leb, lt-ltb, ltb-true, eq-eqb}
-use Rattle.plan.specs.Plan.{Plan, channelAt, channelCount, nodeCount, entering}
-use Rattle.rules.specs.Lists.{keep, anyOf, isEmpty}
-use Rattle.rules.specs.Line.{stepLimit, queueLimit, Message, Entry, Status, up, down, replay, Node, Lane, Line, noLane, nodeAt, laneAt, withLane, counted, senderOf, receiverOf, parents}
-use Rattle.rules.specs.Frame.{Frame, send, take, frameOf}
+use Rattle.plan.specs.Plan.{Plan, channelAt, channelCount, entering}
+use Rattle.rules.specs.Lists.{isEmpty}
+use Rattle.rules.specs.Line.{stepLimit, queueLimit, Message, Entry, up, down, replay, Lane, Line, noLane, nodeAt, laneAt, withLane, counted, senderOf, receiverOf, parents}
+use Rattle.rules.specs.Frame.{Frame, send, take}
 use Rattle.rules.specs.Clock.{messageOf, sentOn, raiseHeard}
 use Rattle.rules.specs.Recover.{rowGoal, rowComplete, rowsComplete}
-use Rattle.rules.specs.Replay.{replayEnd, endedIfComplete}
+use Rattle.rules.specs.Replay.{endedIfComplete}
 use Rattle.rules.specs.Step.{noStepsLeft, sendable, isNothing, sentLine, takenLane, takenReplaying, effect, accepted, refusal, step}
 use Rattle.rules.specs.Claim.{named}
 use Rattle.rules.specs.Restart.{sendFrame, takeFrame, unlessUsedUp, OnEntering, send-next, take-next}
 use Rattle.rules.proofs.lists.ListLaws.{empty-none}
 use Rattle.rules.proofs.lists.Rising.{until, past}
-use Rattle.rules.proofs.lists.Members.{In, here, in-none, in-keep, keep-in, not-all}
+use Rattle.rules.proofs.lists.Members.{In, here, in-none, in-keep, keep-in}
 use Rattle.rules.proofs.lists.Counts.{in-long}
-use Rattle.rules.proofs.lists.Options.{some-same, nothing-none, something-there}
+use Rattle.rules.proofs.lists.Options.{some-same, something-there}
 use Rattle.rules.proofs.line.Joins.{in-entering, entering-in}
 use Rattle.rules.proofs.line.LineLaws.{lane-there, lane-else}
 use Rattle.rules.proofs.histories.Ghost.{put, logPut}
-use Rattle.rules.proofs.invariant.Inv.{timeOf, isUp, Enters, SenderUp}
+use Rattle.rules.proofs.invariant.Inv.{timeOf, SenderUp}
 use Rattle.rules.proofs.invariant.InvLaws.{replay-not-down, replay-marked}
 use Rattle.rules.proofs.invariant.MarkedLaws.{parent-up, parent-unmarked, goal-message, sender-other}
 use Rattle.rules.proofs.invariant.Stays.{moved}
@@ -43,7 +43,7 @@ use Rattle.rules.proofs.ending.ReplayTakeInv.{Again}
 use Rattle.rules.proofs.restart.Known.{Known}
 use Rattle.rules.proofs.restart.Frames.{send-asks, send-is, take-is}
 use Rattle.rules.proofs.restart.NeverUnplaced.{again-here, take-goes}
-use Rattle.rules.proofs.restart.Answers.{Unrefused, answered, ends-there, can, replays}
+use Rattle.rules.proofs.restart.Answers.{answered, ends-there, can, replays}
 use Rattle.rules.proofs.restart.RowsLeft.{total-less, leftBy, rowLeft, rowsLeft, log-same, less-left, taken-less, sent-less}
 
 -- A frame on a channel that enters node n, accepted, after which the node is up or replays with less left.

@@ -1,27 +1,26 @@
 -- Recover of a down node, and a Take and a Send in a replay, are refused by nothing but the step limit.
-use Prim.Native.Nat.{ℕ, _<_, _≤_}
-use mathlib.Core.Path.{_≡_, refl, sym, ap, subst, _∙_}
+use Prim.Native.Nat.{ℕ, _<_}
+use mathlib.Core.Path.{_≡_, refl, sym, ap, _∙_}
 use mathlib.Core.Logic.{_≢_}
-use mathlib.Core.Bool.{Bool, true, false, cond, not, _&&_, _||_, true≢false}
-use mathlib.Core.List.{List, [], _∷_}
-use mathlib.Core.Option.{Option, none, some}
+use mathlib.Core.Bool.{Bool, true, false, not, _&&_, true≢false}
+use mathlib.Core.List.{[]}
+use mathlib.Core.Option.{some}
 use native.Mathlib.Omega.{arith}
 use native.Mathlib.Decide.{decLt}
 use lib.ListN.{length, List·getD-eq-default}
-use lib.Dec.{leb, ltb}
+use lib.Dec.{leb}
 use borrow.Author.Tests.{leb-false, lt-leb, le-ltb}
-use Rattle.plan.specs.Plan.{nodeCount, channelCount, channelAt, isSource, isSink}
-use Rattle.rules.specs.Lists.{keep, isEmpty}
-use Rattle.rules.specs.Line.{stepLimit, heldLimit, logLimit, queueLimit, targetLimit, Message, Entry, Status, up, down, replay, Line, freshNode, noLane, nodeAt, laneAt, receiverOf, isDown, isReplay}
-use Rattle.rules.specs.Frame.{Frame, send, take, recover}
+use Rattle.plan.specs.Plan.{nodeCount, channelCount, channelAt}
+use Rattle.rules.specs.Lists.{isEmpty}
+use Rattle.rules.specs.Line.{stepLimit, heldLimit, targetLimit, Status, up, down, replay, Line, freshNode, noLane, nodeAt, laneAt, receiverOf, isDown}
+use Rattle.rules.specs.Frame.{Frame, take, recover}
 use Rattle.rules.specs.Recover.{targetsOf, rowComplete}
-use Rattle.rules.specs.Step.{noStepsLeft, noSuch, wrongNode, wrongStatus, besideCrashed, badRecord, sendable, isNothing, nothingThere, queueFull, rowDone, toHold, firstRecord, takeLacks, noSpace, effect, noPlacing, lineRefusal, refusal}
+use Rattle.rules.specs.Step.{noStepsLeft, noSuch, wrongNode, wrongStatus, besideCrashed, badRecord, nothingThere, queueFull, rowDone, takeLacks, noSpace, effect, noPlacing, lineRefusal, refusal}
 use Rattle.rules.specs.Restart.{takeFrame, recoverFrame, unlessUsedUp}
-use Rattle.rules.proofs.lists.ListLaws.{some-first}
-use Rattle.rules.proofs.lists.Members.{In, in-keep}
+use Rattle.rules.proofs.lists.Members.{in-keep}
 use Rattle.rules.proofs.lists.Counts.{in-long}
 use Rattle.rules.proofs.histories.Passing.{goesOn}
-use Rattle.rules.proofs.invariant.Inv.{isUp, Enters, waits, takens}
+use Rattle.rules.proofs.invariant.Inv.{isUp, waits, takens}
 use Rattle.rules.proofs.invariant.InvLaws.{up-not-down, replay-marked, marked-unless-up}
 use Rattle.rules.proofs.invariant.MarkedLaws.{parent-up}
 use Rattle.rules.proofs.steps.HoldInv.{waited}

@@ -1,5 +1,5 @@
 -- The steps that bring a node back: as many as are left of its replay, after a Recover if it is down.
-use Prim.Native.Nat.{ℕ, zero, suc, _+_, _*_, _<_, _≤_}
+use Prim.Native.Nat.{ℕ, zero, suc, _+_, _<_, _≤_}
 use mathlib.Core.Path.{_≡_, refl, sym, ap, subst, _∙_}
 use mathlib.Core.Logic.{inl, inr}
 use mathlib.Core.Bool.{false}
@@ -8,11 +8,11 @@ use native.Mathlib.Omega.{arith}
 use lib.ListN.{length, replicate}
 use Rattle.plan.specs.Plan.{Plan, channelCount, entering}
 use Rattle.rules.specs.Line.{stepLimit, Target, Status, up, down, replay, Node, Line, nodeAt, counted, receiverOf}
-use Rattle.rules.specs.Frame.{Frame, recover}
+use Rattle.rules.specs.Frame.{Frame}
 use Rattle.rules.specs.Recover.{targetsOf, rowComplete, rowsComplete, recovered, statusOf}
 use Rattle.rules.specs.Step.{effect, accepted, refusal, step}
 use Rattle.rules.specs.Claim.{Story, startOf, told, storyFrom}
-use Rattle.rules.specs.Restart.{recoverFrame, unlessUsedUp, OnEntering, no-more, Restarting, restartSteps, ComesBack}
+use Rattle.rules.specs.Restart.{recoverFrame, OnEntering, no-more, Restarting, restartSteps, ComesBack}
 use Rattle.rules.proofs.lists.ListLaws.{nil-right}
 use Rattle.rules.proofs.lists.Members.{In, not-all}
 use Rattle.rules.proofs.line.Joins.{entering-in}

@@ -2,10 +2,10 @@
 use Prim.Native.Nat.{ℕ, _<_, _≤_}
 use mathlib.Core.Path.{_≡_, refl, sym, ap, subst, _∙_}
 use mathlib.Core.Logic.{_≢_, inl, inr}
-use mathlib.Core.Bool.{Bool, true, cond, _&&_}
+use mathlib.Core.Bool.{true, _&&_}
 use mathlib.Core.List.{List, map, map-map}
 use native.Mathlib.Omega.{arith}
-use native.Mathlib.Decide.{decLe, ℕ-discrete}
+use native.Mathlib.Decide.{decLe}
 use lib.Dec.{eqb, ltb, leb}
 use borrow.Author.Tests.{eq-eqb}
 use Rattle.plan.specs.Rule.{applied}
@@ -13,26 +13,25 @@ use Rattle.plan.specs.Plan.{ruleAt, channelAt, entering}
 use Rattle.plan.specs.Mask.{taking}
 use Rattle.placing.specs.Item.{Item}
 use Rattle.placing.specs.Rules.{KeepsRules}
-use Rattle.rules.specs.Lists.{keep, allOf, greatestOf}
-use Rattle.rules.specs.Line.{Message, Held, Target, replay, Line, nodeAt, laneAt}
-use Rattle.rules.specs.Recover.{highOf, rowGoal, rowComplete, rowsComplete}
-use Rattle.rules.specs.Replay.{fixedAt, floorOf, itemOf, heldByRow, itemsByRow, isHeld}
+use Rattle.rules.specs.Line.{Message, Target, replay, Line, nodeAt, laneAt}
+use Rattle.rules.specs.Recover.{highOf, rowGoal}
+use Rattle.rules.specs.Replay.{fixedAt, floorOf, itemOf, heldByRow, itemsByRow}
 use Rattle.rules.specs.Plain.{Act, Receipt}
 use Rattle.rules.proofs.lists.Rising.{Rises, rises-keep}
 use Rattle.rules.proofs.lists.Members.{In, in-keep, in-map, map-in, in-greatest, greatest-in, rises-once}
 use Rattle.rules.proofs.lists.Linked.{Linked, linked-weaken, map-linked, partners}
-use Rattle.rules.proofs.line.Joins.{in-entering, entering-in, taking-in, entering-rise}
+use Rattle.rules.proofs.line.Joins.{entering-in, taking-in, entering-rise}
 use Rattle.rules.proofs.histories.Ghost.{tookAt, Ghost, sentOf, put}
 use Rattle.rules.proofs.histories.Passing.{goesOn, heldOf}
-use Rattle.rules.proofs.invariant.Inv.{timeOf, Enters, Reached, Replays, targetFrom, Inv}
-use Rattle.rules.proofs.invariant.InvLaws.{took-enters, replay-marked, reached-goes}
-use Rattle.rules.proofs.invariant.MarkedLaws.{own, one-channel, put-taken, got-rises, goal-event, goal-cut}
+use Rattle.rules.proofs.invariant.Inv.{timeOf, Enters, Reached, Replays, Inv}
+use Rattle.rules.proofs.invariant.InvLaws.{replay-marked, reached-goes}
+use Rattle.rules.proofs.invariant.MarkedLaws.{one-channel, put-taken, got-rises, goal-event, goal-cut}
 use Rattle.rules.proofs.ending.Kept.{in-passing, order-kept}
 use Rattle.rules.proofs.ending.Children.{made-parts}
 use Rattle.rules.proofs.ending.Targets.{high-above}
 use Rattle.rules.proofs.ending.TableRows.{Slot, slotItem, Earlier, slots, slot-in, same-row, slots-order, rows-items}
 use Rattle.rules.proofs.ending.EndInv.{rowOf, held-rows, row-parts, fixed-event}
-use Rattle.rules.proofs.restart.Placeable.{Suits, Beside, keeps-by}
+use Rattle.rules.proofs.restart.Placeable.{Suits, keeps-by}
 
 -- Two events passed on at one time are one input.
 pub one-input : {l : Line} {g : Ghost} {cut base : ℕ → ℕ} {fed : List Act} {receipts : List Receipt} {crashes : List ℕ} (inv : Inv l g cut base fed receipts crashes) (n : ℕ) {b c : ℕ} {m k : Message} {t u : ℕ}

@@ -2,17 +2,15 @@
 use Prim.Native.Nat.{ℕ, zero, suc, _<_, _≤_}
 use mathlib.Core.Path.{_≡_, refl, sym, _∙_}
 use mathlib.Core.Logic.{_≢_}
-use mathlib.Core.Bool.{Bool, true, false, _&&_, _||_}
+use mathlib.Core.Bool.{true}
 use mathlib.Core.List.{List, [], _∷_, map}
 use native.Mathlib.Omega.{arith}
 use lib.ListN.{length, getD, length-map}
-use lib.Dec.{eqb, ltb}
-use borrow.Author.Tests.{lt-ltb, le-ltb, eq-eqb}
 use Rattle.placing.specs.Item.{Item, itemAt}
 use Rattle.placing.specs.Table.{itemFits, comesAfter, itemsFit}
 use Rattle.placing.specs.Rules.{KeepsRules}
 use Rattle.rules.proofs.lists.Members.{In, here, there}
-use Rattle.rules.proofs.lists.Linked.{Linked, none, more}
+use Rattle.rules.proofs.lists.Linked.{Linked, more}
 
 -- An item's column by itself, and that of a later item beside it.
 abbrev pub Suits : ℕ → ℕ → Item → ℕ → Type 0

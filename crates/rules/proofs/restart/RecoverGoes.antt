@@ -1,17 +1,16 @@
 -- Recover of a down node goes through: its targets are few and do not conflict, and with targets its rows are not all complete at once.
 use Prim.Native.Nat.{ℕ, _<_, _≤_}
 use mathlib.Core.Path.{_≡_, refl, sym, ap, subst, _∙_}
-use mathlib.Core.Logic.{_≢_, inl, inr}
-use mathlib.Core.Bool.{Bool, true, false, true≢false}
+use mathlib.Core.Bool.{Bool, true, false}
 use mathlib.Core.List.{List, [], _∷_}
 use mathlib.Core.Option.{Option, none, some}
 use native.Mathlib.Omega.{arith}
 use lib.ListN.{length}
 use lib.Dec.{ltb}
 use borrow.Author.Tests.{lt-ltb, ltb-true}
-use Rattle.plan.specs.Plan.{nodeCount, channelAt, entering}
+use Rattle.plan.specs.Plan.{nodeCount}
 use Rattle.rules.specs.Lists.{keep, isEmpty}
-use Rattle.rules.specs.Line.{logLimit, targetLimit, Message, Target, down, replay, Line, nodeAt, laneAt}
+use Rattle.rules.specs.Line.{logLimit, targetLimit, Message, Target, down, replay, Line, nodeAt}
 use Rattle.rules.specs.Recover.{lowOf, childTriples, targetsOf, conflict, rowsComplete, recovered, statusOf}
 use Rattle.rules.specs.Replay.{endedIfComplete}
 use Rattle.rules.specs.Step.{recoveredLine}
@@ -20,7 +19,7 @@ use Rattle.rules.proofs.lists.Rising.{Rises, none, past, rises-past}
 use Rattle.rules.proofs.lists.Members.{In, here, in-keep, keep-in, in-none}
 use Rattle.rules.proofs.lists.Counts.{rises-fewer}
 use Rattle.rules.proofs.histories.Ghost.{tookAt, Ghost, sentOf}
-use Rattle.rules.proofs.histories.Passing.{passing, goesOn}
+use Rattle.rules.proofs.histories.Passing.{passing}
 use Rattle.rules.proofs.invariant.Inv.{timeOf, Enters, Reached, targetFrom, Inv}
 use Rattle.rules.proofs.invariant.InvLaws.{took-enters, up-not-down, marked-unless-up, reached-goes}
 use Rattle.rules.proofs.invariant.MarkedLaws.{own, one-channel, got-rises}

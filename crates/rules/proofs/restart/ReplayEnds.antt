@@ -1,8 +1,8 @@
 -- A replay whose rows are complete ends: its targets are held, and the old times are a placing, so the placing gives one.
 use Prim.Native.Nat.{ℕ, _<_, _≤_}
-use mathlib.Core.Path.{_≡_, refl, sym, ap, subst, _∙_}
+use mathlib.Core.Path.{_≡_, refl, sym, subst}
 use mathlib.Core.Bool.{Bool, true, false, not, _&&_}
-use mathlib.Core.List.{List, map}
+use mathlib.Core.List.{List}
 use mathlib.Core.Option.{Option, none, some}
 use native.Mathlib.Omega.{arith}
 use lib.ListN.{length}
@@ -14,17 +14,16 @@ use Rattle.placing.specs.Table.{tableFits}
 use Rattle.placing.specs.Answer.{unplaceable, chosenColumns}
 use Rattle.placing.specs.Rules.{KeepsRules}
 use Rattle.placing.proofs.Promise.{none-exists}
-use Rattle.rules.specs.Lists.{keep, allOf, joined}
+use Rattle.rules.specs.Lists.{joined}
 use Rattle.rules.specs.Line.{stepLimit, Message, Held, Target, replay, Line, nodeAt, laneAt, withNode}
 use Rattle.rules.specs.Recover.{highOf, rowGoal, rowComplete, rowsComplete}
 use Rattle.rules.specs.Replay.{heldByRow, itemsByRow, isHeld, placing, nodePlaced, replayEnd, endedIfComplete}
 use Rattle.rules.specs.Plain.{Act, Receipt}
-use Rattle.rules.proofs.lists.Rising.{until, past}
 use Rattle.rules.proofs.lists.Members.{In, in-keep, keep-in, in-map, in-greatest, all-in, all-by}
 use Rattle.rules.proofs.line.Joins.{in-entering, some-leaves}
-use Rattle.rules.proofs.histories.Ghost.{tookAt, Ghost, put}
+use Rattle.rules.proofs.histories.Ghost.{Ghost, put}
 use Rattle.rules.proofs.histories.Passing.{goesOn, heldOf}
-use Rattle.rules.proofs.invariant.Inv.{timeOf, Enters, Replays, targetFrom, Inv}
+use Rattle.rules.proofs.invariant.Inv.{Enters, Replays, targetFrom, Inv}
 use Rattle.rules.proofs.invariant.InvLaws.{took-enters, replay-marked, reached-goes}
 use Rattle.rules.proofs.invariant.MarkedLaws.{own, taken-put}
 use Rattle.rules.proofs.invariant.Limits.{Limits}

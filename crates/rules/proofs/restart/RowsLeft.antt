@@ -1,6 +1,6 @@
 -- How far a replay has to go: for each incomplete row, the messages that are still to be taken and those still to be sent.
 use Prim.Native.Nat.{ℕ, _+_, _*_, _<_, _≤_}
-use mathlib.Core.Path.{_≡_, refl, sym, ap, subst, _∙_}
+use mathlib.Core.Path.{_≡_, sym, ap, subst}
 use mathlib.Core.Logic.{_≢_}
 use mathlib.Core.Bool.{Bool, true, false, cond}
 use mathlib.Core.List.{List, [], _∷_, map}
@@ -16,7 +16,7 @@ use Rattle.rules.specs.Clock.{messageOf}
 use Rattle.rules.specs.Recover.{rowGoal, rowComplete}
 use Rattle.rules.proofs.lists.Rising.{past}
 use Rattle.rules.proofs.lists.Members.{In, here, there}
-use Rattle.rules.proofs.lists.Counts.{keep-short, keep-fewer, keep-one-fewer}
+use Rattle.rules.proofs.lists.Counts.{keep-short, keep-one-fewer}
 use Rattle.rules.proofs.histories.Ghost.{takesMessage, logPut}
 use Rattle.rules.proofs.invariant.Inv.{timeOf}
 use Rattle.rules.proofs.invariant.Stays.{moved}

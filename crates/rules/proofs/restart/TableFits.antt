@@ -1,19 +1,18 @@
 -- The replay table of a line that keeps its limits is well formed, so that the placing looks for columns.
-use Prim.Native.Nat.{ℕ, suc, _<_, _≤_}
-use mathlib.Core.Path.{_≡_, refl, sym, ap, subst, _∙_}
+use Prim.Native.Nat.{ℕ, _<_, _≤_}
+use mathlib.Core.Path.{_≡_, refl, sym, ap, _∙_}
 use mathlib.Core.Logic.{_≢_, inl, inr}
-use mathlib.Core.Bool.{Bool, true, false, not, cond, _&&_, _||_}
-use mathlib.Core.List.{List, [], _∷_, _++_, map}
+use mathlib.Core.Bool.{Bool, true, not, cond}
+use mathlib.Core.List.{List, [], _∷_, map}
 use native.Mathlib.Omega.{arith}
 use native.Mathlib.Decide.{ℕ-discrete}
 use lib.ListN.{length, length-append}
-use lib.Dec.{eqb, ltb, leb}
+use lib.Dec.{eqb, leb}
 use borrow.Author.Tests.{eq-eqb, ne-eqb, eqb-true, lt-ltb, le-ltb, le-leb}
 use Rattle.plan.specs.declared.Record.{Record}
 use Rattle.plan.specs.Rule.{applied}
-use Rattle.plan.specs.Plan.{Plan, ruleAt, channelAt, channelCount, entering}
+use Rattle.plan.specs.Plan.{ruleAt, channelAt, entering}
 use Rattle.plan.specs.Mask.{taking}
-use Rattle.placing.specs.Item.{Item}
 use Rattle.placing.specs.Table.{mostItems, greatest, tableFits, boundsFit, itemFits, fixedFits, comesAfter, itemsFit}
 use Rattle.rules.specs.Lists.{keep, joined}
 use Rattle.rules.specs.Line.{stepLimit, Message, Held, Line, replay, nodeAt, laneAt}
@@ -31,7 +30,7 @@ use Rattle.rules.proofs.histories.Passing.{heldOf}
 use Rattle.rules.proofs.invariant.Inv.{Enters, Inv}
 use Rattle.rules.proofs.invariant.InvLaws.{replay-marked}
 use Rattle.rules.proofs.invariant.Limits.{Limits, high-within}
-use Rattle.rules.proofs.ending.TableRows.{Slot, slotItem, Earlier, slots, slot-row, rows-items}
+use Rattle.rules.proofs.ending.TableRows.{Slot, slotItem, Earlier, slot-row, rows-items}
 use Rattle.rules.proofs.ending.EndInv.{rowOf, held-rows, row-parts, fixed-event}
 use Rattle.rules.proofs.undamaged.PlacedLog.{items-long}
 use Rattle.rules.proofs.restart.OldTimes.{old-suits, table, table-order, in-table}

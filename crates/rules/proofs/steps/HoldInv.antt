@@ -25,7 +25,7 @@ use Rattle.rules.proofs.histories.PlainRun.{receipt-else}
 use Rattle.rules.proofs.histories.Ghost.{Event, tookAt, Ghost, takesMessage, put, logPut}
 use Rattle.rules.proofs.histories.Passing.{goesOn, heldOf}
 use Rattle.rules.proofs.invariant.Inv.{Inv, isUp, timeOf, Enters, SenderUp, Channels, Ends, Row, Replays, Room, waits, takens}
-use Rattle.rules.proofs.invariant.InvLaws.{took-enters, up-not-replay, replay-not-down, replay-marked, marked-took, ends-up}
+use Rattle.rules.proofs.invariant.InvLaws.{up-not-replay, replay-not-down, replay-marked, marked-took, ends-up}
 use Rattle.rules.proofs.invariant.MarkedLaws.{put-taken, goal-message, goal-cut}
 use Rattle.rules.proofs.invariant.Grow.{sender-taken, sender-cut, sender-same, sender-receiving}
 use Rattle.rules.proofs.invariant.Stays.{moved, everywhere, marks-stay, unmarked-other, nodes-stay, channel-stays, ends-stay, events-stay, replays-stay, replays-keep}

@@ -2,8 +2,8 @@
 use Prim.Native.Nat.{ℕ, suc, max, _+_, _<_, _≤_}
 use mathlib.Core.Path.{_≡_, refl, sym, ap, subst, _∙_}
 use mathlib.Core.Logic.{_≢_, inl, inr}
-use mathlib.Core.Bool.{Bool, true, false, true≢false, cond, _&&_}
-use mathlib.Core.List.{List, [], _∷_, _++_, nil≢cons}
+use mathlib.Core.Bool.{Bool, true, false, cond, _&&_}
+use mathlib.Core.List.{List, []}
 use mathlib.Core.Option.{Option, none, some}
 use native.Mathlib.Omega.{arith}
 use native.Mathlib.Decide.{ℕ-discrete}
@@ -12,33 +12,33 @@ use lib.Dec.{leb}
 use borrow.Author.Tests.{leb-false}
 use Rattle.plan.specs.declared.Record.{Record}
 use Rattle.plan.specs.Record.{recordLayout}
-use Rattle.plan.specs.Plan.{channelAt, channelCount, nodeCount, entering, isSource}
+use Rattle.plan.specs.Plan.{channelAt, channelCount, entering}
 use Rattle.rules.specs.Lists.{allOf, joined, isEmpty}
-use Rattle.rules.specs.Line.{logLimit, heldLimit, fed, made, Origin, Message, Entry, Held, Target, Status, up, down, replay, Node, Lane, Line, nodeAt, laneAt, withNode, withLane, freshLane, parents, isReplay, senderOf, receiverOf}
+use Rattle.rules.specs.Line.{logLimit, heldLimit, fed, made, Origin, Message, Entry, Held, Status, up, replay, Node, Lane, Line, nodeAt, laneAt, withNode, withLane, freshLane, parents, isReplay, senderOf}
 use Rattle.rules.specs.Frame.{Frame, feed, send, take, crash, recover, frameOf}
 use Rattle.rules.specs.Clock.{logged, sentOn, takenFrom, raiseHeard}
-use Rattle.rules.specs.Recover.{lowOf, highOf, targetsOf, conflict, rowsComplete, restored, recovered, statusOf}
-use Rattle.rules.specs.Replay.{passedOn, isHeld, heldByRow, itemsByRow, placing, placedLog, nodePlaced, holding, replayEnd, endedIfComplete}
-use Rattle.rules.specs.Step.{sendable, noSpace, takeLacks, madeBy, toHold, firstRecord, fedLine, sentLine, takenUp, takenLane, takenReplaying, takenFirst, takenLine, crashedLine, recoveredLine, effect, refusal, accepted, step}
+use Rattle.rules.specs.Recover.{highOf, targetsOf, conflict, rowsComplete, recovered, statusOf}
+use Rattle.rules.specs.Replay.{passedOn, isHeld, heldByRow, itemsByRow, placing, nodePlaced, holding, replayEnd, endedIfComplete}
+use Rattle.rules.specs.Step.{takeLacks, madeBy, toHold, firstRecord, fedLine, sentLine, takenUp, takenLane, takenReplaying, recoveredLine, effect, refusal, accepted, step}
 use Rattle.rules.specs.Plain.{Act, Receipt}
 use Rattle.rules.proofs.lists.ListLaws.{empty-none}
 use Rattle.rules.proofs.lists.Options.{some-same, none-some}
-use Rattle.rules.proofs.line.LineLaws.{node-there, node-else, lane-there, lane-else, node-kept}
+use Rattle.rules.proofs.line.LineLaws.{node-there, node-else, lane-there, lane-else}
 use Rattle.rules.proofs.histories.Ghost.{Ghost}
-use Rattle.rules.proofs.invariant.Inv.{Inv, isUp, Enters, Leaves}
+use Rattle.rules.proofs.invariant.Inv.{Inv, isUp}
 use Rattle.rules.proofs.invariant.InvLaws.{up-not-replay, up-not-down, replay-not-down, source-up, replay-marked, marked-unless-up}
 use Rattle.rules.proofs.invariant.MarkedLaws.{at-ends, parent-up}
 use Rattle.rules.proofs.invariant.Grow.{sender-taken, sender-cut}
 use Rattle.rules.proofs.lists.Counts.{length-snoc}
-use Rattle.rules.proofs.invariant.Limits.{Limits, OpenAt, Steady, counted-steady, high-within, rows-same, open-stays, limits-by}
+use Rattle.rules.proofs.invariant.Limits.{Limits, OpenAt, Steady, counted-steady, high-within, open-stays, limits-by}
 use Rattle.rules.proofs.ending.Targets.{low-high}
 use Rattle.rules.proofs.undamaged.PlacedLog.{log-placed}
-use Rattle.rules.proofs.undamaged.Restored.{restoredNode, restoredLine, recovered-is, restored-node, restored-else, restored-shape, restored-enters, restored-leaves, restored-beside, ended-up}
+use Rattle.rules.proofs.undamaged.Restored.{restoredNode, restoredLine, recovered-is, restored-node, restored-else, restored-shape, restored-enters, restored-leaves, restored-beside}
 use Rattle.rules.proofs.undamaged.Crashed.{crashedAfter, crashed-is, crashed-node, crashed-else, crashed-enters, crashed-leaves, crashed-beside}
 use Rattle.rules.proofs.steps.CrashInv as CrashInv
 use Rattle.rules.proofs.ending.RecoverInv as RecoverInv
 use Rattle.rules.proofs.theorem.StepInv.{up-or-replay, sender-gives, taken-is, again-is}
-use Rattle.rules.proofs.theorem.Accepted.{Passed, passed, line-passed, step-accepted, CanFeed, can-feed, CanSend, can-send, CanTake, can-take, CanCrash, can-crash, CanRecover, can-recover}
+use Rattle.rules.proofs.theorem.Accepted.{Passed, passed, line-passed, step-accepted, can-feed, can-send, CanTake, can-take, can-crash, CanRecover, can-recover}
 
 -- The same with a step to spare.
 limits-later : {l : Line} → Limits 0 l → Limits 1 l
