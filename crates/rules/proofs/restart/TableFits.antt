@@ -30,6 +30,7 @@ use Rattle.rules.proofs.histories.Passing.{heldOf}
 use Rattle.rules.proofs.invariant.Inv.{Enters, Inv}
 use Rattle.rules.proofs.invariant.InvLaws.{replay-marked}
 use Rattle.rules.proofs.invariant.Limits.{Limits, high-within}
+use Rattle.rules.proofs.ending.Targets.{high-above}
 use Rattle.rules.proofs.ending.TableRows.{Slot, slotItem, Earlier, slot-row, rows-items}
 use Rattle.rules.proofs.ending.EndInv.{rowOf, held-rows, row-parts, fixed-event}
 use Rattle.rules.proofs.undamaged.PlacedLog.{items-long}
@@ -75,12 +76,13 @@ module _ (l : Line) (g : Ghost) (cut base : ℕ → ℕ) (fed : List Act) (recei
         inv .rooms n (replay-marked (inv .marks) n replaying) .held-few replaying,
       )
 
-  floor-within : (what : Record) → floorOf l n what ≤ greatest
+  -- No floor is above high.
+  floor-within : (what : Record) → floorOf l n what ≤ highOf l n
   unfolding floorOf
   floor-within what =
       elim (greatest-in (map (λ (c : ℕ). laneAt l c .taken) (taking (l .plan) n what))) [
         | inl q ↦ omega (arith, q)
-        | inr i ↦ (let (c, j, q) = map-in (λ (c : ℕ). laneAt l c .taken) (taking (l .plan) n what) i in omega (arith, q, limits .entries c (taking-in (l .plan) n what c j .0)))
+        | inr i ↦ (let (c, j, q) = map-in (λ (c : ℕ). laneAt l c .taken) (taking (l .plan) n what) i in let (on-plan, leaves, _) = taking-in (l .plan) n what c j in omega (arith, q, high-above l n c on-plan leaves))
       ]
 
   -- One slot of the table.
@@ -108,7 +110,7 @@ module _ (l : Line) (g : Ghost) (cut base : ℕ → ℕ) (fed : List Act) (recei
     unfolding fixedFits
     fixed-fits fixed q =
         elim (ℕ-discrete fixed 0) [
-          | yes z ↦ (let what = applied (ruleAt (l .plan) n) (s .message .what) in rw (eq-eqb fixed 0 z) (le-leb (floorOf l n what) greatest (floor-within what), refl))
+          | yes z ↦ (let what = applied (ruleAt (l .plan) n) (s .message .what) in rw (eq-eqb fixed 0 z) (le-leb (floorOf l n what) greatest (omega (arith, floor-within what, high-within limits n)), refl))
           | no d ↦
               (let e = fixed-event l g cut base fed receipts crashes inv n replaying b m enters (row-parts l g cut base fed receipts crashes inv n replaying b m mine .0) (λ z. d (sym q ∙ z)) in
               let (low, high, _, _) = old-suits l g cut base fed receipts crashes inv n replaying b enters m mine F e (s .row) in
