@@ -212,7 +212,7 @@ module _ (l : Line) (g : Ghost) (cut base : ℕ → ℕ) (fed : List Act) (recei
       )
       (omega (arith, keep-short late sent, length-map fs (sentOf p n))) in
       record {
-        floor = low;
+        least = low;
         below = inv .replays n replaying .low;
         few = rw now (omega (arith, few, length-map fs (entryOf p n)));
         held-few = λ e. absurd (up-not-replay (sym alive ∙ e));

@@ -247,13 +247,13 @@ module _ (l : Line) (g : Ghost) (cut base : ℕ → ℕ) (fed : List Act) (recei
   room-now : Room r g n
   room-now =
       let old = inv .rooms n marked in
-      let few : length (past timeOf (old .floor) (passing (l .plan) n (g n))) ≤ logLimit = rw is-down at (old .few) in
-      let low : old .floor ≤ lowOf l n = low-above l n (inv .marks .between n marked .1) (λ c h q. old .below c (h, q)) in
+      let few : length (past timeOf (old .least) (passing (l .plan) n (g n))) ≤ logLimit = rw is-down at (old .few) in
+      let low : old .least ≤ lowOf l n = low-above l n (inv .marks .between n marked .1) (λ c h q. old .below c (h, q)) in
       record {
-        floor = old .floor;
+        least = old .least;
         below = λ c h. omega (arith, old .below c h, taken-leaves c h);
         few = rw now-replays few;
-        held-few = λ e. rw (ap (λ (x : Node). x .held) (node-now replay), time-now) (omega (arith, waits-few (l .plan) n (old .floor) (lowOf l n) (takens r) (g n) low));
+        held-few = λ e. rw (ap (λ (x : Node). x .held) (node-now replay), time-now) (omega (arith, waits-few (l .plan) n (old .least) (lowOf l n) (takens r) (g n) low));
       }
 
   restored-rooms : (m : ℕ) → nodeAt r m .crashed ≡ true → Room r g m

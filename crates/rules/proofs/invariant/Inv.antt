@@ -133,9 +133,9 @@ takens l b = laneAt l b .taken
 
 -- A crashed node's space: past a time that no child's entry is below, it passed on no more events than a log has room for; in a replay, what is held and what it still waits for fit the held list.
 pub record Room (l : Line) (g : Ghost) (n : ℕ) : Type 0 where
-  pub floor : ℕ
-  pub below : (c : ℕ) → Leaves (l .plan) n c → floor ≤ laneAt l c .taken
-  pub few : length (past timeOf floor (passing (l .plan) n (g n))) ≤ roomOf (nodeAt l n .status) (nodeAt l n .log)
+  pub least : ℕ
+  pub below : (c : ℕ) → Leaves (l .plan) n c → least ≤ laneAt l c .taken
+  pub few : length (past timeOf least (passing (l .plan) n (g n))) ≤ roomOf (nodeAt l n .status) (nodeAt l n .log)
   pub held-few : nodeAt l n .status ≡ replay → length (nodeAt l n .held) + length (keep (waits (l .plan) n (nodeAt l n .time) (takens l)) (g n)) ≤ heldLimit
 
 -- All of it.

@@ -59,18 +59,18 @@ module _ (p : Plan) (n : ℕ) where
   waits-sent low taken (fedAt r t) e = absurd (true≢false (sym e))
   waits-sent low taken (tookAt b m t) e = let (a, d, c) = waits-parts low taken b m t e in (a, d)
 
-  pub waits-few : (floor low : ℕ) (taken : ℕ → ℕ) (es : List Event) → floor ≤ low → length (keep (waits p n low taken) es) ≤ length (past timeOf floor (passing p n es))
-  waits-few floor low taken [] h = omega arith
-  waits-few floor low taken (e ∷ es) h = one (waits p n low taken e) (passedOn p n (x .what)) (ltb floor (x .time)) refl refl refl (waits-few floor low taken es h)
+  pub waits-few : (least low : ℕ) (taken : ℕ → ℕ) (es : List Event) → least ≤ low → length (keep (waits p n low taken) es) ≤ length (past timeOf least (passing p n es))
+  waits-few least low taken [] h = omega arith
+  waits-few least low taken (e ∷ es) h = one (waits p n low taken e) (passedOn p n (x .what)) (ltb least (x .time)) refl refl refl (waits-few least low taken es h)
     where
       x : Message
       x = sentOf p n e
 
-      one : (r s t : Bool) → waits p n low taken e ≡ r → passedOn p n (sentOf p n e .what) ≡ s → ltb floor (sentOf p n e .time) ≡ t
-          → length (keep (waits p n low taken) es) ≤ length (past timeOf floor (passing p n es))
-          → length (keepOne r e (keep (waits p n low taken) es)) ≤ length (past timeOf floor (keepOne s (sentOf p n e) (passing p n es)))
+      one : (r s t : Bool) → waits p n low taken e ≡ r → passedOn p n (sentOf p n e .what) ≡ s → ltb least (sentOf p n e .time) ≡ t
+          → length (keep (waits p n low taken) es) ≤ length (past timeOf least (passing p n es))
+          → length (keepOne r e (keep (waits p n low taken) es)) ≤ length (past timeOf least (keepOne s (sentOf p n e) (passing p n es)))
       one true true true a b c ih = rw c (omega arith)
-      one true true false a b c ih = let no : ⊥ = omega (arith, waits-sent low taken e a .1, ltb-false floor (sentOf p n e .time) c) in absurd no
+      one true true false a b c ih = let no : ⊥ = omega (arith, waits-sent low taken e a .1, ltb-false least (sentOf p n e .time) c) in absurd no
       one true false t a b c ih = absurd (true≢false (sym (waits-sent low taken e a .0) ∙ b))
       one false true true a b c ih = rw c (omega arith)
       one false true false a b c ih = rw c ih
@@ -85,7 +85,7 @@ module _ (l : Line) (steps : ℕ) (nodes : List Node) (lanes : List Lane) where
       → ((c : ℕ) → Leaves (l .plan) n c → laneAt l c .taken ≤ laneAt k c .taken) → ((b : ℕ) → Enters (l .plan) n b → laneAt l b .taken ≤ laneAt k b .taken) → Room l g n → Room k g′ n
   room-stays g g′ n same events took out into r =
       record {
-        floor = r .floor;
+        least = r .least;
         below = λ c h. omega (arith, r .below c h, out c h);
         few = rw (same, events) (r .few);
         held-few = λ e.
@@ -102,17 +102,17 @@ room-most down log h = omega arith
 room-most replay log h = omega arith
 
 -- What was passed on is no more than what was done.
-pub passing-short : (p : Plan) (n floor : ℕ) (es : List Event) → length (past timeOf floor (passing p n es)) ≤ length es
-passing-short p n floor es =
+pub passing-short : (p : Plan) (n least : ℕ) (es : List Event) → length (past timeOf least (passing p n es)) ≤ length es
+passing-short p n least es =
     let ms = map (sentOf p n) es in
-    omega (arith, keep-short (λ (m : Message). ltb floor (m .time)) (passing p n es), keep-short (λ (m : Message). passedOn p n (m .what)) ms, length-map es (sentOf p n))
+    omega (arith, keep-short (λ (m : Message). ltb least (m .time)) (passing p n es), keep-short (λ (m : Message). passedOn p n (m .what)) ms, length-map es (sentOf p n))
 
 -- One more event, passed on or not.
-passing-more : (p : Plan) (n floor : ℕ) (es : List Event) (e : Event) → length (past timeOf floor (passing p n (es ++ e ∷ []))) ≤ suc (length (past timeOf floor (passing p n es)))
-passing-more p n floor es e =
-    let late : Message → Bool = λ m. ltb floor (m .time) in
+passing-more : (p : Plan) (n least : ℕ) (es : List Event) (e : Event) → length (past timeOf least (passing p n (es ++ e ∷ []))) ≤ suc (length (past timeOf least (passing p n es)))
+passing-more p n least es e =
+    let late : Message → Bool = λ m. ltb least (m .time) in
     let last = passing p n (e ∷ []) in
-    rw (passing-append p n es (e ∷ []), keep-append late (passing p n es) last, length-append (keep late (passing p n es)) (keep late last)) (omega (arith, passing-short p n floor (e ∷ [])))
+    rw (passing-append p n es (e ∷ []), keep-append late (passing p n es) last, length-append (keep late (passing p n es)) (keep late last)) (omega (arith, passing-short p n least (e ∷ [])))
 
 module _ (l : Line) (n : ℕ) (e : Event) (there : n < length (l .nodes)) (alive : isUp l n) where
   abbrev after : Line
@@ -130,12 +130,12 @@ module _ (l : Line) (n : ℕ) (e : Event) (there : n < length (l .nodes)) (alive
         | yes q ↦
             (let status : nodeAt after m .status ≡ up = ap (λ (x : ℕ). nodeAt after x .status) q ∙ ap (λ (x : Node). x .status) logged-now ∙ alive in
             let was : nodeAt l m .status ≡ up = ap (λ (x : ℕ). nodeAt l x .status) q ∙ alive in
-            let old : length (past timeOf (r .floor) (passing (l .plan) m (g m))) ≤ length (nodeAt l m .log) = rw was at (r .few) in
+            let old : length (past timeOf (r .least) (passing (l .plan) m (g m))) ≤ length (nodeAt l m .log) = rw was at (r .few) in
             let long : length (nodeAt after m .log) ≡ suc (length (nodeAt l m .log)) = ap (λ (x : ℕ). length (nodeAt after x .log)) q ∙ ap (λ (x : Node). length (x .log)) logged-now ∙ length-snoc (nodeAt l n .log) _ ∙ ap (λ (x : ℕ). suc (length (nodeAt l x .log))) (sym q) in
             record {
-              floor = r .floor;
+              least = r .least;
               below = r .below;
-              few = rw (status, long, later-there g n m e q) (omega (arith, passing-more (l .plan) m (r .floor) (g m) e));
+              few = rw (status, long, later-there g n m e q) (omega (arith, passing-more (l .plan) m (r .least) (g m) e));
               held-few = λ z. absurd (up-not-replay (sym status ∙ z));
             })
       ]

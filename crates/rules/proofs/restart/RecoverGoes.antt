@@ -76,16 +76,16 @@ module _ (l : Line) (g : Ghost) (cut base : ℕ → ℕ) (fed : List Act) (recei
   pub targets-few : length (targetsOf l n) ≤ targetLimit
   targets-few =
       let room = inv .rooms n marked in
-      let few : length (past timeOf (room .floor) (passing (l .plan) n (g n))) ≤ logLimit = rw is-down at (room .few) in
-      let low : room .floor ≤ lowOf l n = low-above l n (inv .marks .between n marked .1) (λ c h q. room .below c (h, q)) in
+      let few : length (past timeOf (room .least) (passing (l .plan) n (g n))) ≤ logLimit = rw is-down at (room .few) in
+      let low : room .least ≤ lowOf l n = low-above l n (inv .marks .between n marked .1) (λ c h q. room .below c (h, q)) in
       omega (
         arith,
         few,
-        rises-fewer targetTime timeOf targets-rise (rises-past timeOf (room .floor) (inv .events n .rise)) (λ u i.
+        rises-fewer targetTime timeOf targets-rise (rises-past timeOf (room .least) (inv .events n .rise)) (λ u i.
             (let (j, late) = targets-from l n u i in
             let (b, m, t, on, is, reached) = event u j in
             let time = ap (λ (x : Target). x .time) is in
-            (sentOf (l .plan) n (tookAt b m t), in-keep (λ (x : Message). ltb (room .floor) (x .time)) (in-passing (l .plan) n on (reached-goes reached)) (lt-ltb (room .floor) t (omega (arith, late, low, time))), time))),
+            (sentOf (l .plan) n (tookAt b m t), in-keep (λ (x : Message). ltb (room .least) (x .time)) (in-passing (l .plan) n on (reached-goes reached)) (lt-ltb (room .least) t (omega (arith, late, low, time))), time))),
       )
 
   -- With a target, its row is not complete at once: it came past low, so its input past the restored entry.

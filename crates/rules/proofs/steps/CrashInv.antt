@@ -140,14 +140,14 @@ module _ (l : Line) (g : Ghost) (cut base : ℕ → ℕ) (fed : List Act) (recei
       given : (k : ℕ) → ((c : ℕ) → Leaves (l .plan) n c → k ≤ laneAt l c .taken) → length (past timeOf k (passing (l .plan) n (g n))) ≤ logLimit → Room (crashedAfter l n) g n
       given k below few =
           record {
-            floor = k;
+            least = k;
             below = λ c h. omega (arith, below c h, ap (λ (x : Lane). x .taken) (crashed-leaves l n (inv .ordered) (inv .shape) c h));
             few = rw gone few;
             held-few = λ e. absurd (replay-not-down (sym e ∙ gone));
           }
 
       again : nodeAt l n .crashed ≡ true → Room (crashedAfter l n) g n
-      again e = let r = inv .rooms n e in given (r .floor) (r .below) (omega (arith, r .few, room-most (nodeAt l n .status) (nodeAt l n .log) log-few))
+      again e = let r = inv .rooms n e in given (r .least) (r .below) (omega (arith, r .few, room-most (nodeAt l n .status) (nodeAt l n .log) log-few))
 
       first : nodeAt l n .crashed ≡ false → Room (crashedAfter l n) g n
       first e = given 0 (λ c h. omega arith) (omega (arith, passing-short (l .plan) n 0 (g n), ap length (inv .nodes .logged n e), length-map (g n) (entryOf (l .plan) n), log-few))

@@ -202,7 +202,7 @@ module _ (l : Line) (g : Ghost) (cut base : ℕ → ℕ) (fed : List Act) (recei
     room-own : Room l g n → Room after g n
     room-own r =
         record {
-          floor = r .floor;
+          least = r .least;
           below = λ c h. omega (arith, r .below c h, raised c);
           few = rw (status, log) (r .few);
           held-few = λ e. rw (held, time) (fits (goesOn (l .plan) n m) refl);
