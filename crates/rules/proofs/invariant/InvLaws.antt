@@ -1,21 +1,23 @@
 -- What follows from the invariant at once: who is up, and where a node's events came from.
-use Prim.Native.Nat.{ℕ}
-use mathlib.Core.Path.{_≡_, refl, sym, _∙_}
+use Prim.Native.Nat.{ℕ, _<_}
+use mathlib.Core.Path.{_≡_, refl, sym, ap, _∙_}
 use mathlib.Core.Logic.{_≢_}
 use mathlib.Core.Bool.{Bool, true, false, true≢false}
 use mathlib.Core.List.{List, _∷_, map}
 use native.Mathlib.Omega.{arith}
+use native.Mathlib.Decide.{decLt}
+use lib.ListN.{List·getD-eq-default}
 use Rattle.plan.specs.Rule.{applied}
-use Rattle.plan.specs.Plan.{Plan, ruleAt, channelAt, isSource}
+use Rattle.plan.specs.Plan.{Plan, ruleAt, channelAt, nodeCount, isSource}
 use Rattle.rules.specs.Lists.{greatestOf}
-use Rattle.rules.specs.Line.{Message, up, down, replay, Line, nodeAt, laneAt}
+use Rattle.rules.specs.Line.{Message, up, down, replay, Node, Line, freshNode, nodeAt, laneAt}
 use Rattle.rules.specs.Plain.{Act, Receipt}
 use Rattle.rules.proofs.lists.Members.{In, here, there}
 use Rattle.rules.proofs.histories.Witness.{Taken, more}
 use Rattle.rules.proofs.histories.Ghost.{Event, tookAt, Ghost, inputOf, got}
 use Rattle.rules.proofs.histories.Passing.{goesOn}
 use Rattle.rules.proofs.line.Joins.{takes-passed}
-use Rattle.rules.proofs.invariant.Inv.{timeOf, isUp, Enters, Reached, Marks, Nodes, Ends}
+use Rattle.rules.proofs.invariant.Inv.{timeOf, isUp, Enters, Reached, Shape, Marks, Nodes, Ends}
 
 pub up-not-replay : up ≡ replay → ⊥
 up-not-replay e = let z : _≡_ {A = ℕ} 0 1 = cc in omega arith
@@ -25,6 +27,13 @@ up-not-down e = let z : _≡_ {A = ℕ} 0 1 = cc in omega arith
 
 pub replay-not-down : replay ≡ down → ⊥
 replay-not-down e = let z : _≡_ {A = ℕ} 0 1 = cc in omega arith
+
+-- A node that is not up is one of the plan's.
+pub not-up-inside : {l : Line} → Shape l → (n : ℕ) → nodeAt l n .status ≢ up → n < nodeCount (l .plan)
+not-up-inside {l} shape n d = elim (decLt n (nodeCount (l .plan))) [
+  | yes h ↦ h
+  | no h ↦ absurd (d (ap (λ (x : Node). x .status) (List·getD-eq-default (l .nodes) freshNode (omega (arith, shape .nodes-long)))))
+]
 
 -- A mark is there or not.
 pub if-marked : {A : Type 0} (b : Bool) → (b ≡ true → A) → (b ≡ false → A) → A

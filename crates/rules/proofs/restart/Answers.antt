@@ -12,7 +12,7 @@ use lib.Dec.{leb}
 use borrow.Author.Tests.{leb-false, lt-leb, le-ltb}
 use Rattle.plan.specs.Plan.{nodeCount, channelCount, channelAt}
 use Rattle.rules.specs.Lists.{isEmpty}
-use Rattle.rules.specs.Line.{stepLimit, heldLimit, targetLimit, Status, up, down, replay, Line, freshNode, noLane, nodeAt, laneAt, receiverOf, isDown}
+use Rattle.rules.specs.Line.{stepLimit, heldLimit, targetLimit, Status, down, replay, Line, noLane, nodeAt, laneAt, receiverOf, isDown}
 use Rattle.rules.specs.Frame.{Frame, take, recover}
 use Rattle.rules.specs.Recover.{targetsOf, rowComplete}
 use Rattle.rules.specs.Step.{noStepsLeft, noSuch, wrongNode, wrongStatus, besideCrashed, badRecord, nothingThere, queueFull, rowDone, takeLacks, noSpace, effect, noPlacing, lineRefusal, refusal}
@@ -21,7 +21,7 @@ use Rattle.rules.proofs.lists.Members.{in-keep}
 use Rattle.rules.proofs.lists.Counts.{in-long}
 use Rattle.rules.proofs.histories.Passing.{goesOn}
 use Rattle.rules.proofs.invariant.Inv.{isUp, waits, takens}
-use Rattle.rules.proofs.invariant.InvLaws.{up-not-down, replay-marked, marked-unless-up}
+use Rattle.rules.proofs.invariant.InvLaws.{not-up-inside, up-not-down, replay-marked, marked-unless-up}
 use Rattle.rules.proofs.invariant.MarkedLaws.{parent-up}
 use Rattle.rules.proofs.steps.HoldInv.{waited}
 use Rattle.rules.proofs.theorem.Accepted.{CanTake, may-take, may-recover}
@@ -77,16 +77,10 @@ answered l f u goes = go (noStepsLeft l) refl
           unlessUsedUp,
         )
 
--- A node that is down is one of the plan's, and a channel with a message on it too.
 module _ (l : Line) (known : Known l) where
   open Known known using (ghost, cut, base, fed, receipts, crashes, inv)
 
-  pub down-inside : (n : ℕ) → nodeAt l n .status ≢ up → n < nodeCount (l .plan)
-  down-inside n d = elim (decLt n (nodeCount (l .plan))) [
-    | yes h ↦ h
-    | no h ↦ absurd (d (ap (λ (x : _). x .status) (List·getD-eq-default (l .nodes) freshNode (omega (arith, inv .shape .nodes-long)))))
-  ]
-
+  -- A channel with a message on it is one of the plan's.
   queue-inside : (b : ℕ) → isEmpty (laneAt l b .queue) ≡ false → b < channelCount (l .plan)
   queue-inside b e = elim (decLt b (channelCount (l .plan))) [
     | yes h ↦ h
@@ -95,7 +89,7 @@ module _ (l : Line) (known : Known l) where
 
   pub recover-unrefused : (n : ℕ) → nodeAt l n .status ≡ down → Unrefused l (recover n)
   recover-unrefused n e =
-      let inside = down-inside n (λ z. up-not-down (sym z ∙ e)) in
+      let inside = not-up-inside (inv .shape) n (λ z. up-not-down (sym z ∙ e)) in
       let marked = marked-unless-up (inv .marks) n (λ z. up-not-down (sym z ∙ e)) in
       let (source, sink) = inv .marks .between n marked in
       record {

@@ -16,14 +16,14 @@ use Rattle.rules.specs.Restart.{recoverFrame, OnEntering, no-more, Resta
 use Rattle.rules.proofs.lists.ListLaws.{nil-right}
 use Rattle.rules.proofs.lists.Members.{In, not-all}
 use Rattle.rules.proofs.line.Joins.{entering-in}
-use Rattle.rules.proofs.invariant.InvLaws.{up-not-replay, up-not-down}
+use Rattle.rules.proofs.invariant.InvLaws.{not-up-inside, up-not-replay, up-not-down}
 use Rattle.rules.proofs.undamaged.Restored.{recovered-is, restored-node}
 use Rattle.rules.proofs.theorem.Accepted.{may-recover, step-accepted}
 use Rattle.rules.proofs.theorem.PlanKept.{step-plan}
 use Rattle.rules.proofs.restart.Known.{Known, known-step}
 use Rattle.rules.proofs.restart.Frames.{recover-is}
 use Rattle.rules.proofs.restart.NeverUnplaced.{recover-goes}
-use Rattle.rules.proofs.restart.Answers.{down-inside, recover-unrefused, recovers}
+use Rattle.rules.proofs.restart.Answers.{recover-unrefused, recovers}
 use Rattle.rules.proofs.restart.RowsLeft.{rowsLeft, row-most, total-most}
 use Rattle.rules.proofs.restart.Advance.{Advances, some-left, advance-at, left-zero}
 
@@ -115,7 +115,7 @@ bring (suc j) l known n again few left =
 bring-all : (l : Line) → Known l → (n : ℕ) → nodeAt l n .status ≡ replay → l .steps + 512 ≤ stepLimit → Brought 512 l n
 bring-all l known n again left =
     bring 512 l known n again
-    (total-most _ 4 (entering (l .plan) n) (λ b i. row-most l 0 (known .steady .limits) n b) (known .rows n (down-inside l known n (λ z. up-not-replay (sym z ∙ again))))) left
+    (total-most _ 4 (entering (l .plan) n) (λ b i. row-most l 0 (known .steady .limits) n b) (known .rows n (not-up-inside (known .inv .shape) n (λ z. up-not-replay (sym z ∙ again))))) left
 
 -- A node that is down is recovered first.
 module _ (l : Line) (known : Known l) (n : ℕ) (gone : nodeAt l n .status ≡ down) (left : l .steps + restartSteps ≤ stepLimit) where
@@ -135,7 +135,7 @@ module _ (l : Line) (known : Known l) (n : ℕ) (gone : nodeAt l n .status ≡ d
   unfolding counted
   next-status =
       let inv = known .inv in
-      ap (λ (k : Line). nodeAt k n .status) (next-is ∙ ap counted (recovered-is l n (inv .ordered) (inv .shape))) ∙ ap (λ (x : Node). x .status) (restored-node l n (inv .ordered) (inv .shape) (down-inside l known n (λ z. up-not-down (sym z ∙ gone))))
+      ap (λ (k : Line). nodeAt k n .status) (next-is ∙ ap counted (recovered-is l n (inv .ordered) (inv .shape))) ∙ ap (λ (x : Node). x .status) (restored-node l n (inv .ordered) (inv .shape) (not-up-inside (known .inv .shape) n (λ z. up-not-down (sym z ∙ gone))))
 
   next-steps : next .steps ≡ suc (l .steps)
   unfolding counted
