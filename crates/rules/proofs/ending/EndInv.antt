@@ -32,7 +32,7 @@ use Rattle.rules.proofs.line.Joins.{in-entering, entering-in, in-taking
 use Rattle.rules.proofs.ending.Targets.{high-above}
 use Rattle.rules.proofs.undamaged.PlacedLog.{placing-keeps}
 use Rattle.rules.proofs.ending.PlacedEvents.{PlacedEvents, placed-events}
-use Rattle.rules.proofs.invariant.Inv.{timeOf, Enters, Leaves, Reached, Replays, Inv}
+use Rattle.rules.proofs.invariant.Inv.{timeOf, Enters, Leaves, Reached, targetFrom, Replays, Inv}
 use Rattle.rules.proofs.invariant.InvLaws.{took-enters, reached-goes, replay-marked}
 use Rattle.rules.proofs.invariant.MarkedLaws.{own, one-channel, taken-put, got-rises}
 use Rattle.rules.proofs.ending.RebuildEvents.{Rebuilding}
@@ -59,6 +59,17 @@ module _ (l : Line) (g : Ghost) (cut base : ℕ → ℕ) (fed : List Act) (recei
       let (k, above) = keep-in (λ (x : Message). ltb (base b) (x .time)) (until timeOf (laneAt l b .taken) (put (l .plan) g b)) j in
       let (on, upto) = keep-in (λ (x : Message). leb (x .time) (laneAt l b .taken)) (put (l .plan) g b) k in
       (on, goes, ltb-true (base b) (m .time) above, leb-true (m .time) (laneAt l b .taken) upto)
+
+  -- A held record that is a target is fixed, at no less than the target's time.
+  pub fixed-above : (b : ℕ) (m : Message) (t : ℕ) → In (targetFrom (l .plan) b m t) (nodeAt l n .targets) → t ≤ fixedAt (nodeAt l n .targets) (heldOf (l .plan) n b m)
+  fixed-above b m t i =
+      let A = channelAt (l .plan) b .sender in
+      in-greatest (in-map (λ (u : Target). u .time) (in-keep (λ (u : Target). eqb (u .parent) A && eqb (u .parentTime) (m .time)) i (rw (eq-eqb A A refl, eq-eqb (m .time) (m .time) refl))))
+
+  -- Complete, a row's entry has reached its goal.
+  pub row-complete : rowsComplete l n ≡ true → (b : ℕ) → Enters (l .plan) n b → rowGoal (nodeAt l n .targets) (channelAt (l .plan) b .sender) ≤ laneAt l b .taken
+  unfolding rowsComplete rowComplete
+  row-complete complete b h = leb-true (rowGoal (nodeAt l n .targets) (channelAt (l .plan) b .sender)) (laneAt l b .taken) (all-in (rowComplete l n) complete (in-entering (l .plan) n b (h .0) (h .1)))
 
   -- A held record that is a target was an event at the target's time.
   pub fixed-event : (b : ℕ) (m : Message) → Enters (l .plan) n b → In m (put (l .plan) g b) → fixedAt (nodeAt l n .targets) (heldOf (l .plan) n b m) ≢ 0 → In (tookAt b m (fixedAt (nodeAt l n .targets) (heldOf (l .plan) n b m))) (g n)
@@ -107,7 +118,7 @@ module _ (l : Line) (g : Ghost) (cut base : ℕ → ℕ) (fed : List Act) (recei
           let mine : x ≡ m = rises-once timeOf (inv .channels b on .rises) (row-parts b x k .0) put-m (ap (λ (z : Held). z .time) (sym e) ∙ eqb-true (held .time) (m .time) u) in
           let (v, w) = P .placed b m (in-entering (l .plan) n b on into) (subst (λ (z : Message). In z (rowOf b)) mine k) in
           let F = fixedAt ts (heldOf (l .plan) n b m) in
-          let among : t ≤ F = in-greatest (in-map (λ (z : Target). z .time) (in-keep (λ (z : Target). eqb (z .parent) A && eqb (z .parentTime) (m .time)) target (rw (eq-eqb A A refl, eq-eqb (m .time) (m .time) refl)))) in
+          let among : t ≤ F = fixed-above b m t target in
           let nonzero : F ≢ 0 = λ z. omega arith in
           let goes = reached-goes reached in
           let not-later : F ≤ t = order-kept (l .plan) n (g n) (inv .events n .rise) (got-rises inv n marked b h) (fixed-event b m h put-m nonzero) i goes goes (omega arith) in
@@ -134,7 +145,6 @@ module _ (l : Line) (g : Ghost) (cut base : ℕ → ℕ) (fed : List Act) (recei
           ]
 
     rebuilding : Rebuilding l g base n (highOf l n) fs
-    unfolding rowsComplete rowComplete
     rebuilding =
         let (c, out) = some-leaves (l .plan) n (inv .marks .between n marked .1) in
         record {
@@ -145,7 +155,7 @@ module _ (l : Line) (g : Ghost) (cut base : ℕ → ℕ) (fed : List Act) (recei
           rises = P .rises;
           within = P .within;
           got-is = λ b h. P .got-is b (in-entering (l .plan) n b (h .0) (h .1));
-          complete = λ b h. leb-true (rowGoal (nodeAt l n .targets) (channelAt (l .plan) b .sender)) (laneAt l b .taken) (all-in (rowComplete l n) complete (in-entering (l .plan) n b (h .0) (h .1)));
+          complete = row-complete complete;
           low = omega (arith, R .low c out, high-above l n c (out .0) (out .1));
           high = λ d o. high-above l n d (o .0) (o .1);
           reached-placed = reached-placed;

@@ -8,8 +8,8 @@ use mathlib.Core.Option.{none, some}
 use native.Mathlib.Omega.{arith}
 use native.Mathlib.Decide.{ℕ-discrete}
 use lib.ListN.{length, length-set}
-use lib.Dec.{eqb}
-use borrow.Author.Tests.{eq-eqb, ne-eqb}
+use lib.Dec.{eqb, ltb}
+use borrow.Author.Tests.{eq-eqb, ne-eqb, lt-ltb, ltb-true}
 use Rattle.plan.specs.Plan.{channelAt, nodeCount, channelCount}
 use Rattle.rules.specs.Lists.{keep, isEmpty}
 use Rattle.rules.specs.Line.{logLimit, Message, Entry, Held, Target, Status, up, down, replay, Node, Lane, Line, nodeAt, laneAt, withNode, freshLane}
@@ -20,6 +20,7 @@ use Rattle.rules.specs.Step.{recoveredLine}
 use Rattle.rules.specs.Plain.{Act, Receipt}
 use Rattle.rules.proofs.lists.Rising.{until, past, Rises, none, Within, none-in, past-none, within-until, within-higher, until-none, rises-past}
 use Rattle.rules.proofs.lists.Members.{In, in-none}
+use Rattle.rules.proofs.lists.Counts.{keep-fewer}
 use Rattle.rules.proofs.lists.Options.{some-same, none-some}
 use Rattle.rules.proofs.histories.Witness.{Taken, none}
 use Rattle.rules.proofs.line.LineLaws.{node-there, node-else}
@@ -49,6 +50,18 @@ log-whole {l} {g} nodes b e =
 module _ (l : Line) (g : Ghost) (cut base : ℕ → ℕ) (fed : List Act) (receipts : List Receipt) (crashes : List ℕ) (inv : Inv l g cut base fed receipts crashes) (n : ℕ) (inside : n < nodeCount (l .plan)) (is-down : nodeAt l n .status ≡ down) where
   marked : nodeAt l n .crashed ≡ true
   marked = marked-unless-up (inv .marks) n (λ e. up-not-down (sym e ∙ is-down))
+
+  -- Past low it passed on no more events than a log has room for.
+  pub room-low : length (past timeOf (lowOf l n) (passing (l .plan) n (g n))) ≤ logLimit
+  room-low =
+      let room = inv .rooms n marked in
+      let least : room .least ≤ lowOf l n = low-above l n (inv .marks .between n marked .1) (λ c h q. room .below c (h, q)) in
+      let few : length (past timeOf (room .least) (passing (l .plan) n (g n))) ≤ logLimit = rw is-down at (room .few) in
+      omega (
+        arith,
+        few,
+        keep-fewer (λ (x : Message). ltb (lowOf l n) (x .time)) (λ (x : Message). ltb (room .least) (x .time)) (passing (l .plan) n (g n)) (λ x i e. lt-ltb (room .least) (x .time) (omega (arith, least, ltb-true (lowOf l n) (x .time) e))),
+      )
 
   -- The restored entries of the entering channels.
   abbrev pub baseAfter : ℕ → ℕ
@@ -246,14 +259,11 @@ module _ (l : Line) (g : Ghost) (cut base : ℕ → ℕ) (fed : List Act) (recei
   -- Nothing is held yet, and what it waits for had room in a log.
   room-now : Room r g n
   room-now =
-      let old = inv .rooms n marked in
-      let few : length (past timeOf (old .least) (passing (l .plan) n (g n))) ≤ logLimit = rw is-down at (old .few) in
-      let low : old .least ≤ lowOf l n = low-above l n (inv .marks .between n marked .1) (λ c h q. old .below c (h, q)) in
       record {
-        least = old .least;
-        below = λ c h. omega (arith, old .below c h, taken-leaves c h);
-        few = rw now-replays few;
-        held-few = λ e. rw (ap (λ (x : Node). x .held) (node-now replay), time-now) (omega (arith, waits-few (l .plan) n (old .least) (lowOf l n) (takens r) (g n) low));
+        least = lowOf l n;
+        below = λ c h. omega (arith, low-below l n c (h .0) (h .1), taken-leaves c h);
+        few = rw now-replays room-low;
+        held-few = λ e. rw (ap (λ (x : Node). x .held) (node-now replay), time-now) (omega (arith, room-low, waits-few (l .plan) n (lowOf l n) (takens r) (g n)));
       }
 
   restored-rooms : (m : ℕ) → nodeAt r m .crashed ≡ true → Room r g m

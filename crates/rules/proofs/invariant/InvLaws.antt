@@ -5,7 +5,7 @@ use mathlib.Core.Logic.{_≢_}
 use mathlib.Core.Bool.{Bool, true, false, true≢false}
 use mathlib.Core.List.{List, _∷_, map}
 use native.Mathlib.Omega.{arith}
-use native.Mathlib.Decide.{decLt}
+use native.Mathlib.Decide.{decLe, decLt}
 use lib.ListN.{List·getD-eq-default}
 use Rattle.plan.specs.Rule.{applied}
 use Rattle.plan.specs.Plan.{Plan, ruleAt, channelAt, nodeCount, isSource}
@@ -17,7 +17,7 @@ use Rattle.rules.proofs.histories.Witness.{Taken, more}
 use Rattle.rules.proofs.histories.Ghost.{Event, tookAt, Ghost, inputOf, got}
 use Rattle.rules.proofs.histories.Passing.{goesOn}
 use Rattle.rules.proofs.line.Joins.{takes-passed}
-use Rattle.rules.proofs.invariant.Inv.{timeOf, isUp, Enters, Reached, Shape, Marks, Nodes, Ends}
+use Rattle.rules.proofs.invariant.Inv.{timeOf, isUp, Enters, Reached, Shape, Marks, Nodes, Ends, Replays}
 
 pub up-not-replay : up ≡ replay → ⊥
 up-not-replay e = let z : _≡_ {A = ℕ} 0 1 = cc in omega arith
@@ -52,6 +52,14 @@ ends-up alive exact = record { exact = exact; stopped = λ d. absurd (d alive); 
 -- What has reached a child goes on.
 pub reached-goes : {l : Line} {n : ℕ} {m : Message} {t : ℕ} → Reached l n m t → goesOn (l .plan) n m ≡ true
 reached-goes {l} {n} {m} r = takes-passed (l .plan) n (applied (ruleAt (l .plan) n) (m .what)) (r .channel) (r .on-plan) (r .leaves) (r .takes-it)
+
+-- What a replaying node passed on of a message past the restored entry, it did past low; and the other way round.
+module _ {l : Line} {g : Ghost} {cut base : ℕ → ℕ} {n : ℕ} (r : Replays l g cut base n) {b : ℕ} {m : Message} {t : ℕ} (i : In (tookAt b m t) (g n)) (goes : goesOn (l .plan) n m ≡ true) where
+  pub past-low : base b < m .time → nodeAt l n .time < t
+  past-low h = elim (decLe t (nodeAt l n .time)) [ yes z ↦ (let no : ⊥ = omega (arith, r .base-cuts b m t i goes .1 z) in absurd no) | no z ↦ omega arith ]
+
+  pub past-base : nodeAt l n .time < t → base b < m .time
+  past-base h = elim (decLe (m .time) (base b)) [ yes z ↦ (let no : ⊥ = omega (arith, r .base-cuts b m t i goes .0 z) in absurd no) | no z ↦ omega arith ]
 
 module _ {l : Line} {crashes : List ℕ} (marks : Marks l crashes) (n : ℕ) where
   pub marked-unless-up : nodeAt l n .status ≢ up → nodeAt l n .crashed ≡ true

@@ -59,18 +59,18 @@ module _ (p : Plan) (n : ℕ) where
   waits-sent low taken (fedAt r t) e = absurd (true≢false (sym e))
   waits-sent low taken (tookAt b m t) e = let (a, d, c) = waits-parts low taken b m t e in (a, d)
 
-  pub waits-few : (least low : ℕ) (taken : ℕ → ℕ) (es : List Event) → least ≤ low → length (keep (waits p n low taken) es) ≤ length (past timeOf least (passing p n es))
-  waits-few least low taken [] h = omega arith
-  waits-few least low taken (e ∷ es) h = one (waits p n low taken e) (passedOn p n (x .what)) (ltb least (x .time)) refl refl refl (waits-few least low taken es h)
+  pub waits-few : (low : ℕ) (taken : ℕ → ℕ) (es : List Event) → length (keep (waits p n low taken) es) ≤ length (past timeOf low (passing p n es))
+  waits-few low taken [] = omega arith
+  waits-few low taken (e ∷ es) = one (waits p n low taken e) (passedOn p n (x .what)) (ltb low (x .time)) refl refl refl (waits-few low taken es)
     where
       x : Message
       x = sentOf p n e
 
-      one : (r s t : Bool) → waits p n low taken e ≡ r → passedOn p n (sentOf p n e .what) ≡ s → ltb least (sentOf p n e .time) ≡ t
-          → length (keep (waits p n low taken) es) ≤ length (past timeOf least (passing p n es))
-          → length (keepOne r e (keep (waits p n low taken) es)) ≤ length (past timeOf least (keepOne s (sentOf p n e) (passing p n es)))
+      one : (r s t : Bool) → waits p n low taken e ≡ r → passedOn p n (sentOf p n e .what) ≡ s → ltb low (sentOf p n e .time) ≡ t
+          → length (keep (waits p n low taken) es) ≤ length (past timeOf low (passing p n es))
+          → length (keepOne r e (keep (waits p n low taken) es)) ≤ length (past timeOf low (keepOne s (sentOf p n e) (passing p n es)))
       one true true true a b c ih = rw c (omega arith)
-      one true true false a b c ih = let no : ⊥ = omega (arith, waits-sent low taken e a .1, ltb-false least (sentOf p n e .time) c) in absurd no
+      one true true false a b c ih = let no : ⊥ = omega (arith, waits-sent low taken e a .1, ltb-false low (sentOf p n e .time) c) in absurd no
       one true false t a b c ih = absurd (true≢false (sym (waits-sent low taken e a .0) ∙ b))
       one false true true a b c ih = rw c (omega arith)
       one false true false a b c ih = rw c ih

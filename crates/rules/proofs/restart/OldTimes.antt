@@ -1,36 +1,36 @@
 -- The node's history before the crash is itself a placing: what a replay holds were its events, and their old times keep the rules.
 use Prim.Native.Nat.{ℕ, _<_, _≤_}
-use mathlib.Core.Path.{_≡_, refl, sym, ap, subst, _∙_}
+use mathlib.Core.Path.{_≡_, sym, ap, subst, _∙_}
 use mathlib.Core.Logic.{_≢_, inl, inr}
-use mathlib.Core.Bool.{true, _&&_}
+use mathlib.Core.Bool.{true}
 use mathlib.Core.List.{List, map, map-map}
 use native.Mathlib.Omega.{arith}
 use native.Mathlib.Decide.{decLe}
-use lib.Dec.{eqb, ltb, leb}
+use lib.Dec.{ltb, leb}
 use borrow.Author.Tests.{eq-eqb}
 use Rattle.plan.specs.Rule.{applied}
 use Rattle.plan.specs.Plan.{ruleAt, channelAt, entering}
 use Rattle.plan.specs.Mask.{taking}
 use Rattle.placing.specs.Item.{Item}
 use Rattle.placing.specs.Rules.{KeepsRules}
-use Rattle.rules.specs.Line.{Message, Target, replay, Line, nodeAt, laneAt}
+use Rattle.rules.specs.Line.{Message, replay, Line, nodeAt, laneAt}
 use Rattle.rules.specs.Recover.{highOf, rowGoal}
 use Rattle.rules.specs.Replay.{fixedAt, floorOf, itemOf, heldByRow, itemsByRow}
 use Rattle.rules.specs.Plain.{Act, Receipt}
 use Rattle.rules.proofs.lists.Rising.{Rises, rises-keep}
-use Rattle.rules.proofs.lists.Members.{In, in-keep, in-map, map-in, in-greatest, greatest-in, rises-once}
+use Rattle.rules.proofs.lists.Members.{In, in-map, map-in, greatest-in, rises-once}
 use Rattle.rules.proofs.lists.Linked.{Linked, linked-weaken, map-linked, partners}
 use Rattle.rules.proofs.line.Joins.{entering-in, taking-in, entering-rise}
 use Rattle.rules.proofs.histories.Ghost.{tookAt, Ghost, sentOf, put}
 use Rattle.rules.proofs.histories.Passing.{goesOn, heldOf}
-use Rattle.rules.proofs.invariant.Inv.{timeOf, Enters, Reached, Replays, Inv}
-use Rattle.rules.proofs.invariant.InvLaws.{replay-marked, reached-goes}
+use Rattle.rules.proofs.invariant.Inv.{timeOf, Enters, Replays, Inv}
+use Rattle.rules.proofs.invariant.InvLaws.{past-low, replay-marked, reached-goes}
 use Rattle.rules.proofs.invariant.MarkedLaws.{one-channel, put-taken, got-rises, goal-event, goal-cut}
 use Rattle.rules.proofs.ending.Kept.{in-passing, order-kept}
 use Rattle.rules.proofs.ending.Children.{made-parts}
 use Rattle.rules.proofs.ending.Targets.{high-above}
 use Rattle.rules.proofs.ending.TableRows.{Slot, slotItem, Earlier, slots, slot-in, same-row, slots-order, rows-items}
-use Rattle.rules.proofs.ending.EndInv.{rowOf, held-rows, row-parts, fixed-event}
+use Rattle.rules.proofs.ending.EndInv.{rowOf, held-rows, row-parts, fixed-above, fixed-event}
 use Rattle.rules.proofs.restart.Placeable.{Suits, keeps-by}
 
 -- Two events passed on at one time are one input.
@@ -49,14 +49,6 @@ module _ (l : Line) (g : Ghost) (cut base : ℕ → ℕ) (fed : List Act) (recei
 
   abbrev row : ℕ → List Message
   row = rowOf l g cut base fed receipts crashes inv n replaying
-
-  -- A message past the restored entry was taken past low.
-  late : (b : ℕ) (m : Message) (t : ℕ) → In (tookAt b m t) (g n) → goesOn (l .plan) n m ≡ true → base b < m .time → nodeAt l n .time < t
-  late b m t i goes above = elim (decLe t (nodeAt l n .time)) [ yes z ↦ (let no : ⊥ = omega (arith, R .base-cuts b m t i goes .1 z) in absurd no) | no z ↦ omega arith ]
-
-  -- A target's row has its message past the restored entry.
-  pub target-above : (b : ℕ) (m : Message) (t : ℕ) → In (tookAt b m t) (g n) → nodeAt l n .time < t → Reached l n m t → base b < m .time
-  target-above b m t i h reached = elim (decLe (m .time) (base b)) [ yes z ↦ (let no : ⊥ = omega (arith, R .base-cuts b m t i (reached-goes reached) .0 z) in absurd no) | no z ↦ omega arith ]
 
   -- One held message of channel b.
   module _ (b : ℕ) (h : Enters (l .plan) n b) (m : Message) (i : In m (rowOf l g cut base fed receipts crashes inv n replaying b)) where
@@ -84,7 +76,7 @@ module _ (l : Line) (g : Ghost) (cut base : ℕ → ℕ) (fed : List Act) (recei
       F = fixedAt (nodeAt l n .targets) (heldOf (l .plan) n b m)
 
       old-low : nodeAt l n .time < t
-      old-low = late b m t e goes above
+      old-low = past-low R e goes above
 
       -- Its row goes no further than a target's input, and times rise along a row.
       old-high : t ≤ highOf l n
@@ -116,9 +108,8 @@ module _ (l : Line) (g : Ghost) (cut base : ℕ → ℕ) (fed : List Act) (recei
                 elim (decLe t (laneAt l c .taken)) [
                   | no y ↦ omega (arith, q)
                   | yes y ↦
-                      (let A = channelAt (l .plan) b .sender in
-                      let target = R .target-of b m t e old-low (record { channel = c; on-plan = there; leaves = leaves; takes-it = fits; in-time = y }) in
-                      let among : t ≤ F = in-greatest (in-map (λ (u : Target). u .time) (in-keep (λ (u : Target). eqb (u .parent) A && eqb (u .parentTime) (m .time)) target (rw (eq-eqb A A refl, eq-eqb (m .time) (m .time) refl)))) in
+                      (let target = R .target-of b m t e old-low (record { channel = c; on-plan = there; leaves = leaves; takes-it = fits; in-time = y }) in
+                      let among = fixed-above l g cut base fed receipts crashes inv n replaying b m t target in
                       let no : ⊥ = omega (arith, among, z, old-low) in absurd no)
                 ])
           ]

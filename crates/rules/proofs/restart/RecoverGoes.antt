@@ -10,25 +10,25 @@ use lib.Dec.{ltb}
 use borrow.Author.Tests.{lt-ltb, ltb-true}
 use Rattle.plan.specs.Plan.{nodeCount}
 use Rattle.rules.specs.Lists.{keep, isEmpty}
-use Rattle.rules.specs.Line.{logLimit, targetLimit, Message, Target, down, replay, Line, nodeAt}
+use Rattle.rules.specs.Line.{targetLimit, Message, Target, down, replay, Line, nodeAt}
 use Rattle.rules.specs.Recover.{lowOf, childTriples, targetsOf, conflict, rowsComplete, recovered, statusOf}
 use Rattle.rules.specs.Replay.{endedIfComplete}
 use Rattle.rules.specs.Step.{recoveredLine}
 use Rattle.rules.specs.Plain.{Act, Receipt}
-use Rattle.rules.proofs.lists.Rising.{Rises, none, past, rises-past}
+use Rattle.rules.proofs.lists.Rising.{Rises, none, rises-past}
 use Rattle.rules.proofs.lists.Members.{In, here, in-keep, keep-in, in-none}
 use Rattle.rules.proofs.lists.Counts.{rises-fewer}
 use Rattle.rules.proofs.histories.Ghost.{tookAt, Ghost, sentOf}
-use Rattle.rules.proofs.histories.Passing.{passing}
 use Rattle.rules.proofs.invariant.Inv.{timeOf, Enters, Reached, targetFrom, Inv}
-use Rattle.rules.proofs.invariant.InvLaws.{took-enters, up-not-down, marked-unless-up, reached-goes}
+use Rattle.rules.proofs.invariant.InvLaws.{past-base, took-enters, up-not-down, marked-unless-up, reached-goes}
 use Rattle.rules.proofs.invariant.MarkedLaws.{own, one-channel, got-rises}
 use Rattle.rules.proofs.ending.Kept.{in-passing, order-kept}
-use Rattle.rules.proofs.ending.Targets.{low-above, targets-from}
+use Rattle.rules.proofs.ending.Targets.{targets-from}
 use Rattle.rules.proofs.ending.Children.{triples-from}
-use Rattle.rules.proofs.ending.RecoverInv.{baseAfter, base-now, child, took-own, restoredAs, whole-is, now-replays, targets-now, taken-enters, restored-inv}
-use Rattle.rules.proofs.restart.OldTimes.{one-input, target-above}
-use Rattle.rules.proofs.restart.ReplayEnds.{goal-above, row-complete}
+use Rattle.rules.proofs.ending.EndInv.{row-complete}
+use Rattle.rules.proofs.ending.RecoverInv.{room-low, baseAfter, base-now, child, took-own, restoredAs, whole-is, now-replays, targets-now, taken-enters, restored-inv}
+use Rattle.rules.proofs.restart.OldTimes.{one-input}
+use Rattle.rules.proofs.restart.ReplayEnds.{goal-above}
 use Rattle.rules.proofs.restart.TargetsRise.{targetTime, sort-rises, no-conflict}
 
 module _ (l : Line) (g : Ghost) (cut base : ℕ → ℕ) (fed : List Act) (receipts : List Receipt) (crashes : List ℕ) (inv : Inv l g cut base fed receipts crashes) (n : ℕ) (inside : n < nodeCount (l .plan)) (is-down : nodeAt l n .status ≡ down) where
@@ -75,17 +75,14 @@ module _ (l : Line) (g : Ghost) (cut base : ℕ → ℕ) (fed : List Act) (recei
   -- Each target was passed on past low, and there was room for what was.
   pub targets-few : length (targetsOf l n) ≤ targetLimit
   targets-few =
-      let room = inv .rooms n marked in
-      let few : length (past timeOf (room .least) (passing (l .plan) n (g n))) ≤ logLimit = rw is-down at (room .few) in
-      let low : room .least ≤ lowOf l n = low-above l n (inv .marks .between n marked .1) (λ c h q. room .below c (h, q)) in
       omega (
         arith,
-        few,
-        rises-fewer targetTime timeOf targets-rise (rises-past timeOf (room .least) (inv .events n .rise)) (λ u i.
+        room-low l g cut base fed receipts crashes inv n inside is-down,
+        rises-fewer targetTime timeOf targets-rise (rises-past timeOf (lowOf l n) (inv .events n .rise)) (λ u i.
             (let (j, late) = targets-from l n u i in
             let (b, m, t, on, is, reached) = event u j in
             let time = ap (λ (x : Target). x .time) is in
-            (sentOf (l .plan) n (tookAt b m t), in-keep (λ (x : Message). ltb (room .least) (x .time)) (in-passing (l .plan) n on (reached-goes reached)) (lt-ltb (room .least) t (omega (arith, late, low, time))), time))),
+            (sentOf (l .plan) n (tookAt b m t), in-keep (λ (x : Message). ltb (lowOf l n) (x .time)) (in-passing (l .plan) n on (reached-goes reached)) (lt-ltb (lowOf l n) t (omega (arith, late, time))), time))),
       )
 
   -- With a target, its row is not complete at once: it came past low, so its input past the restored entry.
@@ -108,7 +105,7 @@ module _ (l : Line) (g : Ghost) (cut base : ℕ → ℕ) (fed : List Act) (recei
             let i : In u (nodeAt r n .targets) = subst (λ (x : List Target). In u x) (sym (targets-now l g cut base fed receipts crashes inv n inside is-down ∙ some-target)) here in
             let (b, m, t, on, is, late, reached) = now-inv .replays n again .target-from u i in
             let h : Enters (l .plan) n b = took-enters (g n) b m t (own inv n marked) on in
-            let above = target-above r g cut B fed receipts crashes now-inv n again b m t on late reached in
+            let above = past-base (now-inv .replays n again) on (reached-goes reached) late in
             let goal = goal-above r g cut B fed receipts crashes now-inv n again b m t (subst (λ (x : Target). In x (nodeAt r n .targets)) is i) in
             let taken = taken-enters l g cut base fed receipts crashes inv n inside is-down b h in
             let entry = base-now l g cut base fed receipts crashes inv n inside is-down b (h .1) in

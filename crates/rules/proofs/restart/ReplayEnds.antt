@@ -7,7 +7,7 @@ use mathlib.Core.Option.{Option, none, some}
 use native.Mathlib.Omega.{arith}
 use lib.ListN.{length}
 use lib.Dec.{eqb, ltb, leb}
-use borrow.Author.Tests.{eq-eqb, leb-true, lt-ltb, le-leb}
+use borrow.Author.Tests.{eq-eqb, lt-ltb, le-leb}
 use Rattle.plan.specs.Plan.{channelAt, entering}
 use Rattle.placing.specs.Item.{Item}
 use Rattle.placing.specs.Table.{tableFits}
@@ -16,21 +16,21 @@ use Rattle.placing.specs.Rules.{KeepsRules}
 use Rattle.placing.proofs.Promise.{none-exists}
 use Rattle.rules.specs.Lists.{joined}
 use Rattle.rules.specs.Line.{stepLimit, Message, Held, Target, replay, Line, nodeAt, laneAt, withNode}
-use Rattle.rules.specs.Recover.{highOf, rowGoal, rowComplete, rowsComplete}
+use Rattle.rules.specs.Recover.{highOf, rowGoal, rowsComplete}
 use Rattle.rules.specs.Replay.{heldByRow, itemsByRow, isHeld, placing, nodePlaced, replayEnd, endedIfComplete}
 use Rattle.rules.specs.Plain.{Act, Receipt}
-use Rattle.rules.proofs.lists.Members.{In, in-keep, keep-in, in-map, in-greatest, all-in, all-by}
+use Rattle.rules.proofs.lists.Members.{In, in-keep, keep-in, in-map, in-greatest, all-by}
 use Rattle.rules.proofs.line.Joins.{in-entering, some-leaves}
 use Rattle.rules.proofs.histories.Ghost.{Ghost, put}
 use Rattle.rules.proofs.histories.Passing.{goesOn, heldOf}
 use Rattle.rules.proofs.invariant.Inv.{Enters, Replays, targetFrom, Inv}
-use Rattle.rules.proofs.invariant.InvLaws.{took-enters, replay-marked, reached-goes}
+use Rattle.rules.proofs.invariant.InvLaws.{past-base, took-enters, replay-marked, reached-goes}
 use Rattle.rules.proofs.invariant.MarkedLaws.{own, taken-put}
 use Rattle.rules.proofs.invariant.Limits.{Limits}
 use Rattle.rules.proofs.ending.Targets.{high-above}
-use Rattle.rules.proofs.ending.EndInv.{rowOf, held-rows}
+use Rattle.rules.proofs.ending.EndInv.{rowOf, held-rows, row-complete}
 use Rattle.rules.proofs.undamaged.TestLaws.{any-by}
-use Rattle.rules.proofs.restart.OldTimes.{target-above, old-times}
+use Rattle.rules.proofs.restart.OldTimes.{old-times}
 use Rattle.rules.proofs.restart.TableFits.{table-fits}
 
 -- A well-formed table for which some columns keep the rules is given columns.
@@ -54,22 +54,18 @@ module _ (l : Line) (g : Ghost) (cut base : ℕ → ℕ) (fed : List Act) (recei
   goal-above b m t i = in-greatest (in-map (λ (u : Target). u .parentTime) (in-keep (λ (u : Target). eqb (u .parent) (channelAt (l .plan) b .sender)) i (eq-eqb (channelAt (l .plan) b .sender) (channelAt (l .plan) b .sender) refl)))
 
   module _ (complete : rowsComplete l n ≡ true) where
-    pub row-complete : (b : ℕ) → Enters (l .plan) n b → rowGoal (nodeAt l n .targets) (channelAt (l .plan) b .sender) ≤ laneAt l b .taken
-    unfolding rowsComplete rowComplete
-    row-complete b h = leb-true (rowGoal (nodeAt l n .targets) (channelAt (l .plan) b .sender)) (laneAt l b .taken) (all-in (rowComplete l n) complete (in-entering (l .plan) n b (h .0) (h .1)))
-
     target-held : (u : Target) → In u (nodeAt l n .targets) → isHeld (nodeAt l n .held) u ≡ true
     target-held u i =
         let (b, m, t, e, is, late, reached) = R .target-from u i in
         let h : Enters (l .plan) n b = took-enters (g n) b m t (own inv n marked) e in
         let A = channelAt (l .plan) b .sender in
-        let low = target-above l g cut base fed receipts crashes inv n replaying b m t e late reached in
+        let low = past-base R e (reached-goes reached) late in
         let high = goal-above b m t (subst (λ (x : Target). In x (nodeAt l n .targets)) is i) in
         let puts = put (l .plan) g b in
         let mine : In m (rowOf l g cut base fed receipts crashes inv n replaying b) =
         in-keep (goesOn (l .plan) n)
         (in-keep (λ (x : Message). ltb (base b) (x .time))
-        (in-keep (λ (x : Message). leb (x .time) (laneAt l b .taken)) (taken-put inv n marked b m t h e) (le-leb (m .time) (laneAt l b .taken) (omega (arith, high, row-complete b h)))) (lt-ltb (base b) (m .time) low)) (reached-goes reached) in
+        (in-keep (λ (x : Message). leb (x .time) (laneAt l b .taken)) (taken-put inv n marked b m t h e) (le-leb (m .time) (laneAt l b .taken) (omega (arith, high, row-complete l g cut base fed receipts crashes inv n replaying complete b h)))) (lt-ltb (base b) (m .time) low)) (reached-goes reached) in
         let held : In (heldOf (l .plan) n b m) (nodeAt l n .held) =
         keep-in (λ (x : Held). eqb (x .sender) A) (nodeAt l n .held)
         (subst (λ (x : List Held). In (heldOf (l .plan) n b m) x) (sym (held-rows l g cut base fed receipts crashes inv n replaying b (in-entering (l .plan) n b (h .0) (h .1)))) (in-map (heldOf (l .plan) n b) mine)) .0 in

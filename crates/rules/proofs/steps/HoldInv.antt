@@ -5,7 +5,7 @@ use mathlib.Core.Logic.{_≢_}
 use mathlib.Core.Bool.{Bool, true, false}
 use mathlib.Core.List.{List, [], _∷_, _++_, map}
 use native.Mathlib.Omega.{arith}
-use native.Mathlib.Decide.{ℕ-discrete, decLe}
+use native.Mathlib.Decide.{ℕ-discrete}
 use lib.ListN.{length, length-set, length-append}
 use lib.Dec.{eqb, leb}
 use borrow.Author.Tests.{eq-eqb, ne-eqb}
@@ -25,7 +25,7 @@ use Rattle.rules.proofs.histories.PlainRun.{receipt-else}
 use Rattle.rules.proofs.histories.Ghost.{Event, tookAt, Ghost, takesMessage, put, logPut}
 use Rattle.rules.proofs.histories.Passing.{goesOn, heldOf}
 use Rattle.rules.proofs.invariant.Inv.{Inv, isUp, timeOf, Enters, SenderUp, Channels, Ends, Row, Replays, Room, waits, takens}
-use Rattle.rules.proofs.invariant.InvLaws.{up-not-replay, replay-not-down, replay-marked, marked-took, ends-up}
+use Rattle.rules.proofs.invariant.InvLaws.{past-low, up-not-replay, replay-not-down, replay-marked, marked-took, ends-up}
 use Rattle.rules.proofs.invariant.MarkedLaws.{put-taken, goal-message, goal-cut}
 use Rattle.rules.proofs.invariant.Grow.{sender-taken, sender-cut, sender-same, sender-receiving}
 use Rattle.rules.proofs.invariant.Stays.{moved, everywhere, marks-stay, unmarked-other, nodes-stay, channel-stays, ends-stay, events-stay, replays-stay, replays-keep}
@@ -99,7 +99,7 @@ module _ (l : Line) (g : Ghost) (cut base : ℕ → ℕ) (fed : List Act) (recei
   pub waited : goesOn (l .plan) n m ≡ true → (t : ℕ) × In (tookAt b m t) (g n) × (waits (l .plan) n (nodeAt l n .time) (takens l) (tookAt b m t) ≡ true)
   waited goes =
       let (t, i) = put-taken inv n marked b m (here, refl) was-put (omega (arith, to-goal, goal-cut inv n replaying b (here, refl))) in
-      let late : nodeAt l n .time < t = elim (decLe t (nodeAt l n .time)) [ yes z ↦ (let no : ⊥ = omega (arith, old .base-cuts b m t i goes .1 z, own-row .base-taken, next .2) in absurd no) | no z ↦ omega arith ] in
+      let late : nodeAt l n .time < t = past-low old i goes (omega (arith, own-row .base-taken, next .2)) in
       (t, i, still-waits (l .plan) n (nodeAt l n .time) (takens l) b m t goes late (next .2))
 
   -- The line after the Take, by its nodes.
