@@ -8,3 +8,5 @@ pub mod StepLaws
 -- Demand 3 on bytes.
 pub mod StepRun
 pub mod OrderExamples
+-- A crashed node can always come back, on bytes.
+pub mod RestartRun

@@ -72,7 +72,7 @@ after-never-damaged (f ∷ frames) state (bytes, more) z =
     let other : eqb 8 (stepAnswer state f) ≡ false = ne-eqb 8 (stepAnswer state f) (λ e. refusal-not-eight (lineOf state) f (sym (answer-undamaged state f z) ∙ sym e)) in
     ap₂ _||_ other (after-never-damaged frames (stepLeft state f) more (one-call state f bytes z .accepted))
 
-as-told : (frames : List (List ℕ)) (state : List ℕ) → Each Bytes frames → stateAnswer state ≡ 0 → AsTold state frames (storyFrom (startOf (lineOf state)) frames)
+pub as-told : (frames : List (List ℕ)) (state : List ℕ) → Each Bytes frames → stateAnswer state ≡ 0 → AsTold state frames (storyFrom (startOf (lineOf state)) frames)
 unfolding storyOf
 as-told frames state bytes z =
     let story = story-told frames state (startOf (lineOf state)) bytes z refl in

@@ -1,6 +1,7 @@
 -- What the line's functions answer and leave, by bytes.
 pub mod Load
 pub mod Order
+pub mod Restart
 pub mod Step
 pub mod Whole
 pub mod Write

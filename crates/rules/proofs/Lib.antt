@@ -17,3 +17,6 @@ pub mod theorem
 pub mod Order
 -- A step keeps an undamaged line undamaged.
 pub mod undamaged
+-- A crashed node can always come back.
+pub mod restart
+pub mod AlwaysBack

@@ -1,6 +1,6 @@
 -- The order theorem: after every list of frames one run of the plain line gives what was received.
 use Prim.Native.Nat.{ℕ}
-use mathlib.Core.Path.{_≡_, refl, ap, subst, _∙_}
+use mathlib.Core.Path.{_≡_, refl, sym, ap, subst, _∙_}
 use mathlib.Core.Logic.{_≢_}
 use mathlib.Core.List.{List, [], _∷_, _++_}
 use native.Mathlib.Decide.{ℕ-discrete}
@@ -12,12 +12,14 @@ use Rattle.rules.specs.Step.{refusal, step}
 use Rattle.rules.specs.Claim.{Story, startOf, ifZero, told, storyFrom, feedOf, receiptOf, crashOf}
 use Rattle.rules.specs.Order.{OneRun, InOrder}
 use Rattle.rules.proofs.lists.ListLaws.{nil-right}
+use Rattle.rules.proofs.invariant.Limits.{Steady}
 use Rattle.rules.proofs.invariant.Conclusion.{run, run-gives}
 use Rattle.rules.proofs.theorem.QuietRest.{quiet-rests}
-use Rattle.rules.proofs.steps.LoadInv.{load-inv}
+use Rattle.rules.proofs.steps.LoadInv.{start-steady, load-inv}
 use Rattle.rules.proofs.theorem.Accepted.{step-accepted, step-refused}
 use Rattle.rules.proofs.theorem.PlanKept.{step-plan}
 use Rattle.rules.proofs.theorem.StepInv.{Kept, kept-same, step-inv}
+use Rattle.rules.proofs.theorem.SteadyKept.{step-steady}
 
 -- What an accepted frame adds, and a refused one does not.
 if-accepted : {A : Type 0} (n : ℕ) (xs ys : List A) → n ≡ 0 → ys ++ ifZero n xs ≡ ys ++ xs
@@ -27,11 +29,11 @@ if-refused : {A : Type 0} (n : ℕ) (xs ys : List A) → n ≢ 0 → ys ++ ifZer
 if-refused n xs ys d = rw (ne-eqb n 0 d, ifZero) (nil-right ys)
 
 abbrev Told : Story → Type 0
-Told s = Kept (s .line) (s .fedActs) (s .receipts) (s .crashes)
+Told s = Kept (s .line) (s .fedActs) (s .receipts) (s .crashes) × Steady 0 (s .line)
 
 -- A history that keeps the invariant is one run.
 one-run : (s : Story) → Told s → OneRun (s .line .plan) s
-one-run s (g, cut, base, inv) =
+one-run s ((g, cut, base, inv), _) =
     let witness = run (s .line) g cut (s .fedActs) (s .receipts) (s .crashes) (inv .nodes) (inv .channels) in
     record {
       acts = witness .0;
@@ -47,19 +49,21 @@ story-plan (f ∷ fs) s = story-plan fs (told s f) ∙ step-plan (s .line) f
 
 told-more : (s : Story) (f : List ℕ) → Told s → Told (told s f)
 unfolding told
-told-more s f (g, cut, base, inv) =
+told-more s f ((g, cut, base, inv), steady) =
     let number = step (s .line) f .number in
     let feeds = feedOf (frameOf f) in
     let receipts = receiptOf (s .line) (frameOf f) in
     let crashes = crashOf (frameOf f) in
     elim (ℕ-discrete (refusal (s .line) f) 0) [
       | yes e ↦
-          (let (zero, next) = step-accepted (s .line) f e in
-          kept-same refl (if-accepted number feeds (s .fedActs) zero) (if-accepted number receipts (s .receipts) zero) (if-accepted number crashes (s .crashes) zero)
-          (step-inv (s .line) g cut base (s .fedActs) (s .receipts) (s .crashes) inv f e))
+          (let (zero, next) = step-accepted (s .line) f e in (
+            kept-same refl (if-accepted number feeds (s .fedActs) zero) (if-accepted number receipts (s .receipts) zero) (if-accepted number crashes (s .crashes) zero)
+                (step-inv (s .line) g cut base (s .fedActs) (s .receipts) (s .crashes) inv (steady .limits .logs) f e),
+            step-steady (s .line) g cut base (s .fedActs) (s .receipts) (s .crashes) inv steady f e,
+          ))
       | no d ↦
           (let (refused, same) = step-refused (s .line) f d in
-          kept-same same (if-refused number feeds (s .fedActs) refused) (if-refused number receipts (s .receipts) refused) (if-refused number crashes (s .crashes) refused) (g, cut, base, inv))
+          (kept-same same (if-refused number feeds (s .fedActs) refused) (if-refused number receipts (s .receipts) refused) (if-refused number crashes (s .crashes) refused) (g, cut, base, inv), subst (Steady 0) (sym same) steady))
     ]
 
 told-all : (fs : List (List ℕ)) (s : Story) → Told s → Told (storyFrom s fs)
@@ -70,4 +74,4 @@ pub in-order : InOrder
 unfolding initialLine
 in-order plan frames z =
     let start = startOf (initialLine (planOf plan)) in
-    subst (λ (p : Plan). OneRun p (storyFrom start frames)) (story-plan frames start) (one-run (storyFrom start frames) (told-all frames start (_, _, _, load-inv plan z)))
+    subst (λ (p : Plan). OneRun p (storyFrom start frames)) (story-plan frames start) (one-run (storyFrom start frames) (told-all frames start ((_, _, _, load-inv plan z), start-steady (planOf plan))))

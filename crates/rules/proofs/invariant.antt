@@ -7,3 +7,5 @@ pub mod Grow
 pub mod Stays
 pub mod Swept
 pub mod Logging
+pub mod Rooms
+pub mod Limits

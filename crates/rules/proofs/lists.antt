@@ -3,3 +3,5 @@ pub mod ListLaws
 pub mod Options
 pub mod Rising
 pub mod Members
+pub mod Counts
+pub mod Linked

@@ -1,5 +1,6 @@
 -- Every step keeps the invariant, and a quiet line is at rest.
 pub mod Accepted
 pub mod StepInv
+pub mod SteadyKept
 pub mod PlanKept
 pub mod QuietRest

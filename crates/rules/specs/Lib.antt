@@ -11,6 +11,7 @@ pub mod Plain
 pub mod Sheet
 pub mod Claim
 pub mod Order
+pub mod Restart
 pub mod Marked
 pub mod Examples
 pub mod DamagedLines

@@ -41,7 +41,7 @@ record SentBy (l : Line) (g : Ghost) (n : ℕ) (x : Message) : Type 0 where
   pub is : x ≡ sentOf (l .plan) n (tookAt channel message time)
   pub reached : Reached l n message time
 
-made-parts : {a b s t : ℕ} → made a s ≡ made b t → (a ≡ b) × (s ≡ t)
+pub made-parts : {a b s t : ℕ} → made a s ≡ made b t → (a ≡ b) × (s ≡ t)
 made-parts e = (cc, cc)
 
 -- The triple that names the event.

@@ -104,7 +104,7 @@ got-after : {a : ℕ} (b : ℕ) (m : Message) (t : ℕ) (es : List Event) → Ri
 got-after b m t es h = rises-after timeOf (eqb b b) m (gotOf b es) (eq-eqb b b refl) (rw one-joined at h)
 
 module _ (p : Plan) (n : ℕ) where
-  in-passing : {e : Event} {es : List Event} → In e es → passedOn p n (sentOf p n e .what) ≡ true → In (sentOf p n e) (passing p n es)
+  pub in-passing : {e : Event} {es : List Event} → In e es → passedOn p n (sentOf p n e .what) ≡ true → In (sentOf p n e) (passing p n es)
   in-passing i g = in-keep (λ (m : Message). passedOn p n (m .what)) (in-map (sentOf p n) i) g
 
   -- Of two messages of one channel that are passed on, the one not later on the channel is not later at the node.

@@ -96,7 +96,7 @@ module _ (l : Line) (g : Ghost) (cut base : ℕ → ℕ) (fed : List Act) (recei
   took-rebuilt = rebuilt-taken (l .plan) n base row (g n) fs took-own (r .took)
 
   -- What it passes on.
-  passing-rebuilt : passing (l .plan) n events ≡ until timeOf (nodeAt l n .time) (passing (l .plan) n (g n)) ++ map (sentOf (l .plan) n) fs
+  pub passing-rebuilt : passing (l .plan) n events ≡ until timeOf (nodeAt l n .time) (passing (l .plan) n (g n)) ++ map (sentOf (l .plan) n) fs
   passing-rebuilt = rebuilt-passing (l .plan) n base row (g n) fs (nodeAt l n .time) took-own (r .took) (inv .replays n replaying .base-cuts) row-rises (r .got-is)
 
   pub rise-rebuilt : Rises timeOf 0 (passing (l .plan) n events)

@@ -1,12 +1,12 @@
 -- A replaying node goes up with the events placed: the invariant holds with the rebuilt history.
-use Prim.Native.Nat.{ℕ, _<_}
+use Prim.Native.Nat.{ℕ, _<_, _≤_}
 use mathlib.Core.Path.{_≡_, refl, sym, ap, subst, _∙_}
 use mathlib.Core.Logic.{_≢_}
 use mathlib.Core.Bool.{Bool, true, false, true≢false, cond}
 use mathlib.Core.List.{List, [], _++_, map, map-map}
 use native.Mathlib.Omega.{arith}
 use native.Mathlib.Decide.{ℕ-discrete}
-use lib.ListN.{length}
+use lib.ListN.{length, length-map}
 use lib.Dec.{eqb, ltb}
 use borrow.Author.Tests.{eq-eqb, ne-eqb}
 use Rattle.plan.specs.Plan.{channelAt, nodeCount, isSource}
@@ -17,16 +17,18 @@ use Rattle.rules.specs.Clock.{messageOf}
 use Rattle.rules.specs.Plain.{Act, Receipt}
 use Rattle.rules.proofs.lists.ListLaws.{keep-append}
 use Rattle.rules.proofs.lists.Rising.{until, past, Rises, Within, rises-past, until-none, past-none, within-higher, within-until, rises-keep, rises-map}
+use Rattle.rules.proofs.lists.Counts.{keep-short}
 use Rattle.rules.proofs.histories.PlainRun.{receiptsIn}
 use Rattle.rules.proofs.histories.Witness.{Taken}
 use Rattle.rules.proofs.histories.Ghost.{Event, Ghost, inputOf, entryOf, sentOf, takesMessage, put, got, gotOf, put-same, got-same, logPut}
 use Rattle.rules.proofs.histories.Passing.{passing}
-use Rattle.rules.proofs.invariant.Inv.{timeOf, isUp, Enters, Leaves, Nodes, Channels, Events, Ends, Replays, Inv}
-use Rattle.rules.proofs.invariant.InvLaws.{up-not-replay, replay-not-down, replay-marked, ends-up}
+use Rattle.rules.proofs.invariant.Inv.{timeOf, isUp, Enters, Leaves, Nodes, Channels, Events, Ends, Replays, Room, Inv}
+use Rattle.rules.proofs.invariant.InvLaws.{up-not-replay, replay-not-down, replay-marked, marked-took, ends-up}
 use Rattle.rules.proofs.invariant.MarkedLaws.{sender-other, receiver-other, parent-up, child-unmarked, child-up}
 use Rattle.rules.proofs.invariant.Stays.{moved, unmarked-other, marks-beside, channels-beside, ends-beside, events-stay, replays-stay}
+use Rattle.rules.proofs.invariant.Rooms.{room-stays}
 use Rattle.rules.proofs.invariant.Grow.{sender-same, sender-cut, sender-receiving}
-use Rattle.rules.proofs.ending.RebuildEvents.{Rebuilding, events, ghost, got-rebuilt, took-rebuilt, rise-rebuilt, within-rebuilt, put-rebuilt, put-rises, put-within, until-rebuilt}
+use Rattle.rules.proofs.ending.RebuildEvents.{Rebuilding, events, ghost, got-rebuilt, took-rebuilt, passing-rebuilt, rise-rebuilt, within-rebuilt, put-rebuilt, put-rises, put-within, until-rebuilt}
 
 module _ (l : Line) (g : Ghost) (cut base : ℕ → ℕ) (fed : List Act) (receipts : List Receipt) (crashes : List ℕ) (inv : Inv l g cut base fed receipts crashes) (n : ℕ) (inside : n < nodeCount (l .plan)) (replaying : nodeAt l n .status ≡ replay)
     (T : ℕ) (fs : List Event) (r : Rebuilding l g base n T fs)
@@ -195,6 +197,36 @@ module _ (l : Line) (g : Ghost) (cut base : ℕ → ℕ) (fed : List Act) (recei
       replays-stay l steps nodes (l .lanes) g ghostAfter m same (ghost-other m d) cut cutAfter base base (λ c h. refl) (λ b y t i. refl)
       (λ b h. (refl, omega (arith, cut-other b (λ q. d (sym (h .1) ∙ q))), refl, ap (until timeOf (laneAt l b .taken)) (put-other b (apart b h)))) (inv .replays m old)
 
+  room-now : Room k ghostAfter n
+  room-now =
+      let low = nodeAt l n .time in
+      let p = l .plan in
+      let late : Message → Bool = λ m. ltb (nodeAt l n .time) (m .time) in
+      let sent = map (sentOf (l .plan) n) fs in
+      let few : length (past timeOf low (passing p n (ghostAfter n))) ≤ length fs =
+      rw (
+        ghost-now n refl,
+        passing-rebuilt l g cut base fed receipts crashes inv n replaying T fs r,
+        keep-append late (until timeOf (nodeAt l n .time) (passing (l .plan) n (g n))) (map (sentOf (l .plan) n) fs),
+        past-none timeOf (within-until timeOf (nodeAt l n .time) (passing (l .plan) n (g n))),
+      )
+      (omega (arith, keep-short late sent, length-map fs (sentOf p n))) in
+      record {
+        least = low;
+        below = inv .replays n replaying .low;
+        few = rw now (omega (arith, few, length-map fs (entryOf p n)));
+        held-few = λ e. absurd (up-not-replay (sym alive ∙ e));
+      }
+
+  rebuild-rooms : (m : ℕ) → nodeAt k m .crashed ≡ true → Room k ghostAfter m
+  rebuild-rooms m e =
+      elim (ℕ-discrete m n) [
+        | yes q ↦ subst (Room k ghostAfter) (sym q) room-now
+        | no d ↦
+            (let old = ap (λ (x : Node). x .crashed) (sym (other m d)) ∙ e in
+            room-stays l steps nodes (l .lanes) g ghostAfter m (other m d) (ghost-other m d) (marked-took (inv .marks) (inv .nodes) m old) (λ c h. omega arith) (λ b h. omega arith) (inv .rooms m old))
+      ]
+
   pub rebuild-inv : Inv k ghostAfter cutAfter base fed receipts crashes
   rebuild-inv =
       record {
@@ -206,4 +238,5 @@ module _ (l : Line) (g : Ghost) (cut base : ℕ → ℕ) (fed : List Act) (recei
         channels = λ c h. channels-beside l steps nodes (l .lanes) g ghostAfter n other (λ x d e. refl) got-other c h cut cutAfter (cut-other c) (put-other c) (channel-enters c) (channel-leaves c) (inv .channels c h);
         ends = λ c h. ends-beside l steps nodes (l .lanes) g ghostAfter n other (λ x d e. refl) got-other c h (ends-enters c) (ends-leaves c) (inv .ends c h);
         replays = rebuild-replays;
+        rooms = rebuild-rooms;
       }

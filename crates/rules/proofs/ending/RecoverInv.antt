@@ -8,11 +8,11 @@ use mathlib.Core.Option.{none, some}
 use native.Mathlib.Omega.{arith}
 use native.Mathlib.Decide.{ℕ-discrete}
 use lib.ListN.{length, length-set}
-use lib.Dec.{eqb}
-use borrow.Author.Tests.{eq-eqb, ne-eqb}
+use lib.Dec.{eqb, ltb}
+use borrow.Author.Tests.{eq-eqb, ne-eqb, lt-ltb, ltb-true}
 use Rattle.plan.specs.Plan.{channelAt, nodeCount, channelCount}
 use Rattle.rules.specs.Lists.{keep, isEmpty}
-use Rattle.rules.specs.Line.{Message, Entry, Held, Target, Status, up, down, replay, Node, Lane, Line, nodeAt, laneAt, withNode, freshLane}
+use Rattle.rules.specs.Line.{logLimit, Message, Entry, Held, Target, Status, up, down, replay, Node, Lane, Line, nodeAt, laneAt, withNode, freshLane}
 use Rattle.rules.specs.Clock.{messageOf}
 use Rattle.rules.specs.Recover.{lowOf, targetsOf, restored, recovered, statusOf, rowGoal, conflict}
 use Rattle.rules.specs.Replay.{endedIfComplete}
@@ -20,26 +20,28 @@ use Rattle.rules.specs.Step.{recoveredLine}
 use Rattle.rules.specs.Plain.{Act, Receipt}
 use Rattle.rules.proofs.lists.Rising.{until, past, Rises, none, Within, none-in, past-none, within-until, within-higher, until-none, rises-past}
 use Rattle.rules.proofs.lists.Members.{In, in-none}
+use Rattle.rules.proofs.lists.Counts.{keep-fewer}
 use Rattle.rules.proofs.lists.Options.{some-same, none-some}
 use Rattle.rules.proofs.histories.Witness.{Taken, none}
 use Rattle.rules.proofs.line.LineLaws.{node-there, node-else}
 use Rattle.rules.proofs.histories.Ghost.{Ghost, inputOf, entryOf, takesMessage, put, logPut}
-use Rattle.rules.proofs.histories.Passing.{goesOn, heldOf}
+use Rattle.rules.proofs.histories.Passing.{passing, goesOn, heldOf}
 use Rattle.rules.proofs.ending.Kept.{cuts-at}
 use Rattle.rules.proofs.line.Joins.{no-source}
-use Rattle.rules.proofs.ending.Targets.{low-below, targets-from, targets-of}
+use Rattle.rules.proofs.ending.Targets.{low-below, low-above, targets-from, targets-of}
 use Rattle.rules.proofs.ending.Children.{Child, triples-from, triples-of, restored-reach, restored-is, none-above}
-use Rattle.rules.proofs.invariant.Inv.{timeOf, Enters, Leaves, targetFrom, Nodes, Channels, Ends, Row, Replays, Inv}
+use Rattle.rules.proofs.invariant.Inv.{timeOf, Enters, Leaves, targetFrom, Nodes, Channels, Ends, Row, Replays, Room, takens, Inv}
 use Rattle.rules.proofs.invariant.InvLaws.{took-enters, up-not-replay, up-not-down, marked-unless-up, replay-marked, marked-took, ends-up}
 use Rattle.rules.proofs.invariant.MarkedLaws.{sender-other, receiver-other, parent-unmarked, child-unmarked, parent-up, child-up, own, got-rises, taken-cut}
 use Rattle.rules.proofs.invariant.Stays.{moved, unmarked-other, marks-beside, nodes-stay, reached-back, reached-on, channels-beside, ends-beside, events-stay, replays-stay}
+use Rattle.rules.proofs.invariant.Rooms.{room-stays, waits-few}
 use Rattle.rules.proofs.undamaged.Restored.{recovered-is, restored-shape, restored-enters, restored-leaves, restored-beside}
 use Rattle.rules.proofs.ending.RebuildEvents.{Rebuilding}
 use Rattle.rules.proofs.ending.RebuildInv.{rebuild-inv}
 use Rattle.rules.proofs.ending.EndInv.{ended-inv}
 
 -- The log of a node that never crashed holds all that it put on a channel.
-log-whole : {l : Line} {g : Ghost} {fed : List Act} {receipts : List Receipt} → Nodes l g fed receipts → (b : ℕ) → nodeAt l (channelAt (l .plan) b .sender) .crashed ≡ false → logPut l b ≡ put (l .plan) g b
+pub log-whole : {l : Line} {g : Ghost} {fed : List Act} {receipts : List Receipt} → Nodes l g fed receipts → (b : ℕ) → nodeAt l (channelAt (l .plan) b .sender) .crashed ≡ false → logPut l b ≡ put (l .plan) g b
 unfolding logPut put
 log-whole {l} {g} nodes b e =
     let n = channelAt (l .plan) b .sender in
@@ -49,17 +51,29 @@ module _ (l : Line) (g : Ghost) (cut base : ℕ → ℕ) (fed : List Act) (recei
   marked : nodeAt l n .crashed ≡ true
   marked = marked-unless-up (inv .marks) n (λ e. up-not-down (sym e ∙ is-down))
 
+  -- Past low it passed on no more events than a log has room for.
+  pub room-low : length (past timeOf (lowOf l n) (passing (l .plan) n (g n))) ≤ logLimit
+  room-low =
+      let room = inv .rooms n marked in
+      let least : room .least ≤ lowOf l n = low-above l n (inv .marks .between n marked .1) (λ c h q. room .below c (h, q)) in
+      let few : length (past timeOf (room .least) (passing (l .plan) n (g n))) ≤ logLimit = rw is-down at (room .few) in
+      omega (
+        arith,
+        few,
+        keep-fewer (λ (x : Message). ltb (lowOf l n) (x .time)) (λ (x : Message). ltb (room .least) (x .time)) (passing (l .plan) n (g n)) (λ x i e. lt-ltb (room .least) (x .time) (omega (arith, least, ltb-true (lowOf l n) (x .time) e))),
+      )
+
   -- The restored entries of the entering channels.
-  abbrev baseAfter : ℕ → ℕ
+  abbrev pub baseAfter : ℕ → ℕ
   baseAfter b = cond (eqb (channelAt (l .plan) b .receiver) n) (restored l n (channelAt (l .plan) b .sender)) (base b)
 
-  base-now : (b : ℕ) → channelAt (l .plan) b .receiver ≡ n → baseAfter b ≡ restored l n (channelAt (l .plan) b .sender)
+  pub base-now : (b : ℕ) → channelAt (l .plan) b .receiver ≡ n → baseAfter b ≡ restored l n (channelAt (l .plan) b .sender)
   base-now b q = ap (λ (t : Bool). cond t (restored l n (channelAt (l .plan) b .sender)) (base b)) (eq-eqb (channelAt (l .plan) b .receiver) n q)
 
   base-other : (b : ℕ) → channelAt (l .plan) b .receiver ≢ n → baseAfter b ≡ base b
   base-other b d = ap (λ (t : Bool). cond t (restored l n (channelAt (l .plan) b .sender)) (base b)) (ne-eqb (channelAt (l .plan) b .receiver) n d)
 
-  child : (c : ℕ) → c < channelCount (l .plan) → channelAt (l .plan) c .sender ≡ n → Child l g c
+  pub child : (c : ℕ) → c < channelCount (l .plan) → channelAt (l .plan) c .sender ≡ n → Child l g c
   child c h q =
       record {
         took = inv .nodes .others (channelAt (l .plan) c .receiver) (no-source (l .plan) c h) .1;
@@ -68,21 +82,21 @@ module _ (l : Line) (g : Ghost) (cut base : ℕ → ℕ) (fed : List Act) (recei
         exact = inv .ends c h .exact (child-unmarked inv n marked c (h, q));
       }
 
-  took-own : Taken (l .plan) n (map inputOf (g n))
+  pub took-own : Taken (l .plan) n (map inputOf (g n))
   took-own = own inv n marked
 
   -- A restored entry is not past what was got.
-  restored-got : (b : ℕ) → Enters (l .plan) n b → restored l n (channelAt (l .plan) b .sender) ≤ cut b
+  pub restored-got : (b : ℕ) → Enters (l .plan) n b → restored l n (channelAt (l .plan) b .sender) ≤ cut b
   restored-got b h = elim (restored-is l g n (inv .ordered) took-own child b (h .0) (h .1)) [ inl z ↦ omega arith | inr (m, t, i, _, _, e) ↦ omega (arith, e, taken-cut inv n marked b m t h i) ]
 
-  abbrev restoredNode : Status → Node
+  abbrev pub restoredNode : Status → Node
   restoredNode s = record { status = s; crashed = true; time = lowOf l n; log = []; held = []; targets = targetsOf l n }
 
   -- The line with the node restored, in a given status.
-  abbrev restoredAs : Status → Line
+  abbrev pub restoredAs : Status → Line
   restoredAs s = moved l (l .steps) (withNode n (restoredNode s) l .nodes) (recovered n l .lanes)
 
-  whole-is : recovered n l ≡ restoredAs (statusOf (targetsOf l n))
+  pub whole-is : recovered n l ≡ restoredAs (statusOf (targetsOf l n))
   whole-is = recovered-is l n (inv .ordered) (inv .shape)
 
   module _ (s : Status) where
@@ -111,19 +125,19 @@ module _ (l : Line) (g : Ghost) (cut base : ℕ → ℕ) (fed : List Act) (recei
   lane-other = restored-beside l n (inv .ordered) (inv .shape)
 
   -- The node shown as replaying.
-  abbrev r : Line
+  abbrev pub r : Line
   r = restoredAs replay
 
   still-marked : nodeAt r n .crashed ≡ true
   still-marked = ap (λ (x : Node). x .crashed) (node-now replay)
 
-  now-replays : nodeAt r n .status ≡ replay
+  pub now-replays : nodeAt r n .status ≡ replay
   now-replays = ap (λ (x : Node). x .status) (node-now replay)
 
   taken-leaves : (c : ℕ) → Leaves (l .plan) n c → laneAt r c .taken ≡ laneAt l c .taken
   taken-leaves c h = ap (λ (x : Lane). x .taken) (lane-leaves c h)
 
-  taken-enters : (b : ℕ) → Enters (l .plan) n b → laneAt r b .taken ≡ restored l n (channelAt (l .plan) b .sender)
+  pub taken-enters : (b : ℕ) → Enters (l .plan) n b → laneAt r b .taken ≡ restored l n (channelAt (l .plan) b .sender)
   unfolding freshLane
   taken-enters b h = ap (λ (x : Lane). x .taken) (lane-enters b h)
 
@@ -185,7 +199,7 @@ module _ (l : Line) (g : Ghost) (cut base : ℕ → ℕ) (fed : List Act) (recei
   time-now : nodeAt r n .time ≡ lowOf l n
   time-now = ap (λ (x : Node). x .time) (node-now replay)
 
-  targets-now : nodeAt r n .targets ≡ targetsOf l n
+  pub targets-now : nodeAt r n .targets ≡ targetsOf l n
   targets-now = ap (λ (x : Node). x .targets) (node-now replay)
 
   row-now : (b : ℕ) → Enters (l .plan) n b → Row r g (cut b) (baseAfter b) n b
@@ -225,21 +239,45 @@ module _ (l : Line) (g : Ghost) (cut base : ℕ → ℕ) (fed : List Act) (recei
         rows = row-now;
       }
 
-  -- Another node that replays is not joined to this one.
+  -- Another node that has crashed is not joined to this one: its channels are as they were.
+  module _ (m : ℕ) (d : m ≢ n) (mark : nodeAt l m .crashed ≡ true) where
+    pub lane-into : (b : ℕ) → Enters (l .plan) m b → laneAt r b ≡ laneAt l b
+    lane-into b h = lane-other b (λ q. d (sym (h .1) ∙ q)) (λ q. true≢false (sym mark ∙ ap (λ (x : ℕ). nodeAt l x .crashed) (sym (h .1)) ∙ child-unmarked inv n marked b (h .0, q)))
+
+    lane-out : (c : ℕ) → Leaves (l .plan) m c → laneAt r c ≡ laneAt l c
+    lane-out c h = lane-other c (λ q. true≢false (sym mark ∙ ap (λ (x : ℕ). nodeAt l x .crashed) (sym (h .1)) ∙ parent-unmarked inv n marked c (h .0, q))) (λ q. d (sym (h .1) ∙ q))
+
   replays-other : (m : ℕ) → m ≢ n → nodeAt r m .status ≡ replay → Replays r g cut baseAfter m
   replays-other m d e =
       let same = node-other replay m d in
       let old : nodeAt l m .status ≡ replay = ap (λ (x : Node). x .status) (sym same) ∙ e in
       let mark = replay-marked (inv .marks) m old in
-      let into : (b : ℕ) → Enters (l .plan) m b → laneAt r b ≡ laneAt l b =
-      λ b h. lane-other b (λ q. d (sym (h .1) ∙ q)) (λ q. true≢false (sym mark ∙ ap (λ (x : ℕ). nodeAt l x .crashed) (sym (h .1)) ∙ child-unmarked inv n marked b (h .0, q))) in
-      let out : (c : ℕ) → Leaves (l .plan) m c → laneAt r c ≡ laneAt l c =
-      λ c h. lane-other c (λ q. true≢false (sym mark ∙ ap (λ (x : ℕ). nodeAt l x .crashed) (sym (h .1)) ∙ parent-unmarked inv n marked c (h .0, q))) (λ q. d (sym (h .1) ∙ q)) in
-      replays-stay l (l .steps) (r .nodes) (r .lanes) g g m same refl cut cut base baseAfter (λ c h. ap (λ (x : Lane). x .taken) (out c h))
+      replays-stay l (l .steps) (r .nodes) (r .lanes) g g m same refl cut cut base baseAfter (λ c h. ap (λ (x : Lane). x .taken) (lane-out m d mark c h))
       (λ b y t i. base-other b (λ q. d (sym (took-enters (g m) b y t (marked-took (inv .marks) (inv .nodes) m mark) i .1) ∙ q)))
-      (λ b h. (ap (λ (x : Lane). x .taken) (into b h), omega arith, base-other b (λ q. d (sym (h .1) ∙ q)), refl)) (inv .replays m old)
+      (λ b h. (ap (λ (x : Lane). x .taken) (lane-into m d mark b h), omega arith, base-other b (λ q. d (sym (h .1) ∙ q)), refl)) (inv .replays m old)
 
-  restored-inv : Inv r g cut baseAfter fed receipts crashes
+  -- Nothing is held yet, and what it waits for had room in a log.
+  room-now : Room r g n
+  room-now =
+      record {
+        least = lowOf l n;
+        below = λ c h. omega (arith, low-below l n c (h .0) (h .1), taken-leaves c h);
+        few = rw now-replays room-low;
+        held-few = λ e. rw (ap (λ (x : Node). x .held) (node-now replay), time-now) (omega (arith, room-low, waits-few (l .plan) n (lowOf l n) (takens r) (g n)));
+      }
+
+  restored-rooms : (m : ℕ) → nodeAt r m .crashed ≡ true → Room r g m
+  restored-rooms m e =
+      elim (ℕ-discrete m n) [
+        | yes q ↦ subst (Room r g) (sym q) room-now
+        | no d ↦
+            (let same = node-other replay m d in
+            let mark : nodeAt l m .crashed ≡ true = ap (λ (x : Node). x .crashed) (sym same) ∙ e in
+            room-stays l (l .steps) (r .nodes) (r .lanes) g g m same refl (marked-took (inv .marks) (inv .nodes) m mark)
+            (λ c h. omega (arith, ap (λ (x : Lane). x .taken) (lane-out m d mark c h))) (λ b h. omega (arith, ap (λ (x : Lane). x .taken) (lane-into m d mark b h))) (inv .rooms m mark))
+      ]
+
+  pub restored-inv : Inv r g cut baseAfter fed receipts crashes
   restored-inv =
       record {
         shape = record { nodes-long = nodes-count replay ∙ inv .shape .nodes-long; lanes-long = restored-shape l n (inv .ordered) (inv .shape) .lanes-long };
@@ -253,6 +291,7 @@ module _ (l : Line) (g : Ghost) (cut base : ℕ → ℕ) (fed : List Act) (recei
           | yes q ↦ subst (Replays r g cut baseAfter) (sym q) replays-now
           | no d ↦ replays-other m d e
         ];
+        rooms = restored-rooms;
       }
 
   -- Without targets nothing is to be placed: the node is up with what its children all have.

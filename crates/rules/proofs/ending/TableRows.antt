@@ -1,10 +1,11 @@
 -- The replay table row by row: for each held record its row, its channel and its message.
-use Prim.Native.Nat.{ℕ, suc, _≤_}
+use Prim.Native.Nat.{ℕ, suc, _+_, _<_, _≤_}
 use mathlib.Core.Path.{_≡_, refl, sym, ap, subst, _∙_}
-use mathlib.Core.Logic.{_≢_, inl, inr}
+use mathlib.Core.Logic.{_≢_, _⊎_, inl, inr}
 use mathlib.Core.List.{List, [], _∷_, _++_, map, map-map}
 use native.Mathlib.Omega.{arith}
 use native.Mathlib.Decide.{ℕ-discrete}
+use lib.ListN.{length}
 use lib.Dec.{eqb}
 use borrow.Author.Tests.{eq-eqb, ne-eqb}
 use Rattle.plan.specs.Plan.{Plan, channelAt}
@@ -13,8 +14,11 @@ use Rattle.rules.specs.Lists.{keep, keepOne, joined}
 use Rattle.rules.specs.Line.{Message, Held, Line}
 use Rattle.rules.specs.Replay.{itemOf, heldByRow, itemsByRow}
 use Rattle.rules.proofs.lists.ListLaws.{map-append, nil-right}
+use Rattle.rules.proofs.lists.Rising.{Rises, rises-map}
+use Rattle.rules.proofs.lists.Linked.{Linked, none as none-linked, linked-append, rises-linked}
 use Rattle.rules.proofs.lists.Members.{In, here, there, in-none, append-in, map-in}
 use Rattle.rules.proofs.histories.Passing.{heldOf}
+use Rattle.rules.proofs.invariant.Inv.{timeOf}
 use Rattle.rules.proofs.line.LanesLaws.{Rising, none, more}
 
 pub record Slot : Type 0 where
@@ -36,6 +40,10 @@ slotItem l n s = itemOf l n (s .row) (slotHeld (l .plan) n s)
 abbrev pub messagesOf : ℕ → List Slot → List Message
 messagesOf b [] = []
 messagesOf b (s ∷ ss) = keepOne (eqb (s .channel) b) (s .message) (messagesOf b ss)
+
+-- A slot comes before another: in an earlier row, or in the same row and channel by the message's time.
+abbrev pub Earlier : Slot → Slot → Type 0
+Earlier s t = (s .row < t .row) ⊎ ((s .row ≡ t .row) × (s .channel ≡ t .channel) × (s .message .time < t .message .time))
 
 -- One row for each channel, from row r on.
 abbrev pub slots : (ℕ → List Message) → ℕ → List ℕ → List Slot
@@ -77,6 +85,24 @@ module _ (rowOf : ℕ → List Message) where
         | inl j ↦ (let (q, e, m) = block-in r b j in (rw e here, rw e m))
         | inr j ↦ (let (c, m) = slot-in (suc r) bs j in (there c, m))
       ]
+
+  pub slot-row : (r : ℕ) (bs : List ℕ) {s : Slot} → In s (slots rowOf r bs) → (r ≤ s .row) × (s .row < r + length bs)
+  slot-row r [] i = absurd (in-none i)
+  slot-row r (b ∷ bs) i =
+      elim (append-in (map (slotOf r b) (rowOf b)) i) [
+        | inl j ↦ (let q = block-in r b j .0 in (omega arith, omega arith))
+        | inr j ↦ (let (above, below) = slot-row (suc r) bs j in (omega arith, omega arith))
+      ]
+
+  -- The slots stand in order.
+  pub slots-order : (r : ℕ) (bs : List ℕ) → ((b : ℕ) → In b bs → Rises timeOf 0 (rowOf b)) → Linked Earlier (slots rowOf r bs)
+  slots-order r [] rises = none-linked
+  slots-order r (b ∷ bs) rises =
+      linked-append (rises-linked (λ (s : Slot). s .message .time) inside (rises-map (slotOf r b) (λ (s : Slot). s .message .time) (rises b here))) (slots-order (suc r) bs (λ c i. rises c (there i)))
+      (λ s t i j. (let q = block-in r b i .0 in inl (omega (arith, slot-row (suc r) bs j .0))))
+    where
+      inside : (s t : Slot) → In s (map (slotOf r b) (rowOf b)) → In t (map (slotOf r b) (rowOf b)) → s .message .time < t .message .time → Earlier s t
+      inside s t i j h = let (q, e, _) = block-in r b i in let (q′, e′, _) = block-in r b j in inr (q ∙ sym q′, e ∙ sym e′, h)
 
   slot-above : (r : ℕ) {k : ℕ} {bs : List ℕ} {s : Slot} → Rising k bs → In s (slots rowOf r bs) → k ≤ s .channel
   slot-above r none i = absurd (in-none i)

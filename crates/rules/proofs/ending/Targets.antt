@@ -7,13 +7,13 @@ use mathlib.Core.List.{List, [], _∷_, _++_, map}
 use lib.Dec.{ltb, leb, eqb}
 use borrow.Author.Tests.{eq-eqb, eqb-true, lt-ltb, ltb-true}
 use Rattle.basics.specs.Bools.{both-true}
-use Rattle.plan.specs.Plan.{Plan, channelAt, channelCount, leaving}
+use Rattle.plan.specs.Plan.{Plan, channelAt, channelCount, leaving, isSink}
 use Rattle.rules.specs.Lists.{keep, joined, greatestOf, leastOf}
 use Rattle.rules.specs.Line.{Origin, fed, made, Entry, Target, Line, nodeAt, laneAt}
 use Rattle.rules.specs.Recover.{childTimes, lowOf, highOf, triple, triples, childTriples, sameTarget, targetBefore, addTarget, sortTargets, targetsOf, restored}
-use Rattle.rules.proofs.lists.Members.{In, here, there, in-none, in-first, in-keep, keep-in, in-map, map-in, in-left, in-right, append-in, in-joined, joined-in, map-same, in-greatest, in-least, least-greatest}
+use Rattle.rules.proofs.lists.Members.{In, here, there, in-none, in-first, in-some, in-keep, keep-in, in-map, map-in, in-left, in-right, append-in, in-joined, joined-in, map-same, in-greatest, in-least, least-above, least-greatest}
 use Rattle.rules.proofs.lists.ListLaws.{nil-right}
-use Rattle.rules.proofs.line.Joins.{in-leaving, leaving-in}
+use Rattle.rules.proofs.line.Joins.{in-leaving, leaving-in, some-leaves}
 
 -- The triples of a log.
 abbrev targetAt : ℕ → ℕ → ℕ → Target
@@ -83,6 +83,12 @@ module _ (l : Line) (n : ℕ) where
   unfolding highOf
   high-above c h e = in-greatest (in-map (λ (d : ℕ). laneAt l d .taken) (in-leaving (l .plan) n c h e))
 
+  pub low-above : {k : ℕ} → isSink (l .plan) n ≡ false → ((c : ℕ) → c < channelCount (l .plan) → channelAt (l .plan) c .sender ≡ n → k ≤ laneAt l c .taken) → k ≤ lowOf l n
+  unfolding lowOf childTimes
+  low-above {k} e f =
+      least-above (childTimes l n) (let (c, out) = some-leaves (l .plan) n e in in-some (in-map (λ (d : ℕ). laneAt l d .taken) (in-leaving (l .plan) n c (out .0) (out .1))))
+      (λ t i. (let (c, j, q) = map-in (λ (d : ℕ). laneAt l d .taken) (leaving (l .plan) n) i in let (h, s) = leaving-in (l .plan) n c j in subst (λ (x : ℕ). k ≤ x) (sym q) (f c h s)))
+
   pub low-high : lowOf l n ≤ highOf l n
   unfolding lowOf highOf
   low-high = least-greatest (childTimes l n)
@@ -106,7 +112,7 @@ in-rest : {A : Type 0} {y v : A} {xs ys : List A} → (In v xs → In v ys) → 
 in-rest f here = here
 in-rest f (there i) = there (f i)
 
-add-in : (t : Target) (us : List Target) {v : Target} → In v (addTarget t us) → In v (t ∷ us)
+pub add-in : (t : Target) (us : List Target) {v : Target} → In v (addTarget t us) → In v (t ∷ us)
 add-in t [] i = i
 add-in t (u ∷ us) {v} i = one (targetBefore t u) (sameTarget t u) i (λ j. add-in t us j)
   where

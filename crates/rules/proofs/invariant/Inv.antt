@@ -1,16 +1,16 @@
 -- What holds of a line, its ghost history and what was done, after every list of frames.
-use Prim.Native.Nat.{ℕ, max, _<_, _≤_}
+use Prim.Native.Nat.{ℕ, max, _+_, _<_, _≤_}
 use mathlib.Core.Path.{_≡_}
 use mathlib.Core.Logic.{_≢_}
-use mathlib.Core.Bool.{true, false}
+use mathlib.Core.Bool.{Bool, true, false, _&&_}
 use mathlib.Core.List.{List, [], map}
 use lib.ListN.{length}
-use lib.Dec.{eqb}
+use lib.Dec.{eqb, ltb}
 use Rattle.plan.specs.Plan.{Plan, ruleAt, channelAt, nodeCount, channelCount, isSource, isSink}
 use Rattle.plan.specs.Rule.{applied}
 use Rattle.plan.specs.Channel.{takes}
 use Rattle.rules.specs.Lists.{keep, greatestOf}
-use Rattle.rules.specs.Line.{Message, Held, Target, up, down, replay, Lane, Line, nodeAt, laneAt}
+use Rattle.rules.specs.Line.{logLimit, heldLimit, Message, Entry, Held, Target, Status, up, down, replay, Lane, Line, nodeAt, laneAt}
 use Rattle.rules.specs.Recover.{rowGoal}
 use Rattle.rules.specs.Plain.{Act, Receipt}
 use Rattle.rules.specs.Claim.{receivedBy}
@@ -18,7 +18,7 @@ pub use Rattle.rules.specs.Claim.{named}
 use Rattle.rules.proofs.lists.Rising.{until, past, Rises, Within}
 use Rattle.rules.proofs.histories.PlainRun.{receiptsIn}
 use Rattle.rules.proofs.histories.Witness.{fedOnto, noInputs, Feeds, Taken}
-use Rattle.rules.proofs.histories.Ghost.{tookAt, Ghost, entryOf, inputOf, put, got, logPut}
+use Rattle.rules.proofs.histories.Ghost.{Event, fedAt, tookAt, Ghost, entryOf, inputOf, put, got, logPut}
 use Rattle.rules.proofs.lists.Members.{In}
 use Rattle.rules.proofs.histories.Passing.{passing, goesOn, heldOf}
 
@@ -117,6 +117,27 @@ pub record Replays (l : Line) (g : Ghost) (cut base : ℕ → ℕ) (n : ℕ) : T
   pub base-cuts : (b : ℕ) (m : Message) (t : ℕ) → In (tookAt b m t) (g n) → goesOn (l .plan) n m ≡ true → (m .time ≤ base b → t ≤ nodeAt l n .time) × (t ≤ nodeAt l n .time → m .time ≤ base b)
   pub rows : (b : ℕ) → Enters (l .plan) n b → Row l g (cut b) (base b) n b
 
+-- The events that a node's log has room for: those that it holds while the node is up, else as many as a log can hold.
+abbrev pub roomOf : Status → List Entry → ℕ
+roomOf up log = length log
+roomOf down log = logLimit
+roomOf replay log = logLimit
+
+-- Whether a replay from time low still waits for an event's message, by the entries for its senders.
+abbrev pub waits : Plan → ℕ → ℕ → (ℕ → ℕ) → Event → Bool
+waits p n low taken (fedAt r t) = false
+waits p n low taken (tookAt b m t) = goesOn p n m && (ltb low t && ltb (taken b) (m .time))
+
+abbrev pub takens : Line → ℕ → ℕ
+takens l b = laneAt l b .taken
+
+-- A crashed node's space: past a time that no child's entry is below, it passed on no more events than a log has room for; in a replay, what is held and what it still waits for fit the held list.
+pub record Room (l : Line) (g : Ghost) (n : ℕ) : Type 0 where
+  pub least : ℕ
+  pub below : (c : ℕ) → Leaves (l .plan) n c → least ≤ laneAt l c .taken
+  pub few : length (past timeOf least (passing (l .plan) n (g n))) ≤ roomOf (nodeAt l n .status) (nodeAt l n .log)
+  pub held-few : nodeAt l n .status ≡ replay → length (nodeAt l n .held) + length (keep (waits (l .plan) n (nodeAt l n .time) (takens l)) (g n)) ≤ heldLimit
+
 -- All of it.
 pub record Inv (l : Line) (g : Ghost) (cut base : ℕ → ℕ) (fed : List Act) (receipts : List Receipt) (crashes : List ℕ) : Type 0 where
   pub shape : Shape l
@@ -127,3 +148,4 @@ pub record Inv (l : Line) (g : Ghost) (cut base : ℕ → ℕ) (fed : List Act) 
   pub channels : (b : ℕ) → b < channelCount (l .plan) → Channels l g cut b
   pub ends : (b : ℕ) → b < channelCount (l .plan) → Ends l g b
   pub replays : (n : ℕ) → nodeAt l n .status ≡ replay → Replays l g cut base n
+  pub rooms : (n : ℕ) → nodeAt l n .crashed ≡ true → Room l g n

@@ -1,21 +1,23 @@
 -- What follows from the invariant at once: who is up, and where a node's events came from.
-use Prim.Native.Nat.{ℕ}
-use mathlib.Core.Path.{_≡_, refl, sym, _∙_}
+use Prim.Native.Nat.{ℕ, _<_}
+use mathlib.Core.Path.{_≡_, refl, sym, ap, _∙_}
 use mathlib.Core.Logic.{_≢_}
 use mathlib.Core.Bool.{Bool, true, false, true≢false}
 use mathlib.Core.List.{List, _∷_, map}
 use native.Mathlib.Omega.{arith}
+use native.Mathlib.Decide.{decLe, decLt}
+use lib.ListN.{List·getD-eq-default}
 use Rattle.plan.specs.Rule.{applied}
-use Rattle.plan.specs.Plan.{Plan, ruleAt, channelAt, isSource}
+use Rattle.plan.specs.Plan.{Plan, ruleAt, channelAt, nodeCount, isSource}
 use Rattle.rules.specs.Lists.{greatestOf}
-use Rattle.rules.specs.Line.{Message, up, down, replay, Line, nodeAt, laneAt}
+use Rattle.rules.specs.Line.{Message, up, down, replay, Node, Line, freshNode, nodeAt, laneAt}
 use Rattle.rules.specs.Plain.{Act, Receipt}
 use Rattle.rules.proofs.lists.Members.{In, here, there}
 use Rattle.rules.proofs.histories.Witness.{Taken, more}
 use Rattle.rules.proofs.histories.Ghost.{Event, tookAt, Ghost, inputOf, got}
 use Rattle.rules.proofs.histories.Passing.{goesOn}
 use Rattle.rules.proofs.line.Joins.{takes-passed}
-use Rattle.rules.proofs.invariant.Inv.{timeOf, isUp, Enters, Reached, Marks, Nodes, Ends}
+use Rattle.rules.proofs.invariant.Inv.{timeOf, isUp, Enters, Reached, Shape, Marks, Nodes, Ends, Replays}
 
 pub up-not-replay : up ≡ replay → ⊥
 up-not-replay e = let z : _≡_ {A = ℕ} 0 1 = cc in omega arith
@@ -25,6 +27,13 @@ up-not-down e = let z : _≡_ {A = ℕ} 0 1 = cc in omega arith
 
 pub replay-not-down : replay ≡ down → ⊥
 replay-not-down e = let z : _≡_ {A = ℕ} 0 1 = cc in omega arith
+
+-- A node that is not up is one of the plan's.
+pub not-up-inside : {l : Line} → Shape l → (n : ℕ) → nodeAt l n .status ≢ up → n < nodeCount (l .plan)
+not-up-inside {l} shape n d = elim (decLt n (nodeCount (l .plan))) [
+  | yes h ↦ h
+  | no h ↦ absurd (d (ap (λ (x : Node). x .status) (List·getD-eq-default (l .nodes) freshNode (omega (arith, shape .nodes-long)))))
+]
 
 -- A mark is there or not.
 pub if-marked : {A : Type 0} (b : Bool) → (b ≡ true → A) → (b ≡ false → A) → A
@@ -43,6 +52,14 @@ ends-up alive exact = record { exact = exact; stopped = λ d. absurd (d alive); 
 -- What has reached a child goes on.
 pub reached-goes : {l : Line} {n : ℕ} {m : Message} {t : ℕ} → Reached l n m t → goesOn (l .plan) n m ≡ true
 reached-goes {l} {n} {m} r = takes-passed (l .plan) n (applied (ruleAt (l .plan) n) (m .what)) (r .channel) (r .on-plan) (r .leaves) (r .takes-it)
+
+-- What a replaying node passed on of a message past the restored entry, it did past low; and the other way round.
+module _ {l : Line} {g : Ghost} {cut base : ℕ → ℕ} {n : ℕ} (r : Replays l g cut base n) {b : ℕ} {m : Message} {t : ℕ} (i : In (tookAt b m t) (g n)) (goes : goesOn (l .plan) n m ≡ true) where
+  pub past-low : base b < m .time → nodeAt l n .time < t
+  past-low h = elim (decLe t (nodeAt l n .time)) [ yes z ↦ (let no : ⊥ = omega (arith, r .base-cuts b m t i goes .1 z) in absurd no) | no z ↦ omega arith ]
+
+  pub past-base : nodeAt l n .time < t → base b < m .time
+  past-base h = elim (decLe (m .time) (base b)) [ yes z ↦ (let no : ⊥ = omega (arith, r .base-cuts b m t i goes .0 z) in absurd no) | no z ↦ omega arith ]
 
 module _ {l : Line} {crashes : List ℕ} (marks : Marks l crashes) (n : ℕ) where
   pub marked-unless-up : nodeAt l n .status ≢ up → nodeAt l n .crashed ≡ true

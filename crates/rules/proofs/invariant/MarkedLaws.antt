@@ -7,19 +7,19 @@ use mathlib.Core.List.{List, map}
 use native.Mathlib.Omega.{arith}
 use native.Mathlib.Decide.{ℕ-discrete}
 use lib.Dec.{leb, eqb}
-use borrow.Author.Tests.{eqb-true, leb-true}
+use borrow.Author.Tests.{eqb-true, leb-true, le-leb}
 use Rattle.plan.specs.Plan.{Plan, channelAt, channelCount}
 use Rattle.rules.specs.Lists.{keep}
 use Rattle.rules.specs.Line.{Message, Target, replay, Line, nodeAt}
 use Rattle.rules.specs.Recover.{rowGoal}
 use Rattle.rules.specs.Plain.{Act, Receipt}
 use Rattle.rules.proofs.lists.Rising.{until, Rises, rises-keep}
-use Rattle.rules.proofs.lists.Members.{In, keep-in, map-in, greatest-in}
+use Rattle.rules.proofs.lists.Members.{In, in-keep, keep-in, map-in, greatest-in}
 use Rattle.rules.proofs.histories.Witness.{Taken}
 use Rattle.rules.proofs.histories.Ghost.{tookAt, Ghost, inputOf, put, got, gotOf}
 use Rattle.rules.proofs.histories.Passing.{goesOn}
-use Rattle.rules.proofs.histories.Carried.{in-got-of}
-use Rattle.rules.proofs.invariant.Inv.{timeOf, isUp, Enters, Leaves, Inv}
+use Rattle.rules.proofs.histories.Carried.{in-got-of, got-of-in}
+use Rattle.rules.proofs.invariant.Inv.{timeOf, isUp, Enters, Leaves, Reached, Inv}
 use Rattle.rules.proofs.invariant.InvLaws.{took-enters, if-marked, marked-took, replay-marked, reached-goes}
 
 -- A channel at either end of a node, or beside it.
@@ -72,20 +72,39 @@ module _ {l : Line} {g : Ghost} {cut base : ℕ → ℕ} {fed : List Act} {recei
       pub taken-cut : m .time ≤ cut b
       taken-cut = leb-true (m .time) (cut b) (in-cut .1)
 
-  -- A replaying node's row whose goal is not 0: the goal is the time of a message that goes on.
-  pub goal-message : nodeAt l n .status ≡ replay → (b : ℕ) → Enters (l .plan) n b → rowGoal (nodeAt l n .targets) (channelAt (l .plan) b .sender) ≢ 0
-      → (m : Message) × In m (put (l .plan) g b) × (goesOn (l .plan) n m ≡ true) × (m .time ≡ rowGoal (nodeAt l n .targets) (channelAt (l .plan) b .sender))
-  goal-message replaying b h d =
-      let A = channelAt (l .plan) b .sender in
-      let ts = nodeAt l n .targets in
-      let f : Target → Bool = λ u. eqb (u .parent) A in
-      let marked = replay-marked (inv .marks) n replaying in
-      elim (greatest-in (map (λ (u : Target). u .parentTime) (keep f ts))) [
-        | inl z ↦ absurd (d z)
-        | inr i ↦
-            (let (u, j, e) = map-in (λ (u : Target). u .parentTime) (keep f ts) i in
-            let (k, q) = keep-in f ts j in
-            let (c, m, t, on, is, _, reached) = inv .replays n replaying .target-from u k in
-            let same : c ≡ b = one-channel marked b c m t h on (ap (λ (x : Target). x .parent) (sym is) ∙ eqb-true (u .parent) A q) in
-            (m, taken-put marked b m t h (subst (λ (x : ℕ). In (tookAt x m t) (g n)) same on), reached-goes reached, ap (λ (x : Target). x .parentTime) (sym is) ∙ sym e))
-      ]
+    -- What was put on a channel up to the cut was taken.
+    pub put-taken : (b : ℕ) (m : Message) → Enters (l .plan) n b → In m (put (l .plan) g b) → m .time ≤ cut b → (t : ℕ) × In (tookAt b m t) (g n)
+    put-taken b m h i late = got-of-in b (g n) (subst (λ (x : List Message). In m x) (sym (got-here b h)) (in-keep (λ (x : Message). leb (x .time) (cut b)) i (le-leb (m .time) (cut b) late)))
+
+  -- A replaying node's row whose goal is not 0: the goal is the time of a message that was taken and has reached a child.
+  module _ (replaying : nodeAt l n .status ≡ replay) (b : ℕ) (h : Enters (l .plan) n b) where
+    marked : nodeAt l n .crashed ≡ true
+    marked = replay-marked (inv .marks) n replaying
+
+    pub goal-event : rowGoal (nodeAt l n .targets) (channelAt (l .plan) b .sender) ≢ 0
+        → (m : Message) × (t : ℕ) × In (tookAt b m t) (g n) × Reached l n m t × (m .time ≡ rowGoal (nodeAt l n .targets) (channelAt (l .plan) b .sender))
+    goal-event d =
+        let A = channelAt (l .plan) b .sender in
+        let ts = nodeAt l n .targets in
+        let f : Target → Bool = λ u. eqb (u .parent) A in
+        elim (greatest-in (map (λ (u : Target). u .parentTime) (keep f ts))) [
+          | inl z ↦ absurd (d z)
+          | inr i ↦
+              (let (u, j, e) = map-in (λ (u : Target). u .parentTime) (keep f ts) i in
+              let (k, q) = keep-in f ts j in
+              let (c, m, t, on, is, _, reached) = inv .replays n replaying .target-from u k in
+              let same : c ≡ b = one-channel marked b c m t h on (ap (λ (x : Target). x .parent) (sym is) ∙ eqb-true (u .parent) A q) in
+              (m, t, subst (λ (x : ℕ). In (tookAt x m t) (g n)) same on, reached, ap (λ (x : Target). x .parentTime) (sym is) ∙ sym e))
+        ]
+
+    pub goal-message : rowGoal (nodeAt l n .targets) (channelAt (l .plan) b .sender) ≢ 0
+        → (m : Message) × In m (put (l .plan) g b) × (goesOn (l .plan) n m ≡ true) × (m .time ≡ rowGoal (nodeAt l n .targets) (channelAt (l .plan) b .sender))
+    goal-message d = let (m, t, on, reached, e) = goal-event d in (m, taken-put marked b m t h on, reached-goes reached, e)
+
+    -- So the row goes no further than what was taken before.
+    pub goal-cut : rowGoal (nodeAt l n .targets) (channelAt (l .plan) b .sender) ≤ cut b
+    goal-cut =
+        elim (ℕ-discrete (rowGoal (nodeAt l n .targets) (channelAt (l .plan) b .sender)) 0) [
+          | yes z ↦ omega (arith, z)
+          | no d ↦ (let (m, t, on, _, e) = goal-event d in omega (arith, e, taken-cut marked b m t h on))
+        ]

@@ -2,7 +2,7 @@
 use Prim.Native.Nat.{ℕ, zero, suc, max, _+_, _<_, _≤_}
 use mathlib.Core.Path.{_≡_, refl, sym, ap, subst, _∙_}
 use mathlib.Core.Logic.{_⊎_, inl, inr}
-use mathlib.Core.Bool.{Bool, true, false, true≢false, _||_}
+use mathlib.Core.Bool.{Bool, true, false, true≢false, _&&_, _||_}
 use mathlib.Core.List.{List, [], _∷_, _++_, map}
 use native.Mathlib.Omega.{arith}
 use native.Mathlib.Decide.{decLe, ℕ-discrete}
@@ -102,6 +102,18 @@ pub none-any : {A : Type 0} (f : A → Bool) {x : A} {xs : List A} → anyOf f x
 none-any f {x = x} e (here {xs = xs}) = neither-true (f x) (anyOf f xs) e .0
 none-any f e (there {y = y} {xs = xs} i) = none-any f (neither-true (f y) (anyOf f xs) e .1) i
 
+pub not-all : {A : Type 0} (f : A → Bool) (xs : List A) → allOf f xs ≡ false → (x : A) × In x xs × (f x ≡ false)
+not-all f [] e = absurd (true≢false e)
+not-all {A} f (x ∷ xs) e = one (f x) refl e (λ z. not-all f xs z)
+  where
+    one : (t : Bool) → f x ≡ t → (t && allOf f xs) ≡ false → (allOf f xs ≡ false → (y : A) × In y xs × (f y ≡ false)) → (y : A) × In y (x ∷ xs) × (f y ≡ false)
+    one false q z ih = (x, here, q)
+    one true q z ih = let (y, i, k) = ih z in (y, there i, k)
+
+pub all-by : {A : Type 0} (f : A → Bool) (xs : List A) → ((x : A) → In x xs → f x ≡ true) → allOf f xs ≡ true
+all-by f [] h = refl
+all-by f (x ∷ xs) h = rw (h x here, all-by f xs (λ y i. h y (there i)))
+
 -- The greatest of some numbers is none below any, and one of them or 0.
 pub in-greatest : {n : ℕ} {ns : List ℕ} → In n ns → n ≤ greatestOf ns
 in-greatest (here {xs = ns}) = omega arith
@@ -142,6 +154,11 @@ least-greatest (n ∷ ns) =
     let low = in-least first in
     let high = in-greatest first in
     omega arith
+
+pub least-above : {k : ℕ} (ns : List ℕ) → isEmpty ns ≡ false → ((n : ℕ) → In n ns → k ≤ n) → k ≤ leastOf ns
+least-above [] e f = absurd (true≢false e)
+least-above (n ∷ []) e f = f n here
+least-above (n ∷ m ∷ ns) e f = let first = f n here in let rest = least-above (m ∷ ns) refl (λ x i. f x (there i)) in omega arith
 
 -- The numbers from k on.
 pub in-up-to : (k n i : ℕ) → k ≤ i → i < k + n → In i (upTo k n)

@@ -7,7 +7,9 @@ use Rattle.rules.specs.Line.{Line, counted}
 use Rattle.rules.specs.Plain.{Act, Receipt}
 use Rattle.rules.proofs.histories.Ghost.{Ghost}
 use Rattle.rules.proofs.invariant.Inv.{Inv}
+use Rattle.rules.proofs.invariant.InvLaws.{marked-took}
 use Rattle.rules.proofs.invariant.Stays.{marks-stay, nodes-stay, events-stay, channel-stays, ends-stay, replays-stay}
+use Rattle.rules.proofs.invariant.Rooms.{room-stays}
 
 pub counted-inv : {l : Line} {g : Ghost} {cut base : ℕ → ℕ} {fed : List Act} {receipts : List Receipt} {crashes : List ℕ} → Inv l g cut base fed receipts crashes → Inv (counted l) g cut base fed receipts crashes
 unfolding counted
@@ -24,4 +26,5 @@ counted-inv {l} {g} {cut} {base} {fed} {receipts} {crashes} inv =
       channels = λ b h. channel-stays l steps nodes lanes g g b refl refl refl refl (λ _. refl) cut cut refl refl (inv .channels b h);
       ends = λ b h. ends-stay l steps nodes lanes g g b refl refl refl refl refl (inv .ends b h);
       replays = λ m e. replays-stay l steps nodes lanes g g m refl refl cut cut base base (λ c h. refl) (λ b x t i. refl) (λ b h. (refl, omega arith, refl, refl)) (inv .replays m e);
+      rooms = λ m e. room-stays l steps nodes lanes g g m refl refl (marked-took (inv .marks) (inv .nodes) m e) (λ c h. omega arith) (λ b h. omega arith) (inv .rooms m e);
     }

@@ -1,24 +1,27 @@
 -- Crash keeps the invariant: histories do not move, and what the node and its channels held is gone.
-use Prim.Native.Nat.{ℕ, _<_}
+use Prim.Native.Nat.{ℕ, _<_, _≤_}
 use mathlib.Core.Path.{_≡_, refl, sym, ap, subst, _∙_}
 use mathlib.Core.Logic.{_≢_, _⊎_, inl, inr}
 use mathlib.Core.Bool.{true, false, true≢false}
 use mathlib.Core.List.{List, [], _∷_, _++_}
 use native.Mathlib.Omega.{arith}
 use native.Mathlib.Decide.{ℕ-discrete}
+use lib.ListN.{length, length-map}
 use lib.Dec.{eqb}
 use borrow.Author.Tests.{eq-eqb}
 use Rattle.plan.specs.Plan.{channelAt, nodeCount, isSource, isSink}
 use Rattle.basics.specs.Bools.{neither-true}
-use Rattle.rules.specs.Line.{up, down, replay, Node, Lane, Line, nodeAt, laneAt, freshLane}
+use Rattle.rules.specs.Line.{logLimit, up, down, replay, Node, Lane, Line, nodeAt, laneAt, freshLane}
 use Rattle.rules.specs.Step.{crashedLine}
 use Rattle.rules.specs.Plain.{Act, Receipt}
-use Rattle.rules.proofs.lists.Rising.{Within}
-use Rattle.rules.proofs.histories.Ghost.{Ghost, put, logPut}
-use Rattle.rules.proofs.invariant.Inv.{Inv, isUp, named, timeOf, Enters, Leaves, Marks, Channels, Ends, Replays}
-use Rattle.rules.proofs.invariant.InvLaws.{up-not-down, replay-not-down, replay-marked, ends-up}
+use Rattle.rules.proofs.lists.Rising.{past, Within}
+use Rattle.rules.proofs.histories.Ghost.{Ghost, entryOf, put, logPut}
+use Rattle.rules.proofs.histories.Passing.{passing}
+use Rattle.rules.proofs.invariant.Inv.{Inv, isUp, named, timeOf, Enters, Leaves, Marks, Channels, Ends, Replays, Room}
+use Rattle.rules.proofs.invariant.InvLaws.{up-not-down, replay-not-down, if-marked, replay-marked, marked-took, ends-up}
 use Rattle.rules.proofs.invariant.MarkedLaws.{sender-other, receiver-other}
 use Rattle.rules.proofs.invariant.Stays.{unmarked-other, nodes-stay, channels-beside, ends-beside, events-stay, replays-stay}
+use Rattle.rules.proofs.invariant.Rooms.{room-stays, room-most, passing-short}
 use Rattle.rules.proofs.undamaged.Crashed.{crashedAfter, crashed-is, crashed-node, crashed-else, crashed-shape, crashed-enters, crashed-leaves, crashed-beside}
 
 -- Names joined to a list.
@@ -28,7 +31,8 @@ named-left n (k ∷ ns) ms e = let (a, b) = neither-true (eqb n k) (named n (ns 
 
 module _ (l : Line) (g : Ghost) (cut base : ℕ → ℕ) (fed : List Act) (receipts : List Receipt) (crashes : List ℕ) (inv : Inv l g cut base fed receipts crashes) (n : ℕ) (here : n < nodeCount (l .plan))
     (no-source : isSource (l .plan) n ≡ false) (no-sink : isSink (l .plan) n ≡ false)
-    (parents : (c : ℕ) → Enters (l .plan) n c → nodeAt l (channelAt (l .plan) c .sender) .crashed ≡ false) (children : (c : ℕ) → Leaves (l .plan) n c → nodeAt l (channelAt (l .plan) c .receiver) .crashed ≡ false) where
+    (parents : (c : ℕ) → Enters (l .plan) n c → nodeAt l (channelAt (l .plan) c .sender) .crashed ≡ false) (children : (c : ℕ) → Leaves (l .plan) n c → nodeAt l (channelAt (l .plan) c .receiver) .crashed ≡ false)
+    (log-few : length (nodeAt l n .log) ≤ logLimit) where
   parent-up : (c : ℕ) → Enters (l .plan) n c → isUp l (channelAt (l .plan) c .sender)
   parent-up c h = inv .marks .stopped (channelAt (l .plan) c .sender) (parents c h)
 
@@ -109,18 +113,52 @@ module _ (l : Line) (g : Ghost) (cut base : ℕ → ℕ) (fed : List Act) (recei
         stopped = λ m e. ap (λ (x : Node). x .status) (unmarked-old m e) ∙ inv .marks .stopped m (ap (λ (x : Node). x .crashed) (sym (unmarked-old m e)) ∙ e);
       }
 
-  -- A replaying node is not joined to the crashed one.
+  -- A node that crashed before is not joined to this one: its channels are as they were.
+  module _ (m : ℕ) (d : m ≢ n) (mark : nodeAt l m .crashed ≡ true) where
+    pub lane-into : (c : ℕ) → Enters (l .plan) m c → laneAt (crashedAfter l n) c ≡ laneAt l c
+    lane-into c h = (crashed-beside l n (inv .ordered) (inv .shape)) c (λ q. d (sym (h .1) ∙ q)) (λ q. true≢false (sym (ap (λ (x : ℕ). nodeAt l x .crashed) (h .1) ∙ mark) ∙ children c (h .0, q)))
+
+    lane-out : (c : ℕ) → Leaves (l .plan) m c → laneAt (crashedAfter l n) c ≡ laneAt l c
+    lane-out c h = (crashed-beside l n (inv .ordered) (inv .shape)) c (λ q. true≢false (sym (ap (λ (x : ℕ). nodeAt l x .crashed) (h .1) ∙ mark) ∙ parents c (h .0, q))) (λ q. d (sym (h .1) ∙ q))
+
   crash-replays : (m : ℕ) → nodeAt (crashedAfter l n) m .status ≡ replay → Replays (crashedAfter l n) g cut base m
   crash-replays m e =
       let d : m ≢ n = λ q. replay-not-down (sym e ∙ ap (λ (x : ℕ). nodeAt (crashedAfter l n) x .status) q ∙ ap (λ (x : Node). x .status) (crashed-node l n (inv .ordered) (inv .shape) here)) in
       let same = (crashed-else l n (inv .ordered) (inv .shape)) m d in
       let old : nodeAt l m .status ≡ replay = ap (λ (x : Node). x .status) (sym same) ∙ e in
       let mark = replay-marked (inv .marks) m old in
-      let into : (c : ℕ) → Enters (l .plan) m c → laneAt (crashedAfter l n) c ≡ laneAt l c =
-      λ c h. (crashed-beside l n (inv .ordered) (inv .shape)) c (λ q. d (sym (h .1) ∙ q)) (λ q. true≢false (sym (ap (λ (x : ℕ). nodeAt l x .crashed) (h .1) ∙ mark) ∙ children c (h .0, q))) in
-      let out : (c : ℕ) → Leaves (l .plan) m c → laneAt (crashedAfter l n) c ≡ laneAt l c =
-      λ c h. (crashed-beside l n (inv .ordered) (inv .shape)) c (λ q. true≢false (sym (ap (λ (x : ℕ). nodeAt l x .crashed) (h .1) ∙ mark) ∙ parents c (h .0, q))) (λ q. d (sym (h .1) ∙ q)) in
-      replays-stay l (l .steps) (crashedAfter l n .nodes) (crashedAfter l n .lanes) g g m same refl cut cut base base (λ c h. ap (λ (x : Lane). x .taken) (out c h)) (λ c y t i. refl) (λ c h. (ap (λ (x : Lane). x .taken) (into c h), omega arith, refl, refl)) (inv .replays m old)
+      replays-stay l (l .steps) (crashedAfter l n .nodes) (crashedAfter l n .lanes) g g m same refl cut cut base base (λ c h. ap (λ (x : Lane). x .taken) (lane-out m d mark c h)) (λ c y t i. refl)
+      (λ c h. (ap (λ (x : Lane). x .taken) (lane-into m d mark c h), omega arith, refl, refl)) (inv .replays m old)
+
+  -- What the node passed on past the entries of its children was in its log, or had room in one.
+  room-now : Room (crashedAfter l n) g n
+  room-now = if-marked (nodeAt l n .crashed) again first
+    where
+      gone : nodeAt (crashedAfter l n) n .status ≡ down
+      gone = ap (λ (x : Node). x .status) (crashed-node l n (inv .ordered) (inv .shape) here)
+
+      given : (k : ℕ) → ((c : ℕ) → Leaves (l .plan) n c → k ≤ laneAt l c .taken) → length (past timeOf k (passing (l .plan) n (g n))) ≤ logLimit → Room (crashedAfter l n) g n
+      given k below few =
+          record {
+            least = k;
+            below = λ c h. omega (arith, below c h, ap (λ (x : Lane). x .taken) (crashed-leaves l n (inv .ordered) (inv .shape) c h));
+            few = rw gone few;
+            held-few = λ e. absurd (replay-not-down (sym e ∙ gone));
+          }
+
+      again : nodeAt l n .crashed ≡ true → Room (crashedAfter l n) g n
+      again e = let r = inv .rooms n e in given (r .least) (r .below) (omega (arith, r .few, room-most (nodeAt l n .status) (nodeAt l n .log) log-few))
+
+      first : nodeAt l n .crashed ≡ false → Room (crashedAfter l n) g n
+      first e = given 0 (λ c h. omega arith) (omega (arith, passing-short (l .plan) n 0 (g n), ap length (inv .nodes .logged n e), length-map (g n) (entryOf (l .plan) n), log-few))
+
+  crash-rooms : (m : ℕ) → nodeAt (crashedAfter l n) m .crashed ≡ true → Room (crashedAfter l n) g m
+  crash-rooms m e = elim (marked-now m e) [
+    | inr q ↦ subst (Room (crashedAfter l n) g) (sym q) room-now
+    | inl (d, mark) ↦
+        room-stays l (l .steps) (crashedAfter l n .nodes) (crashedAfter l n .lanes) g g m (crashed-else l n (inv .ordered) (inv .shape) m d) refl (marked-took (inv .marks) (inv .nodes) m mark)
+        (λ c h. omega (arith, ap (λ (x : Lane). x .taken) (lane-out m d mark c h))) (λ c h. omega (arith, ap (λ (x : Lane). x .taken) (lane-into m d mark c h))) (inv .rooms m mark)
+  ]
 
   pub crash-inv : Inv (crashedLine n l) g cut base fed receipts (crashes ++ n ∷ [])
   crash-inv =
@@ -134,4 +172,5 @@ module _ (l : Line) (g : Ghost) (cut base : ℕ → ℕ) (fed : List Act) (recei
         channels = λ c h. channels-beside l (l .steps) (crashedAfter l n .nodes) (crashedAfter l n .lanes) g g n (crashed-else l n (inv .ordered) (inv .shape)) (crashed-beside l n (inv .ordered) (inv .shape)) (λ x d. refl) c h cut cut (λ d. refl) (λ d. refl) (channel-enters c) (channel-leaves c) (inv .channels c h);
         ends = λ c h. ends-beside l (l .steps) (crashedAfter l n .nodes) (crashedAfter l n .lanes) g g n (crashed-else l n (inv .ordered) (inv .shape)) (crashed-beside l n (inv .ordered) (inv .shape)) (λ x d. refl) c h (ends-enters c) (ends-leaves c) (inv .ends c h);
         replays = crash-replays;
+        rooms = crash-rooms;
       })

@@ -17,8 +17,9 @@ use Rattle.rules.proofs.histories.PlainRun.{Input, fedIn, History, grow
 use Rattle.rules.proofs.histories.Witness.{fedOnto, noInputs, Feeds, no-more, one-more, Taken}
 use Rattle.rules.proofs.histories.Ghost.{Event, fedAt, Ghost, inputOf, later, later-there, later-else}
 use Rattle.rules.proofs.invariant.Inv.{Inv, Nodes, isUp}
-use Rattle.rules.proofs.invariant.InvLaws.{source-up}
+use Rattle.rules.proofs.invariant.InvLaws.{source-up, marked-took}
 use Rattle.rules.proofs.invariant.Logging.{nodeLogs, status-kept, mark-kept, logging-shape, logging-marks, logging-logs, logging-channels, logging-events, logging-ends, logging-replays}
+use Rattle.rules.proofs.invariant.Rooms.{room-logs}
 
 -- One feed more at the end.
 feeds-snoc : {acts : List Act} (n : ℕ) (r : Record) → Feeds acts → Feeds (acts ++ feeds n r ∷ [])
@@ -85,4 +86,5 @@ module _ (l : Line) (g : Ghost) (cut base : ℕ → ℕ) (fed : List Act) (recei
         replays = λ m q.
             (let old = sym (status-kept l n e there m) ∙ q in
             logging-replays l n e there refl alive g cut base m old (λ b h s. subst (λ (x : ℕ). laneAt l b .taken ≤ nodeAt l x .time) s (inv .channels b (h .0) .sender-up (ap (λ (x : ℕ). nodeAt l x .status) s ∙ alive) .taken-within)) (inv .replays m old));
+        rooms = λ m q. (let old = sym (mark-kept l n e there m) ∙ q in room-logs l n e there alive g m (marked-took (inv .marks) (inv .nodes) m old) (inv .rooms m old));
       }

@@ -1,34 +1,36 @@
 -- Take, of a node that replays and goes on replaying, keeps the invariant: histories do not move, and the row of the message grows by it.
-use Prim.Native.Nat.{ℕ, max, _<_, _≤_}
+use Prim.Native.Nat.{ℕ, max, _+_, _<_, _≤_}
 use mathlib.Core.Path.{_≡_, refl, sym, ap, subst, _∙_}
 use mathlib.Core.Logic.{_≢_}
 use mathlib.Core.Bool.{Bool, true, false}
 use mathlib.Core.List.{List, [], _∷_, _++_, map}
 use native.Mathlib.Omega.{arith}
 use native.Mathlib.Decide.{ℕ-discrete}
-use lib.ListN.{length, length-set}
-use lib.Dec.{eqb}
+use lib.ListN.{length, length-set, length-append}
+use lib.Dec.{eqb, leb}
 use borrow.Author.Tests.{eq-eqb, ne-eqb}
 use Rattle.plan.specs.Plan.{channelAt, channelCount}
 use Rattle.rules.specs.Lists.{keep, keepOne}
-use Rattle.rules.specs.Line.{Message, Held, down, replay, Node, Lane, Line, nodeAt, laneAt, withNode, withLane}
+use Rattle.rules.specs.Line.{heldLimit, Message, Held, down, replay, Node, Lane, Line, nodeAt, laneAt, withNode, withLane}
 use Rattle.rules.specs.Clock.{messageOf}
 use Rattle.rules.specs.Recover.{rowGoal}
 use Rattle.rules.specs.Replay.{holding}
 use Rattle.rules.specs.Plain.{Act, Receipt}
 use Rattle.rules.proofs.lists.ListLaws.{keep-append, keep-more, keep-none, map-more, nil-right}
 use Rattle.rules.proofs.lists.Rising.{until, past, past-snoc}
-use Rattle.rules.proofs.lists.Members.{next-first}
+use Rattle.rules.proofs.lists.Members.{In, here as here-in, in-right, keep-in, next-first}
+use Rattle.rules.proofs.lists.Counts.{keep-fewer, keep-one-fewer}
 use Rattle.rules.proofs.line.LineLaws.{lane-else, lanes-long, node-there, node-else}
 use Rattle.rules.proofs.histories.PlainRun.{receipt-else}
-use Rattle.rules.proofs.histories.Ghost.{Ghost, takesMessage, put, logPut}
+use Rattle.rules.proofs.histories.Ghost.{Event, tookAt, Ghost, takesMessage, put, logPut}
 use Rattle.rules.proofs.histories.Passing.{goesOn, heldOf}
-use Rattle.rules.proofs.invariant.Inv.{Inv, isUp, timeOf, Enters, SenderUp, Channels, Ends, Row, Replays}
-use Rattle.rules.proofs.invariant.InvLaws.{up-not-replay, replay-not-down, replay-marked, ends-up}
-use Rattle.rules.proofs.invariant.MarkedLaws.{goal-message}
+use Rattle.rules.proofs.invariant.Inv.{Inv, isUp, timeOf, Enters, SenderUp, Channels, Ends, Row, Replays, Room, waits, takens}
+use Rattle.rules.proofs.invariant.InvLaws.{past-low, up-not-replay, replay-not-down, replay-marked, marked-took, ends-up}
+use Rattle.rules.proofs.invariant.MarkedLaws.{put-taken, goal-message, goal-cut}
 use Rattle.rules.proofs.invariant.Grow.{sender-taken, sender-cut, sender-same, sender-receiving}
 use Rattle.rules.proofs.invariant.Stays.{moved, everywhere, marks-stay, unmarked-other, nodes-stay, channel-stays, ends-stay, events-stay, replays-stay, replays-keep}
-use Rattle.rules.proofs.steps.TakeInv.{lane-raised, replay-beside}
+use Rattle.rules.proofs.invariant.Rooms.{still-waits, waits-no-more, waits-less, room-stays}
+use Rattle.rules.proofs.steps.TakeInv.{lane-raised, not-lower, replay-beside}
 
 module _ (l : Line) (g : Ghost) (cut base : ℕ → ℕ) (fed : List Act) (receipts : List Receipt) (crashes : List ℕ) (inv : Inv l g cut base fed receipts crashes)
     (b : ℕ) (here : b < channelCount (l .plan)) (m : Message) (rest : List Message) (heardOf : List ℕ) (first : laneAt l b .queue ≡ m ∷ rest) (sender : isUp l (channelAt (l .plan) b .sender))
@@ -64,7 +66,7 @@ module _ (l : Line) (g : Ghost) (cut base : ℕ → ℕ) (fed : List Act) (recei
   sent = inv .channels b here .sender-up sender
 
   -- The message is the next to come.
-  next : SenderUp (nodeAt l (channelAt (l .plan) b .sender) .time) (record { mark = laneAt l b .mark; taken = m .time; heard = heardOf; queue = rest }) (logPut l b) puts (m .time) (nodeAt l n .status ≢ down)
+  pub next : SenderUp (nodeAt l (channelAt (l .plan) b .sender) .time) (record { mark = laneAt l b .mark; taken = m .time; heard = heardOf; queue = rest }) (logPut l b) puts (m .time) (nodeAt l n .status ≢ down)
       × (until timeOf (m .time) puts ≡ until timeOf (laneAt l b .taken) puts ++ m ∷ []) × (laneAt l b .taken < m .time)
   next = sender-taken m rest heardOf (λ q. replay-not-down (sym replaying ∙ q)) (inv .channels b here .rises) first refl (sender-cut (sent .taken-within) sent)
 
@@ -86,6 +88,19 @@ module _ (l : Line) (g : Ghost) (cut base : ℕ → ℕ) (fed : List Act) (recei
       ap (λ (x : List Message). keep (goesOn (l .plan) n) (past timeOf (base b) x)) (next .1)
       ∙ ap (keep (goesOn (l .plan) n)) (past-snoc timeOf (until timeOf (laneAt l b .taken) puts) m (omega (arith, own-row .base-taken, next .2)))
       ∙ keep-append (goesOn (l .plan) n) (past timeOf (base b) (until timeOf (laneAt l b .taken) puts)) (m ∷ [])
+
+  -- It was put on the channel and taken before: where it goes on, the replay waited for it.
+  was-put : In m puts
+  was-put = keep-in (λ (x : Message). leb (x .time) (m .time)) puts (subst (λ (x : List Message). In m x) (sym (next .1)) (in-right (until timeOf (laneAt l b .taken) puts) here-first)) .0
+    where
+      here-first : In m (m ∷ [])
+      here-first = here-in
+
+  pub waited : goesOn (l .plan) n m ≡ true → (t : ℕ) × In (tookAt b m t) (g n) × (waits (l .plan) n (nodeAt l n .time) (takens l) (tookAt b m t) ≡ true)
+  waited goes =
+      let (t, i) = put-taken inv n marked b m (here, refl) was-put (omega (arith, to-goal, goal-cut inv n replaying b (here, refl))) in
+      let late : nodeAt l n .time < t = past-low old i goes (omega (arith, own-row .base-taken, next .2)) in
+      (t, i, still-waits (l .plan) n (nodeAt l n .time) (takens l) b m t goes late (next .2))
 
   -- The line after the Take, by its nodes.
   abbrev lineOf : List Node → Line
@@ -181,6 +196,34 @@ module _ (l : Line) (g : Ghost) (cut base : ℕ → ℕ) (fed : List Act) (recei
         replays-stay beside (l .steps) nodes (beside .lanes) g g k (others k d) refl cut cut base base (λ c h. refl) (λ c y t i. refl) (λ c h. (refl, omega arith, refl, refl))
         (replay-beside l g cut base fed receipts crashes inv b here m rest heardOf first sender k was d)
 
+    raised : (c : ℕ) → laneAt l c .taken ≤ laneAt after c .taken
+    raised = not-lower l g cut base fed receipts crashes inv b here m rest heardOf first sender
+
+    room-own : Room l g n → Room after g n
+    room-own r =
+        record {
+          least = r .least;
+          below = λ c h. omega (arith, r .below c h, raised c);
+          few = rw (status, log) (r .few);
+          held-few = λ e. rw (held, time) (fits (goesOn (l .plan) n m) refl);
+        }
+      where
+        low : ℕ
+        low = nodeAt l n .time
+
+        was : length (nodeAt l n .held) + length (keep (waits (l .plan) n (nodeAt l n .time) (takens l)) (g n)) ≤ heldLimit
+        was = r .held-few replaying
+
+        less : (e : Event) → In e (g n) → waits (l .plan) n (nodeAt l n .time) (takens after) e ≡ true → waits (l .plan) n (nodeAt l n .time) (takens l) e ≡ true
+        less = waits-less (l .plan) n (nodeAt l n .time) (takens l) (takens after) (g n) (λ c x t i. raised c)
+
+        fits : (t : Bool) → goesOn (l .plan) n m ≡ t → length (nodeAt l n .held ++ keepOne t (heldOf (l .plan) n b m) []) + length (keep (waits (l .plan) n (nodeAt l n .time) (takens after)) (g n)) ≤ heldLimit
+        fits true e =
+            let (t, i, w) = waited e in
+            let gone : waits (l .plan) n (nodeAt l n .time) (takens after) (tookAt b m t) ≡ false = waits-no-more (l .plan) n (nodeAt l n .time) (takens after) b m t (omega (arith, entry-now)) in
+            omega (arith, was, length-append (nodeAt l n .held) (heldOf (l .plan) n b m ∷ []), keep-one-fewer (waits (l .plan) n (nodeAt l n .time) (takens after)) (waits (l .plan) n (nodeAt l n .time) (takens l)) less i gone w)
+        fits false e = rw (nil-right (nodeAt l n .held)) (omega (arith, was, keep-fewer (waits (l .plan) n (nodeAt l n .time) (takens after)) (waits (l .plan) n (nodeAt l n .time) (takens l)) (g n) less))
+
     after-inv : Inv after g cut base fed (receipts ++ receipt ∷ []) crashes
     after-inv =
         record {
@@ -198,6 +241,12 @@ module _ (l : Line) (g : Ghost) (cut base : ℕ → ℕ) (fed : List Act) (recei
             | no d ↦ ends-stay l (l .steps) nodes (beside .lanes) g g c (statuses (channelAt (l .plan) c .sender)) (statuses (channelAt (l .plan) c .receiver)) (lane-else b taken l c d) refl (marks (channelAt (l .plan) c .receiver)) (inv .ends c h)
           ];
           replays = λ k e. elim (ℕ-discrete k n) [ yes q ↦ subst (Replays after g cut base) (sym q) replay-own | no d ↦ replay-other k d e ];
+          rooms = λ k e.
+              (let mark-was = sym (marks k) ∙ e in
+              elim (ℕ-discrete k n) [
+                | yes q ↦ subst (Room after g) (sym q) (room-own (inv .rooms n marked))
+                | no d ↦ room-stays l (l .steps) nodes (beside .lanes) g g k (others k d) refl (marked-took (inv .marks) (inv .nodes) k mark-was) (λ c h. raised c) (λ c h. raised c) (inv .rooms k mark-was)
+              ]);
         }
 
   -- The message is dropped: only its channel changes.

@@ -17,6 +17,7 @@ use Rattle.rules.proofs.histories.Witness.{no-more, none}
 use Rattle.rules.proofs.histories.Ghost.{Ghost, takesMessage, put, got, logPut}
 use Rattle.rules.proofs.invariant.Inv.{Inv, Ordered, Shape, Marks, Nodes, timeOf, Channels, Ends}
 use Rattle.rules.proofs.invariant.InvLaws.{up-not-replay}
+use Rattle.rules.proofs.invariant.Limits.{Steady}
 use Rattle.rules.proofs.steps.PlanOrder.{ordered-plan}
 
 -- Nothing on a channel, marked and taken up to 0.
@@ -116,6 +117,18 @@ module _ (p : Plan) where
         channels = λ b h. start-channels b;
         ends = λ b h. start-ends b;
         replays = λ n e. absurd (up-not-replay (sym (all-up n) ∙ e));
+        rooms = λ n e. absurd (true≢false (sym e ∙ unmarked n));
+      }
+
+  pub start-steady : Steady 0 (initialLine p)
+  start-steady =
+      record {
+        limits = record {
+          logs = λ n. rw (node-fresh n) (omega arith);
+          times = λ n. omega (arith, ap (λ (x : Node). x .time) (node-fresh n));
+          entries = λ b h. (let (heard, lane) = lane-fresh b in omega (arith, ap (λ (x : Lane). x .taken) lane));
+        };
+        open-rows = λ n e. absurd (up-not-replay (sym (all-up n) ∙ e));
       }
 
 pub load-inv : (s : List ℕ) → planRefusal s ≡ 0 → Inv (initialLine (planOf s)) (λ n. []) (λ b. 0) (λ b. 0) [] [] []

@@ -20,9 +20,10 @@ use Rattle.rules.proofs.lists.Rising.{past}
 use Rattle.rules.proofs.line.LineLaws.{lane-there, lane-else}
 use Rattle.rules.proofs.histories.Ghost.{Ghost, logPut}
 use Rattle.rules.proofs.invariant.Inv.{Inv, timeOf, isUp, Channels, Ends}
-use Rattle.rules.proofs.invariant.InvLaws.{ends-up}
+use Rattle.rules.proofs.invariant.InvLaws.{ends-up, marked-took}
 use Rattle.rules.proofs.invariant.Grow.{sender-sends, sender-same}
 use Rattle.rules.proofs.invariant.Stays.{shape-beside, marks-stay, nodes-stay, channel-beside, ends-stay, events-stay, replays-stay}
+use Rattle.rules.proofs.invariant.Rooms.{room-stays}
 
 -- An entry whose message is the first of some, or none where there is none.
 abbrev pub First : Option Entry → List Message → Type 0
@@ -95,4 +96,5 @@ module _ (l : Line) (g : Ghost) (cut base : ℕ → ℕ) (fed : List Act) (recei
         channels = λ c h. elim (ℕ-discrete c b) [ yes q ↦ subst (Channels after g cut) (sym q) own-channel | no d ↦ channel-beside l g cut b c sent d (inv .channels c h) ];
         ends = λ c h. elim (ℕ-discrete c b) [ yes q ↦ subst (Ends after g) (sym q) own-ends | no d ↦ ends-stay l (l .steps) (l .nodes) (after .lanes) g g c refl refl (lane-else b sent l c d) refl refl (inv .ends c h) ];
         replays = λ n q. replays-stay l (l .steps) (l .nodes) (after .lanes) g g n refl refl cut cut base base (λ c h. taken-same c) (λ c y t i. refl) (λ c h. (taken-same c, omega arith, refl, refl)) (inv .replays n q);
+        rooms = λ n q. room-stays l (l .steps) (l .nodes) (after .lanes) g g n refl refl (marked-took (inv .marks) (inv .nodes) n q) (λ c h. omega (arith, taken-same c)) (λ c h. omega (arith, taken-same c)) (inv .rooms n q);
       }

@@ -22,10 +22,11 @@ use Rattle.rules.proofs.histories.Witness.{Taken, none, more, taken-app
 use Rattle.rules.proofs.histories.Ghost.{Event, tookAt, Ghost, inputOf, historyOf, put, got, gotOne, logPut, later, later-there, later-else, put-else, got-there}
 use Rattle.rules.proofs.line.Joins.{no-source}
 use Rattle.rules.proofs.invariant.Inv.{Inv, isUp, timeOf, Enters, Leaves, Nodes, Channels, Ends, Replays}
-use Rattle.rules.proofs.invariant.InvLaws.{up-not-replay, up-not-down, ends-up}
+use Rattle.rules.proofs.invariant.InvLaws.{up-not-replay, up-not-down, ends-up, marked-took}
 use Rattle.rules.proofs.invariant.Grow.{sender-taken, sender-same, sender-receiving}
 use Rattle.rules.proofs.invariant.Stays.{shape-beside, marks-stay, channel-stays, channel-beside, ends-stay, events-stay, replays-stay, replays-cut}
 use Rattle.rules.proofs.invariant.Logging.{nodeLogs, status-kept, mark-kept, log-put-else, logging-shape, logging-marks, logging-logs, logging-channels, logging-events, logging-ends, logging-replays}
+use Rattle.rules.proofs.invariant.Rooms.{room-stays, room-logs}
 
 module _ (l : Line) (g : Ghost) (cut base : ℕ → ℕ) (fed : List Act) (receipts : List Receipt) (crashes : List ℕ) (inv : Inv l g cut base fed receipts crashes)
     (b : ℕ) (here : b < channelCount (l .plan)) (m : Message) (rest : List Message) (heardOf : List ℕ) (first : laneAt l b .queue ≡ m ∷ rest) (sender : isUp l (channelAt (l .plan) b .sender)) where
@@ -47,6 +48,14 @@ module _ (l : Line) (g : Ghost) (cut base : ℕ → ℕ) (fed : List Act) (recei
     where
       greater : laneAt l b .taken < m .time → max (laneAt l b .taken) (m .time) ≡ m .time
       greater h = omega arith
+
+  -- No entry is lowered.
+  pub not-lower : (c : ℕ) → laneAt l c .taken ≤ laneAt beside c .taken
+  not-lower c =
+      elim (ℕ-discrete c b) [
+        | yes q ↦ subst (λ (x : ℕ). laneAt l x .taken ≤ laneAt beside x .taken) (sym q) (omega (arith, ap (λ (x : Lane). x .taken) lane-now))
+        | no d ↦ omega (arith, ap (λ (x : Lane). x .taken) (lane-else b taken l c d))
+      ]
 
   -- The channels of a replaying node that is not the receiver.
   module _ (k : ℕ) (replaying : nodeAt l k .status ≡ replay) (apart : k ≢ n) where
@@ -175,4 +184,8 @@ module _ (l : Line) (g : Ghost) (cut base : ℕ → ℕ) (fed : List Act) (recei
             | no d ↦ logging-ends beside n event there g c (got-none c d) (ends-stay l (l .steps) (l .nodes) (beside .lanes) g g c refl refl (lane-else b taken l c d) refl refl (inv .ends c h))
           ];
           replays = λ k q. take-replays k (sym (status-kept beside n event there k) ∙ q);
+          rooms = λ k q.
+              (let old = sym (mark-kept beside n event there k) ∙ q in
+              let took = marked-took (inv .marks) (inv .nodes) k old in
+              room-logs beside n event there receiver g k took (room-stays l (l .steps) (l .nodes) (beside .lanes) g g k refl refl took (λ c h. not-lower c) (λ c h. not-lower c) (inv .rooms k old)));
         }

@@ -4,7 +4,7 @@ use mathlib.Core.Path.{_≡_, refl, sym, ap, _∙_}
 use mathlib.Core.Logic.{_≢_}
 use mathlib.Core.Bool.{Bool, true, false, _&&_, true≢false}
 use mathlib.Core.List.{List, [], _∷_}
-use mathlib.Core.Option.{some}
+use mathlib.Core.Option.{none, some}
 use native.Mathlib.Omega.{arith}
 use borrow.Author.Tests.{leb-false, eq-eqb, ne-eqb, not-false}
 use Rattle.basics.specs.Bools.{neither-true}
@@ -13,10 +13,10 @@ use Rattle.rules.specs.Lists.{anyOf}
 use Rattle.rules.specs.Line.{stepLimit, Message, Entry, Status, up, down, replay, Line, nodeAt, laneAt, isDown, isReplay}
 use Rattle.rules.specs.Frame.{Frame, feed, send, take, crash, recover, frameOf, badFrameLength, badFrameVersion, badKind}
 use Rattle.rules.specs.Recover.{rowGoal, rowComplete}
-use Rattle.rules.specs.Step.{noStepsLeft, noSuch, wrongNode, nodeDown, endDown, wrongStatus, neighbourCrashed, besideCrashed, badRecord, sendable, nothingThere, queueFull, rowDone, noSpace, effect, noPlacing, lineRefusal, refusal, accepted, step}
+use Rattle.rules.specs.Step.{isNothing, noStepsLeft, noSuch, wrongNode, nodeDown, endDown, wrongStatus, neighbourCrashed, besideCrashed, badRecord, sendable, nothingThere, queueFull, rowDone, noSpace, effect, noPlacing, lineRefusal, refusal, accepted, step}
 use Rattle.rules.proofs.lists.ListLaws.{some-first}
 use Rattle.rules.proofs.lists.Members.{none-any}
-use Rattle.rules.proofs.lists.Options.{something-there}
+use Rattle.rules.proofs.lists.Options.{nothing-none, something-there}
 use Rattle.rules.proofs.invariant.Inv.{Enters, Leaves}
 use Rattle.rules.proofs.line.Joins.{in-entering, in-leaving}
 
@@ -29,10 +29,22 @@ abbrev NoneOf : List (Bool × ℕ) → Type 0
 NoneOf [] = Unit
 NoneOf ((t, k) ∷ ts) = (t ≡ false) × NoneOf ts
 
+-- No refusal of some is a number.
+abbrev NoneIs : ℕ → List (Bool × ℕ) → Type 0
+NoneIs v [] = Unit
+NoneIs v ((t, k) ∷ ts) = (suc k ≢ v) × NoneIs v ts
+
+only-last : (v : ℕ) (ts : List (Bool × ℕ)) (n : ℕ) → NoneIs v ts → firstOf ts n ≡ v → NoneOf ts × (n ≡ v)
+only-last v [] n d e = (tt, e)
+only-last v ((true, k) ∷ ts) n d e = absurd (d .0 e)
+only-last v ((false, k) ∷ ts) n d e = let (rest, last) = only-last v ts n (d .1) e in ((refl, rest), last)
+
 none-of : (ts : List (Bool × ℕ)) (n : ℕ) → firstOf ts n ≡ 0 → NoneOf ts × (n ≡ 0)
-none-of [] n e = (tt, e)
-none-of ((true, k) ∷ ts) n e = let no : ⊥ = omega arith in absurd no
-none-of ((false, k) ∷ ts) n e = let (rest, last) = none-of ts n e in ((refl, rest), last)
+none-of ts n e = only-last 0 ts n (never-zero ts) e
+  where
+    never-zero : (ts : List (Bool × ℕ)) → NoneIs 0 ts
+    never-zero [] = tt
+    never-zero ((t, k) ∷ ts) = (λ z. omega arith, never-zero ts)
 
 -- A frame that is not refused: no number from 12 on applies, and it leads to a line.
 pub record Passed (l : Line) (f : Frame) : Type 0 where
@@ -71,6 +83,38 @@ passed l f e =
       next = k;
       leads = q;
     }
+
+-- A frame that gets as far as 24: no number from 12 to 21 applies, and it leads nowhere.
+pub record Unplaced (l : Line) (f : Frame) : Type 0 where
+  pub steps-left : l .steps < stepLimit
+  pub is-there : noSuch l f ≡ false
+  pub right-node : wrongNode l f ≡ false
+  pub right-status : wrongStatus l f ≡ false
+  pub something : nothingThere l f ≡ false
+  pub row-open : rowDone l f ≡ false
+  pub nowhere : effect l f ≡ none
+
+pub unplaced : (l : Line) (f : Frame) → lineRefusal l f ≡ 24 → Unplaced l f
+unfolding lineRefusal noStepsLeft noPlacing
+unplaced l f e =
+    let tests : List (Bool × ℕ) =
+    (noStepsLeft l, 11) ∷ (noSuch l f, 12) ∷ (wrongNode l f, 13) ∷ (wrongStatus l f, 14) ∷ (besideCrashed l f, 15) ∷ (badRecord f, 16) ∷ (nothingThere l f, 17) ∷ (queueFull l f, 18) ∷ (rowDone l f, 19) ∷ (noSpace l f, 20) ∷ [] in
+    let apart : NoneIs 24 tests =
+    (λ z. omega arith, (λ z. omega arith, (λ z. omega arith, (λ z. omega arith, (λ z. omega arith, (λ z. omega arith, (λ z. omega arith, (λ z. omega arith, (λ z. omega arith, (λ z. omega arith, tt)))))))))) in
+    let ((steps, (number, (node, (status, (beside, (good, (offer, (room, (row, (space, _)))))))))), last) = only-last 24 tests (elim (noPlacing l f) [ true ↦ 24 | false ↦ 0 ]) apart e in
+    record {
+      steps-left = leb-false stepLimit (l .steps) steps;
+      is-there = number;
+      right-node = node;
+      right-status = status;
+      something = offer;
+      row-open = row;
+      nowhere = nowhere (noPlacing l f) refl last;
+    }
+  where
+    nowhere : (t : Bool) → isNothing (effect l f) ≡ t → _≡_ {A = ℕ} (elim t [ true ↦ 24 | false ↦ 0 ]) 24 → effect l f ≡ none
+    nowhere true q z = nothing-none (effect l f) q
+    nowhere false q z = let no : ⊥ = omega arith in absurd no
 
 not-down : (s : Status) → isDown s ≡ false → s ≢ down
 not-down s e q = true≢false (sym (ap isDown q) ∙ e)
@@ -123,11 +167,14 @@ row-below l b e q =
     let n = channelAt (l .plan) b .receiver in
     leb-false (rowGoal (nodeAt l n .targets) (channelAt (l .plan) b .sender)) (laneAt l b .taken) (sym (ap (λ (s : Status). isReplay s && rowComplete l n b) q) ∙ e)
 
+pub may-take : (l : Line) (b : ℕ) → noSuch l (take b) ≡ false → wrongStatus l (take b) ≡ false → nothingThere l (take b) ≡ false → rowDone l (take b) ≡ false → CanTake l b
+may-take l b is-there right-status something row-open =
+    let (s, r) = ends-apart l b right-status in
+    let (m, rest, q) = some-first (laneAt l b .queue) something in
+    record { here = leb-false (channelCount (l .plan)) b is-there; sender = s; receiver = r; message = m; rest = rest; first = q; below-goal = row-below l b row-open }
+
 pub can-take : {l : Line} {b : ℕ} → Passed l (take b) → CanTake l b
-can-take {l} {b} p =
-    let (s, r) = ends-apart l b (p .right-status) in
-    let (m, rest, q) = some-first (laneAt l b .queue) (p .something) in
-    record { here = leb-false (channelCount (l .plan)) b (p .is-there); sender = s; receiver = r; message = m; rest = rest; first = q; below-goal = row-below l b (p .row-open) }
+can-take {l} {b} p = may-take l b (p .is-there) (p .right-status) (p .something) (p .row-open)
 
 pub record CanCrash (l : Line) (n : ℕ) : Type 0 where
   pub here : n < nodeCount (l .plan)
@@ -165,16 +212,23 @@ pub record CanRecover (l : Line) (n : ℕ) : Type 0 where
   pub no-sink : isSink (l .plan) n ≡ false
   pub stopped : nodeAt l n .status ≡ down
 
+pub may-recover : (l : Line) (n : ℕ) → noSuch l (recover n) ≡ false → wrongNode l (recover n) ≡ false → wrongStatus l (recover n) ≡ false → CanRecover l n
+may-recover l n is-there right-node right-status =
+    let (source, sink) = neither-true (isSource (l .plan) n) (isSink (l .plan) n) right-node in
+    record { here = leb-false (nodeCount (l .plan)) n is-there; no-source = source; no-sink = sink; stopped = is-down (nodeAt l n .status) (not-false (nodeDown l n) right-status) }
+
 pub can-recover : {l : Line} {n : ℕ} → Passed l (recover n) → CanRecover l n
-can-recover {l} {n} p =
-    let (source, sink) = neither-true (isSource (l .plan) n) (isSink (l .plan) n) (p .right-node) in
-    record { here = leb-false (nodeCount (l .plan)) n (p .is-there); no-source = source; no-sink = sink; stopped = is-down (nodeAt l n .status) (not-false (nodeDown l n) (p .right-status)) }
+can-recover {l} {n} p = may-recover l n (p .is-there) (p .right-node) (p .right-status)
 
 -- A step's answer: with number 0 the effect and one more step, else the line as it was.
 module _ (l : Line) (f : List ℕ) where
   pub line-passed : refusal l f ≡ 0 → lineRefusal l (frameOf f) ≡ 0
   unfolding refusal
   line-passed e = none-of ((badFrameLength f, 8) ∷ (badFrameVersion f, 9) ∷ (badKind f, 10) ∷ []) (lineRefusal l (frameOf f)) e .1
+
+  pub line-unplaced : refusal l f ≡ 24 → lineRefusal l (frameOf f) ≡ 24
+  unfolding refusal
+  line-unplaced e = only-last 24 ((badFrameLength f, 8) ∷ (badFrameVersion f, 9) ∷ (badKind f, 10) ∷ []) (lineRefusal l (frameOf f)) (λ z. omega arith, (λ z. omega arith, (λ z. omega arith, tt))) e .1
 
   pub step-accepted : refusal l f ≡ 0 → (step l f .number ≡ 0) × (step l f .line ≡ accepted l (effect l (frameOf f)))
   unfolding step

@@ -1,14 +1,15 @@
 -- Every accepted frame keeps the invariant: the kinds of steps put together.
-use Prim.Native.Nat.{ℕ, suc, _<_}
+use Prim.Native.Nat.{ℕ, suc, _<_, _≤_}
 use mathlib.Core.Path.{_≡_, refl, sym, ap, subst, _∙_}
 use mathlib.Core.Logic.{_≢_, _⊎_, inl, inr}
 use mathlib.Core.Bool.{true, false}
 use mathlib.Core.List.{List, [], _∷_, _++_, nil≢cons}
 use mathlib.Core.Option.{Option, some}
+use lib.ListN.{length}
 use Rattle.basics.specs.Update.{changed}
 use Rattle.plan.specs.Record.{recordLayout}
 use Rattle.plan.specs.Plan.{channelAt, channelCount}
-use Rattle.rules.specs.Line.{Message, Entry, Status, up, down, replay, Line, nodeAt, laneAt, parents, isReplay, senderOf, receiverOf}
+use Rattle.rules.specs.Line.{logLimit, Message, Entry, Status, up, down, replay, Line, nodeAt, laneAt, parents, isReplay, senderOf, receiverOf}
 use Rattle.rules.specs.Frame.{Frame, feed, send, take, crash, recover, frameOf}
 use Rattle.rules.specs.Clock.{nextToSend, raiseHeard}
 use Rattle.rules.specs.Replay.{endedIfComplete}
@@ -41,7 +42,7 @@ up-unless up f = refl
 up-unless down f = absurd (f (λ e. up-not-down (sym e)))
 up-unless replay f = absurd (f (λ e. up-not-replay (sym e)))
 
-up-or-replay : (s : Status) → s ≢ down → (s ≡ up) ⊎ (s ≡ replay)
+pub up-or-replay : (s : Status) → s ≢ down → (s ≡ up) ⊎ (s ≡ replay)
 up-or-replay up d = inl refl
 up-or-replay down d = absurd (d refl)
 up-or-replay replay d = inr refl
@@ -74,14 +75,14 @@ module _ (l : Line) (g : Ghost) (cut base : ℕ → ℕ) (fed : List Act) (recei
       subst (λ (x : Line). Inv x g cut base fed receipts crashes) (ap (λ (o : Option Entry). sentLine b o l) (sym (can .first)) ∙ some-same e)
       (send-inv l g cut base fed receipts crashes inv b (can .entry) (can .here) (can .first) (sender-sends b (can .entry) (can .first) (can .sender)) (can .receiver))
 
-  crash-step : (n : ℕ) → CanCrash l n → (k : Line) → effect l (crash n) ≡ some k → Inv k g cut base fed receipts (crashes ++ n ∷ [])
+  crash-step : (n : ℕ) → CanCrash l n → length (nodeAt l n .log) ≤ logLimit → (k : Line) → effect l (crash n) ≡ some k → Inv k g cut base fed receipts (crashes ++ n ∷ [])
   unfolding effect
-  crash-step n can k e =
+  crash-step n can log-few k e =
       subst (λ (x : Line). Inv x g cut base fed receipts (crashes ++ n ∷ [])) (some-same e)
-      (crash-inv l g cut base fed receipts crashes inv n (can .here) (can .no-source) (can .no-sink) (can .parents) (can .children))
+      (crash-inv l g cut base fed receipts crashes inv n (can .here) (can .no-source) (can .no-sink) (can .parents) (can .children) log-few)
 
   -- The sender of a channel with a message on it is up.
-  sender-gives : (b : ℕ) (m : Message) (rest : List Message) → b < channelCount (l .plan) → laneAt l b .queue ≡ m ∷ rest → isUp l (channelAt (l .plan) b .sender)
+  pub sender-gives : (b : ℕ) (m : Message) (rest : List Message) → b < channelCount (l .plan) → laneAt l b .queue ≡ m ∷ rest → isUp l (channelAt (l .plan) b .sender)
   sender-gives b m rest here first = up-unless (nodeAt l (channelAt (l .plan) b .sender) .status) (λ d. nil≢cons (sym (inv .ends b here .stopped d) ∙ first))
 
   module _ (b : ℕ) (can : CanTake l b) (alive : isUp l (channelAt (l .plan) b .receiver)) where
@@ -91,7 +92,7 @@ module _ (l : Line) (g : Ghost) (cut base : ℕ → ℕ) (fed : List Act) (recei
     abbrev m : Message
     m = can .message
 
-    taken-is : effect l (take b) ≡ some (takenUp b m (takenLane b m (can .rest) l))
+    pub taken-is : effect l (take b) ≡ some (takenUp b (can .message) (takenLane b (can .message) (can .rest) l))
     unfolding effect takenLine
     taken-is = ap (λ (q : List Message). takenFirst b q l) (can .first) ∙ first-up b m (can .rest) l (ap isReplay alive)
 
@@ -106,7 +107,7 @@ module _ (l : Line) (g : Ghost) (cut base : ℕ → ℕ) (fed : List Act) (recei
         (take-inv l g cut base fed receipts crashes inv b (can .here) m (can .rest) heard (can .first) (sender-gives b m (can .rest) (can .here) (can .first)) alive))
 
   module _ (b : ℕ) (can : CanTake l b) (again : nodeAt l (channelAt (l .plan) b .receiver) .status ≡ replay) where
-    again-is : effect l (take b) ≡ endedIfComplete (channelAt (l .plan) b .receiver) (takenReplaying b (can .message) (takenLane b (can .message) (can .rest) l))
+    pub again-is : effect l (take b) ≡ endedIfComplete (channelAt (l .plan) b .receiver) (takenReplaying b (can .message) (takenLane b (can .message) (can .rest) l))
     unfolding effect takenLine
     again-is = ap (λ (q : List Message). takenFirst b q l) (can .first) ∙ first-again b (can .message) (can .rest) l (ap isReplay again)
 
@@ -124,9 +125,9 @@ module _ (l : Line) (g : Ghost) (cut base : ℕ → ℕ) (fed : List Act) (recei
 abbrev pub Steps : Type 0
 Steps =
     (l : Line) (g : Ghost) (cut base : ℕ → ℕ) (fed : List Act) (receipts : List Receipt) (crashes : List ℕ) → Inv l g cut base fed receipts crashes
-    → (f : List ℕ) → refusal l f ≡ 0 → Kept (step l f .line) (fed ++ feedOf (frameOf f)) (receipts ++ receiptOf l (frameOf f)) (crashes ++ crashOf (frameOf f))
+    → ((n : ℕ) → length (nodeAt l n .log) ≤ logLimit) → (f : List ℕ) → refusal l f ≡ 0 → Kept (step l f .line) (fed ++ feedOf (frameOf f)) (receipts ++ receiptOf l (frameOf f)) (crashes ++ crashOf (frameOf f))
 
-module _ (l : Line) (g : Ghost) (cut base : ℕ → ℕ) (fed : List Act) (receipts : List Receipt) (crashes : List ℕ) (inv : Inv l g cut base fed receipts crashes) where
+module _ (l : Line) (g : Ghost) (cut base : ℕ → ℕ) (fed : List Act) (receipts : List Receipt) (crashes : List ℕ) (inv : Inv l g cut base fed receipts crashes) (logs : (n : ℕ) → length (nodeAt l n .log) ≤ logLimit) where
   take-step : (b : ℕ) → CanTake l b → (k : Line) → effect l (take b) ≡ some k → Kept k fed (receipts ++ receiptOf l (take b)) crashes
   take-step b can k e = elim (up-or-replay (nodeAt l (channelAt (l .plan) b .receiver) .status) (can .receiver)) [
     | inl alive ↦ (_, _, _, take-up-step l g cut base fed receipts crashes inv b can alive k e)
@@ -137,13 +138,13 @@ module _ (l : Line) (g : Ghost) (cut base : ℕ → ℕ) (fed : List Act) (recei
   effect-inv (feed n r) p k e = kept-same refl refl (nil-right receipts) (nil-right crashes) (_, _, _, feed-step l g cut base fed receipts crashes inv n r (can-feed p) k e)
   effect-inv (send b) p k e = kept-same refl (nil-right fed) (nil-right receipts) (nil-right crashes) (_, _, _, send-step l g cut base fed receipts crashes inv b (can-send p) k e)
   effect-inv (take b) p k e = kept-same refl (nil-right fed) refl (nil-right crashes) (take-step b (can-take p) k e)
-  effect-inv (crash n) p k e = kept-same refl (nil-right fed) (nil-right receipts) refl (_, _, _, crash-step l g cut base fed receipts crashes inv n (can-crash p) k e)
+  effect-inv (crash n) p k e = kept-same refl (nil-right fed) (nil-right receipts) refl (_, _, _, crash-step l g cut base fed receipts crashes inv n (can-crash p) (logs n) k e)
   effect-inv (recover n) p k e =
       let can = can-recover p in
       kept-same refl (nil-right fed) (nil-right receipts) (nil-right crashes) (recover-inv l g cut base fed receipts crashes inv n (can .here) (can .stopped) k (sym (recover-is l g cut base fed receipts crashes inv n) ∙ e))
 
 pub step-inv : Steps
-step-inv l g cut base fed receipts crashes inv f e =
+step-inv l g cut base fed receipts crashes inv logs f e =
     let p = passed l (frameOf f) (line-passed l f e) in
-    let (g′, cut′, base′, inv′) = effect-inv l g cut base fed receipts crashes inv (frameOf f) p (p .next) (p .leads) in
+    let (g′, cut′, base′, inv′) = effect-inv l g cut base fed receipts crashes inv logs (frameOf f) p (p .next) (p .leads) in
     kept-same (step-accepted l f e .1 ∙ ap (accepted l) (p .leads)) refl refl refl (g′, cut′, base′, counted-inv inv′)

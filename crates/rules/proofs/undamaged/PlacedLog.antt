@@ -90,7 +90,7 @@ rises-placed low (h ∷ hs) (t ∷ columns) c =
     (rises-placed low hs columns (columns-rest c))
 
 -- The table has an item for each held record.
-items-long : (l : Line) (b row : ℕ) (rows : List (List Held)) → length (itemsByRow l b row rows) ≡ length (joined rows)
+pub items-long : (l : Line) (b row : ℕ) (rows : List (List Held)) → length (itemsByRow l b row rows) ≡ length (joined rows)
 items-long l b row [] = refl
 items-long l b row (hs ∷ rest) =
     let ih = items-long l b (suc row) rest in

@@ -1,0 +1,89 @@
+-- A crashed node can always come back, on bytes: the rules' statement, carried over the calls' run of lines.
+use Prim.Native.Nat.{ℕ, _<_, _≤_}
+use mathlib.Core.Path.{_≡_, refl, sym, ap, subst, _∙_}
+use mathlib.Core.Bool.{true}
+use mathlib.Core.List.{List}
+use native.Mathlib.Omega.{arith}
+use lib.Dec.{eqb}
+use borrow.Author.Tests.{eqb-true}
+use Rattle.plan.specs.Lawful.{Each, Bytes}
+use Rattle.plan.specs.Plan.{Plan, channelCount, entering}
+use Rattle.plan.proofs.FitsLaws.{fitting}
+use Rattle.rules.specs.Line.{Status, up, down, replay, Line, nodeAt}
+use Rattle.rules.specs.Claim.{Story, named}
+use Rattle.rules.specs.Restart.{OnEntering, no-more, send-next, take-next, Restarting, ComesBack, NeverStuck}
+use Rattle.rules.proofs.AlwaysBack.{always-back}
+use Rattle.rules.proofs.lists.Members.{any-in}
+use Rattle.rules.proofs.line.Joins.{entering-in}
+use Rattle.rules.proofs.invariant.InvLaws.{not-up-inside, up-not-down}
+use Rattle.rules.proofs.undamaged.Standing.{Standing}
+use Rattle.rules.proofs.undamaged.Undamaged.{undamaged-sound}
+use Rattle.state.specs.State.{lineOf, stateAnswer}
+use Rattle.state.proofs.SpelledLaws.{state-sane}
+use Rattle.line.specs.Load.{loadLeft}
+use Rattle.line.specs.Order.{stateAfter, storyOf}
+use Rattle.line.specs.Restart.{ComesBackOnBytes, NeverStuckOnBytes, AlwaysBackOnBytes}
+use Rattle.line.proofs.LoadLaws.{load-accepted}
+use Rattle.line.proofs.StepLaws.{answer-undamaged, refusal-not-eight}
+use Rattle.line.proofs.StepRun.{as-told, run-of-lines}
+
+-- The frames of a restart are made of bytes.
+module _ (p : Plan) (n : ℕ) (few : channelCount p ≤ 24) where
+  named-small : (b : ℕ) → named b (entering p n) ≡ true → b < 256
+  named-small b e = let (c, i, q) = any-in (eqb b) (entering p n) e in omega (arith, eqb-true b c q, entering-in p n c i .0)
+
+  entering-bytes : {frames : List (List ℕ)} → OnEntering p n frames → Each Bytes frames
+  entering-bytes no-more = tt
+  entering-bytes (send-next {b} e r) = ((omega arith, (omega arith, (omega arith, (omega arith, (named-small b e, tt))))), entering-bytes r)
+  entering-bytes (take-next {b} e r) = ((omega arith, (omega arith, (omega arith, (omega arith, (named-small b e, tt))))), entering-bytes r)
+
+module _ (state : List ℕ) (z : stateAnswer state ≡ 0) where
+  abbrev l : Line
+  l = lineOf state
+
+  standing : Standing l
+  standing = undamaged-sound l (state-sane state .0 z .undamaged) .standing
+
+  restart-bytes : (n : ℕ) (frames : List (List ℕ)) → Restarting (l .plan) n (nodeAt l n .status) frames → Each Bytes frames
+  restart-bytes n frames = go (nodeAt l n .status) refl
+    where
+      few : channelCount (l .plan) ≤ 24
+      few = fitting (l .plan) (standing .plan-fits) .channelsMost
+
+      small : nodeAt l n .status ≡ down → n < 256
+      small q = omega (arith, not-up-inside (standing .shape) n (λ e. up-not-down (sym e ∙ q)), fitting (l .plan) (standing .plan-fits) .nodesMost)
+
+      go : (s : Status) → nodeAt l n .status ≡ s → Restarting (l .plan) n s frames → Each Bytes frames
+      go up q shape = entering-bytes (l .plan) n few shape
+      go replay q shape = entering-bytes (l .plan) n few shape
+      go down q (rest, is, shape) = subst (Each Bytes) (sym is) ((omega arith, (omega arith, (omega arith, (omega arith, (small q, tt))))), entering-bytes (l .plan) n few shape)
+
+  back-on-bytes : (n : ℕ) → ComesBack l n → ComesBackOnBytes state n
+  unfolding storyOf
+  back-on-bytes n c =
+      let bytes = restart-bytes n (c .frames) (c .shape) in
+      let told = as-told (c .frames) state bytes z .story in
+      record {
+        frames = c .frames;
+        bytes = bytes;
+        few = c .few;
+        shape = c .shape;
+        accepted = ap (λ (s : Story). s .numbers) told ∙ c .accepted;
+        back = ap (λ (s : Story). nodeAt (s .line) n .status) told ∙ c .back;
+      }
+
+  never-stuck : NeverStuck l → NeverStuckOnBytes state
+  never-stuck s =
+      record {
+        sound = λ f e. refusal-not-eight l f (sym (answer-undamaged state f z) ∙ e);
+        placed = λ f e. s .placed f (sym (answer-undamaged state f z) ∙ e);
+        recovers = λ n e. answer-undamaged state _ z ∙ s .recovers n e;
+        replays = λ b r o q. answer-undamaged state _ z ∙ s .replays b r o q;
+        comes-back = λ n h. back-on-bytes n (s .comes-back n h);
+      }
+
+pub always-back-on-bytes : AlwaysBackOnBytes
+unfolding storyOf
+always-back-on-bytes plan lent frames bytes each z =
+    let run = run-of-lines plan lent frames bytes each z in
+    never-stuck (stateAfter (loadLeft plan lent) frames) (run .accepted) (subst NeverStuck (sym (ap (λ (s : Story). s .line) (run .story))) (always-back plan frames (load-accepted plan lent z .0)))

@@ -1,0 +1,16 @@
+-- A crashed node can always come back: the four statements of specs/Restart, for every accepted plan and every list of frames.
+use Rattle.plan.specs.Plan.{planOf}
+use Rattle.rules.specs.Line.{initialLine}
+use Rattle.rules.specs.Claim.{startOf, storyFrom}
+use Rattle.rules.specs.Restart.{AlwaysBack}
+use Rattle.rules.proofs.restart.Known.{known-start, known-all}
+use Rattle.rules.proofs.restart.NeverUnplaced.{placed}
+use Rattle.rules.proofs.restart.Answers.{recovers, replays}
+use Rattle.rules.proofs.restart.Bring.{comes-back}
+
+pub always-back : AlwaysBack
+always-back plan frames z =
+    let start = startOf (initialLine (planOf plan)) in
+    let l = storyFrom start frames .line in
+    let known = known-all frames start (known-start plan z) in
+    record { placed = placed l known; recovers = recovers l known; replays = replays l known; comes-back = comes-back l known }

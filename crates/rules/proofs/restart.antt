@@ -1,0 +1,14 @@
+-- A crashed node can always come back: the old times are a placing, so no step is answered 24; there is always space; and steps on its own channels bring it up.
+pub mod Placeable
+pub mod OldTimes
+pub mod TableFits
+pub mod ReplayEnds
+pub mod TargetsRise
+pub mod RecoverGoes
+pub mod Frames
+pub mod Known
+pub mod NeverUnplaced
+pub mod Answers
+pub mod RowsLeft
+pub mod Advance
+pub mod Bring

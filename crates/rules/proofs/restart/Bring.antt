@@ -1,0 +1,171 @@
+-- The steps that bring a node back: as many as are left of its replay, after a Recover if it is down.
+use Prim.Native.Nat.{ℕ, zero, suc, _+_, _<_, _≤_}
+use mathlib.Core.Path.{_≡_, refl, sym, ap, subst, _∙_}
+use mathlib.Core.Logic.{inl, inr}
+use mathlib.Core.Bool.{false}
+use mathlib.Core.List.{List, [], _∷_, _++_, append-assoc}
+use native.Mathlib.Omega.{arith}
+use lib.ListN.{length, replicate}
+use Rattle.plan.specs.Plan.{Plan, channelCount, entering}
+use Rattle.rules.specs.Line.{stepLimit, Target, Status, up, down, replay, Node, Line, nodeAt, counted, receiverOf}
+use Rattle.rules.specs.Frame.{Frame}
+use Rattle.rules.specs.Recover.{targetsOf, rowComplete, rowsComplete, recovered, statusOf}
+use Rattle.rules.specs.Step.{effect, accepted, refusal, step}
+use Rattle.rules.specs.Claim.{Story, startOf, told, storyFrom}
+use Rattle.rules.specs.Restart.{recoverFrame, OnEntering, no-more, Restarting, restartSteps, ComesBack}
+use Rattle.rules.proofs.lists.ListLaws.{nil-right}
+use Rattle.rules.proofs.lists.Members.{In, not-all}
+use Rattle.rules.proofs.line.Joins.{entering-in}
+use Rattle.rules.proofs.invariant.InvLaws.{not-up-inside, up-not-replay, up-not-down}
+use Rattle.rules.proofs.undamaged.Restored.{recovered-is, restored-node}
+use Rattle.rules.proofs.theorem.Accepted.{may-recover, step-accepted}
+use Rattle.rules.proofs.theorem.PlanKept.{step-plan}
+use Rattle.rules.proofs.restart.Known.{Known, known-step}
+use Rattle.rules.proofs.restart.Frames.{recover-is}
+use Rattle.rules.proofs.restart.NeverUnplaced.{recover-goes}
+use Rattle.rules.proofs.restart.Answers.{recover-unrefused, recovers}
+use Rattle.rules.proofs.restart.RowsLeft.{rowsLeft, row-most, total-most}
+use Rattle.rules.proofs.restart.Advance.{Advances, some-left, advance-at, left-zero}
+
+-- A story goes on from its line, and its numbers from those that it has.
+story-line : (fs : List (List ℕ)) (s : Story) → storyFrom s fs .line ≡ storyFrom (startOf (s .line)) fs .line
+unfolding told
+story-line [] s = refl
+story-line (f ∷ fs) s = story-line fs (told s f) ∙ sym (story-line fs (told (startOf (s .line)) f))
+
+story-numbers : (fs : List (List ℕ)) (s : Story) → storyFrom s fs .numbers ≡ s .numbers ++ storyFrom (startOf (s .line)) fs .numbers
+unfolding told
+story-numbers [] s = sym (nil-right (s .numbers))
+story-numbers (f ∷ fs) s =
+    let a = step (s .line) f in
+    let rest = storyFrom (startOf (a .line)) fs .numbers in
+    story-numbers fs (told s f) ∙ append-assoc (s .numbers) (a .number ∷ []) rest ∙ ap (λ (ns : List ℕ). s .numbers ++ ns) (sym (story-numbers fs (told (startOf (s .line)) f)))
+
+-- At most j steps on the channels that enter node n bring it up.
+record Brought (j : ℕ) (l : Line) (n : ℕ) : Type 0 where
+  frames : List (List ℕ)
+  few : length frames ≤ j
+  shape : OnEntering (l .plan) n frames
+  all-zero : storyFrom (startOf l) frames .numbers ≡ replicate (length frames) 0
+  back : nodeAt (storyFrom (startOf l) frames .line) n .status ≡ up
+
+brought-none : (j : ℕ) (l : Line) (n : ℕ) → nodeAt l n .status ≡ up → Brought j l n
+brought-none j l n e = record { frames = []; few = omega arith; shape = no-more; all-zero = refl; back = e }
+
+-- An accepted frame, and then others.
+module _ (l : Line) (f : List ℕ) (z : refusal l f ≡ 0) where
+  zero-then : (fs : List (List ℕ)) → storyFrom (startOf (step l f .line)) fs .numbers ≡ replicate (length fs) 0 → storyFrom (startOf l) (f ∷ fs) .numbers ≡ replicate (suc (length fs)) 0
+  unfolding told
+  zero-then fs e =
+      story-numbers fs (told (startOf l) f) ∙ ap (λ (k : ℕ). k ∷ storyFrom (startOf (step l f .line)) fs .numbers) (step-accepted l f z .0) ∙ ap (λ (ns : List ℕ). 0 ∷ ns) e
+
+  line-then : (fs : List (List ℕ)) → storyFrom (startOf l) (f ∷ fs) .line ≡ storyFrom (startOf (step l f .line)) fs .line
+  unfolding told
+  line-then fs = story-line fs (told (startOf l) f)
+
+  brought-then : {j n : ℕ} → ((frames : List (List ℕ)) → OnEntering (l .plan) n frames → OnEntering (l .plan) n (f ∷ frames)) → Brought j (step l f .line) n → Brought (suc j) l n
+  brought-then {j} {n} shape b =
+      record {
+        frames = f ∷ b .frames;
+        few = omega (arith, b .few);
+        shape = shape (b .frames) (subst (λ (p : Plan). OnEntering p n (b .frames)) (step-plan l f) (b .shape));
+        all-zero = zero-then (b .frames) (b .all-zero);
+        back = ap (λ (k : Line). nodeAt k n .status) (line-then (b .frames)) ∙ b .back;
+      }
+
+-- A replaying node has a row that is not complete, so something is left, and it can go on.
+module _ (l : Line) (known : Known l) (n : ℕ) (again : nodeAt l n .status ≡ replay) where
+  open-one : (b : ℕ) × In b (entering (l .plan) n) × (rowComplete l n b ≡ false)
+  unfolding rowsComplete
+  open-one = not-all (rowComplete l n) (entering (l .plan) n) (known .steady .open-rows n again)
+
+  abbrev b : ℕ
+  b = open-one .0
+
+  inside : b < channelCount (l .plan)
+  inside = entering-in (l .plan) n b (open-one .1) .0
+
+  into : receiverOf l b ≡ n
+  into = entering-in (l .plan) n b (open-one .1) .1
+
+  replays-there : nodeAt l (receiverOf l b) .status ≡ replay
+  replays-there = ap (λ (x : ℕ). nodeAt l x .status) into ∙ again
+
+  open-there : rowComplete l (receiverOf l b) b ≡ false
+  open-there = ap (λ (x : ℕ). rowComplete l x b) into ∙ open-one .2
+
+  left-over : 0 < rowsLeft l n
+  left-over = subst (λ (x : ℕ). 0 < rowsLeft l x) into (some-left l known b inside replays-there open-there)
+
+  advance : l .steps < stepLimit → Advances l n
+  advance left = subst (Advances l) into (advance-at l known b inside replays-there open-there left)
+
+bring : (j : ℕ) (l : Line) → Known l → (n : ℕ) → nodeAt l n .status ≡ replay → rowsLeft l n ≤ j → l .steps + j ≤ stepLimit → Brought j l n
+bring zero l known n again few left = let no : ⊥ = omega (arith, left-over l known n again) in absurd no
+bring (suc j) l known n again few left =
+    let a = advance l known n again (omega arith) in
+    let next = step l (a .frame) .line in
+    brought-then l (a .frame) (a .accepted) (λ frames s. a .shape s)
+    (elim (a .after) [
+      | inl e ↦ brought-none j next n e
+      | inr (e, less, steps) ↦ bring j next (known-step l (a .frame) known) n e (omega arith) (omega arith)
+    ])
+
+-- At most 64 Sends and 64 Takes a row, four rows.
+bring-all : (l : Line) → Known l → (n : ℕ) → nodeAt l n .status ≡ replay → l .steps + 512 ≤ stepLimit → Brought 512 l n
+bring-all l known n again left =
+    bring 512 l known n again
+    (total-most _ 4 (entering (l .plan) n) (λ b i. row-most l 0 (known .steady .limits) n b) (known .rows n (not-up-inside (known .inv .shape) n (λ z. up-not-replay (sym z ∙ again))))) left
+
+-- A node that is down is recovered first.
+module _ (l : Line) (known : Known l) (n : ℕ) (gone : nodeAt l n .status ≡ down) (left : l .steps + restartSteps ≤ stepLimit) where
+  recover-accepted : refusal l (recoverFrame n) ≡ 0
+  recover-accepted = recovers l known n gone ∙ left-zero l (omega arith)
+
+  abbrev next : Line
+  next = step l (recoverFrame n) .line
+
+  next-is : next ≡ counted (recovered n l)
+  next-is =
+      let u = recover-unrefused l known n gone in
+      step-accepted l (recoverFrame n) recover-accepted .1 ∙ ap (λ (f : Frame). accepted l (effect l f)) (recover-is n)
+      ∙ ap (accepted l) (recover-goes l known n (may-recover l n (u .is-there) (u .right-node) (u .right-status)))
+
+  next-status : nodeAt next n .status ≡ statusOf (targetsOf l n)
+  unfolding counted
+  next-status =
+      let inv = known .inv in
+      ap (λ (k : Line). nodeAt k n .status) (next-is ∙ ap counted (recovered-is l n (inv .ordered) (inv .shape))) ∙ ap (λ (x : Node). x .status) (restored-node l n (inv .ordered) (inv .shape) (not-up-inside (known .inv .shape) n (λ z. up-not-down (sym z ∙ gone))))
+
+  next-steps : next .steps ≡ suc (l .steps)
+  unfolding counted
+  next-steps = ap (λ (k : Line). k .steps) (next-is ∙ ap counted (recovered-is l n (known .inv .ordered) (known .inv .shape)))
+
+  brought-after : Brought 512 next n
+  brought-after = go (targetsOf l n) refl
+    where
+      go : (ts : List Target) → targetsOf l n ≡ ts → Brought 512 next n
+      go [] q = brought-none 512 next n (next-status ∙ ap statusOf q)
+      go (t ∷ ts) q = bring-all next (known-step l (recoverFrame n) known) n (next-status ∙ ap statusOf q) (omega (arith, next-steps))
+
+  recovered-back : ComesBack l n
+  recovered-back =
+      let b = brought-after in
+      record {
+        frames = recoverFrame n ∷ b .frames;
+        few = omega (arith, b .few);
+        shape = subst (λ (s : Status). Restarting (l .plan) n s (recoverFrame n ∷ b .frames)) (sym gone) (b .frames, refl, subst (λ (p : Plan). OnEntering p n (b .frames)) (step-plan l (recoverFrame n)) (b .shape));
+        accepted = zero-then l (recoverFrame n) recover-accepted (b .frames) (b .all-zero);
+        back = ap (λ (k : Line). nodeAt k n .status) (line-then l (recoverFrame n) recover-accepted (b .frames)) ∙ b .back;
+      }
+
+pub comes-back : (l : Line) → Known l → (n : ℕ) → l .steps + restartSteps ≤ stepLimit → ComesBack l n
+comes-back l known n left = go (nodeAt l n .status) refl
+  where
+    brought : {j : ℕ} (s : Status) → nodeAt l n .status ≡ s → ((fs : List (List ℕ)) → OnEntering (l .plan) n fs → Restarting (l .plan) n s fs) → j ≤ restartSteps → Brought j l n → ComesBack l n
+    brought s q shape h b = record { frames = b .frames; few = omega (arith, b .few); shape = subst (λ (t : Status). Restarting (l .plan) n t (b .frames)) (sym q) (shape (b .frames) (b .shape)); accepted = b .all-zero; back = b .back }
+
+    go : (s : Status) → nodeAt l n .status ≡ s → ComesBack l n
+    go up q = brought up q (λ fs s. s) (omega arith) (brought-none 0 l n q)
+    go down q = recovered-back l known n q left
+    go replay q = brought replay q (λ fs s. s) (omega arith) (bring-all l known n q (omega arith))
