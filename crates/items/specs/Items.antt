@@ -10,7 +10,7 @@ use Rattle.plan.specs.Record.{materialFits}
 use Rattle.plan.specs.Plan.{Plan, nodeCount, channelCount, channelAt, entering, isSource}
 use Rattle.plan.specs.Check.{planFits}
 use Rattle.rules.specs.Lists.{isEmpty, allOf}
-use Rattle.rules.specs.Line.{logLimit, queueLimit, heldLimit, targetLimit, stepLimit, Origin, fed, made, Message, Entry, Held, Target, Node, Lane, Line, nodeAt, laneAt, nodeNumbers, channelNumbersOf, senderOf, parents}
+use Rattle.rules.specs.Line.{logLimit, queueLimit, heldLimit, targetLimit, stepLimit, Origin, fed, made, Message, Entry, Held, Target, Node, Lane, Line, nodeAt, laneAt, nodeNumbers, channelNumbersOf, senderOf, parents, acceptedSteps}
 use Rattle.rules.specs.Recover.{lowOf, restored, targetsOf, conflict, rowGoal}
 use Rattle.rules.specs.Replay.{passedOn}
 use Rattle.rules.specs.Step.{endDown, replaying}
@@ -39,7 +39,7 @@ recordRight r = materialFits (r .material) && ltb (r .piece) (2 ^ 32) && ltb (r 
 unfoldable pub namedRight : Line → ℕ → Origin → Bool
 unfolding entering isSource
 namedRight l s fed = isSource (l .plan) s
-namedRight l s (made q u) = timeRight (l .steps) u && ifFound (fromSender (l .plan) q (entering (l .plan) s)) (λ (b : ℕ). true)
+namedRight l s (made q u) = timeRight (acceptedSteps l) u && ifFound (fromSender (l .plan) q (entering (l .plan) s)) (λ (b : ℕ). true)
 
 -- The same of an input that came on channel b from node s: it does not pass what was heard there. A clock's entries are within the steps by the channel's own test, so a time that does not pass them is not held against the steps again.
 unfoldable pub beforeRight : Line → ℕ → ℕ → Origin → Bool
@@ -77,7 +77,7 @@ noneHeld = replicate 12 0
 
 unfoldable pub targetRight : Line → ℕ → Target → Bool
 unfolding entering
-targetRight l n t = leb (t .time) (l .steps) && leb (t .parentTime) (l .steps) && ifFound (fromSender (l .plan) (t .parent) (entering (l .plan) n)) (λ (b : ℕ). true)
+targetRight l n t = leb (t .time) (acceptedSteps l) && leb (t .parentTime) (acceptedSteps l) && ifFound (fromSender (l .plan) (t .parent) (entering (l .plan) n)) (λ (b : ℕ). true)
 
 -- A node's counts, and its status by what it holds and where it stands.
 unfoldable pub countsRight : Node → Bool
@@ -111,7 +111,7 @@ unfoldable pub nodePlain : Line → ℕ → Bool
 unfolding countsRight logRight heldAllRight targetRight statusRight
 nodePlain l n =
     let x = nodeAt l n in
-    countsRight x && leb (x .time) (l .steps) && logRight l n (x .log) && heldAllRight l n (x .held) && allOf (targetRight l n) (x .targets) && statusRight (l .plan) n x
+    countsRight x && leb (x .time) (acceptedSteps l) && logRight l n (x .log) && heldAllRight l n (x .held) && allOf (targetRight l n) (x .targets) && statusRight (l .plan) n x
 
 unfoldable pub replayAsked : Line → ℕ → Bool
 unfolding replayRight
@@ -137,7 +137,7 @@ unfoldable pub channelRight : Line → ℕ → Bool
 unfolding clockRight queueRight marksJoined channelHolds
 channelRight l b =
     let s = laneAt l b in
-    clockRight (l .steps) s && queueRight l b (s .queue) && not (marksJoined l b) && not (channelHolds l b)
+    clockRight (acceptedSteps l) s && queueRight l b (s .queue) && not (marksJoined l b) && not (channelHolds l b)
 
 -- The line.
 unfoldable pub shapeRight : Line → Bool

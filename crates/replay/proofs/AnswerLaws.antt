@@ -16,7 +16,7 @@ use Rattle.rules.specs.Recover.{rowGoal, rowComplete}
 use Rattle.rules.specs.Replay.{passedOn, entryAt, replayEnd}
 use Rattle.rules.specs.Step.{noStepsLeft, endDown, replaying, isNothing, effect, lineRefusal}
 use Rattle.rules.specs.Damaged.{isParent}
-use Rattle.rules.proofs.lists.Members.{in-map, map-in, in-right, any-in}
+use Rattle.rules.proofs.lists.Members.{in-map, map-in, in-right, any-in, in-at}
 use Rattle.rules.proofs.line.Joins.{entering-in}
 use Rattle.rules.proofs.steps.PlanOrder.{ordered-channels}
 use Rattle.rules.proofs.undamaged.Standing.{Empties, Sound}
@@ -28,7 +28,6 @@ use Rattle.buffer.specs.Nothing.{noHeld, noMessage}
 use Rattle.buffer.specs.Holds.{Holds, Undamaged, Did}
 use Rattle.buffer.proofs.HoldsLaws.{holds-channels}
 use Rattle.passing.proofs.RefusalLaws.{refused, accepted}
-use Rattle.replay_items.proofs.ItemLaws.{in-at}
 use Rattle.replay_table.specs.Ends.{heldWith, loggedFrom, Ends}
 use Rattle.replay.specs.After.{rowsAfter, wouldHold, First, takenNow, heldMore, endedNode, Loggable}
 use Rattle.replay.proofs.TakeLaws.{inside, as-in, goes-on, comes-up, ended-is, number-is}

@@ -23,7 +23,7 @@ use Rattle.rules.specs.Lists.{keep, keepOne, anyOf, greatestOf}
 use Rattle.rules.specs.Line.{Held, Target, nodeAt, laneAt}
 use Rattle.rules.specs.Recover.{clash, conflict}
 use Rattle.rules.specs.Replay.{fixedAt, floorOf}
-use Rattle.rules.proofs.lists.Members.{In, here, there, none-any}
+use Rattle.rules.proofs.lists.Members.{In, in-at, none-any}
 use Rattle.rules.proofs.line.Joins.{taking-in}
 use Rattle.buffer.proofs.MaskWalk.{Left, Next, next, left-none}
 use Rattle.state.specs.State.{lineOf}
@@ -79,11 +79,6 @@ fixed-cons h t ts b e = ap (λ (x : Bool). greatestOf (map (λ (u : Target). u .
 not-true-false : (b : Bool) → (b ≡ true → ⊥) → b ≡ false
 not-true-false true d = absurd (d refl)
 not-true-false false d = refl
-
-pub in-at : {A : Type 0} (xs : List A) (i : ℕ) (d : A) → i < length xs → In (getD xs i d) xs
-in-at [] i d h = let no : ⊥ = omega arith in absurd no
-in-at (x ∷ xs) zero d h = here
-in-at (x ∷ xs) (suc i) d h = there (in-at xs i d (omega arith))
 
 -- No target is the record: it is free.
 pub fixed-none : (ts : List Target) (h : Held) → ((j : ℕ) → j < length ts → isTarget h (getD ts j noTarget) ≡ false) → fixedAt ts h ≡ 0

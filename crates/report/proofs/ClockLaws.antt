@@ -18,7 +18,7 @@ use Rattle.plan.proofs.FitsLaws.{fitting}
 use Rattle.plan.proofs.PlanLaws.{node-count, channel-count}
 use Rattle.rules.specs.Line.{Line, nodeAt, laneAt, senderOf}
 use Rattle.rules.specs.Sheet.{spaced, bracketed, nodeAndTime, listed, clockText}
-use Rattle.rules.proofs.lists.Members.{In, here, there}
+use Rattle.rules.proofs.lists.Members.{in-drop}
 use Rattle.rules.proofs.line.Joins.{entering-in}
 use Rattle.state.specs.State.{lineOf}
 use Rattle.state.proofs.InPlace.{line-plan}
@@ -50,11 +50,6 @@ rising-drop : (k i : ℕ) (bs : List ℕ) → Rising k bs → Rising k (drop i b
 rising-drop k zero bs r = r
 rising-drop k (suc i) [] r = tt
 rising-drop k (suc i) (b ∷ bs) r = rising-drop k i bs (rising-lower k (suc b) bs (omega (arith, r .0)) (r .1))
-
-in-drop : (i b : ℕ) (bs : List ℕ) → In b (drop i bs) → In b bs
-in-drop zero b bs x = x
-in-drop (suc i) b [] x = x
-in-drop (suc i) b (c ∷ bs) x = there (in-drop i b bs x)
 
 -- The first of them is the one at that place.
 first-there : {b : ℕ} {rest : List ℕ} (place : ℕ) (bs : List ℕ) → drop place bs ≡ b ∷ rest → (place < length bs) × (b ≡ getD bs place 0) × (rest ≡ drop (suc place) bs)
@@ -94,7 +89,7 @@ module _ (s : List ℕ) (n : ℕ) (ready : Ready s) where
         rise = rising-drop 0 place those (entering-rise (planOf s) n);
         is = e;
         small = small;
-        inside = λ b x. omega (arith, entering-in (planOf s) n b (in-drop place b those x) .0, channel-count s);
+        inside = λ b x. omega (arith, entering-in (planOf s) n b (in-drop place those x) .0, channel-count s);
       }
 
   pub next-channel : (left place b : ℕ) → left ≡ maskOf (drop place (entering (planOf s) n)) → left < 2 ^ 32 → left ≢ 0 → FirstOf left b → Next (planChannels s) left b (drop place (entering (planOf s) n))

@@ -15,7 +15,7 @@ use Rattle.rules.specs.Line.{targetLimit, made, Target, Status, down, Node, Lin
 use Rattle.rules.specs.Frame.{recover}
 use Rattle.rules.specs.Recover.{lowOf, restored, targetsOf, statusOf, recovered}
 use Rattle.rules.specs.Step.{isNothing, nodeDown, effect, noStepsLeft, lineRefusal}
-use Rattle.rules.proofs.lists.Members.{In, here, there}
+use Rattle.rules.proofs.lists.Members.{In, here, there, in-at}
 use Rattle.rules.proofs.ending.Targets.{triples-at-in, targets-from}
 use Rattle.rules.proofs.invariant.Inv.{Enters}
 use Rattle.rules.proofs.invariant.InvLaws.{up-not-down}
@@ -48,11 +48,6 @@ some-targets xs (suc k) d = refl
 each-in : {A : Type 0} (P : A → Type 0) {x : A} {xs : List A} → Each P xs → In x xs → P x
 each-in P e here = e .0
 each-in P e (there i) = each-in P (e .1) i
-
-in-at : {A : Type 0} (xs : List A) (i : ℕ) (d : A) → i < length xs → In (getD xs i d) xs
-in-at [] i d h = let no : ⊥ = omega arith in absurd no
-in-at (x ∷ xs) zero d h = here
-in-at (x ∷ xs) (suc i) d h = there (in-at xs i d (omega arith))
 
 all-zero : (xs : List ℕ) → ((t : ℕ) → In t xs → t ≡ 0) → xs ≡ replicate (length xs) 0
 all-zero [] f = refl

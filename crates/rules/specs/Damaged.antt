@@ -10,7 +10,7 @@ use Rattle.plan.specs.Record.{materialFits}
 use Rattle.plan.specs.Plan.{Plan, nodeCount, channelCount, channelAt, entering, isSource, isSink}
 use Rattle.plan.specs.Check.{planFits}
 use Rattle.rules.specs.Lists.{isEmpty, allOf, anyOf, joined}
-use Rattle.rules.specs.Line.{logLimit, queueLimit, heldLimit, targetLimit, stepLimit, Origin, fed, made, Message, Entry, Held, Target, Status, up, down, replay, Node, Lane, Line, nodeAt, laneAt, nodeNumbers, channelNumbersOf, senderOf, receiverOf, parents, isUp, isReplay}
+use Rattle.rules.specs.Line.{logLimit, queueLimit, heldLimit, targetLimit, stepLimit, Origin, fed, made, Message, Entry, Held, Target, Status, up, down, replay, Node, Lane, Line, nodeAt, laneAt, nodeNumbers, channelNumbersOf, senderOf, receiverOf, parents, isUp, isReplay, acceptedSteps}
 use Rattle.rules.specs.Recover.{sameTarget}
 use Rattle.rules.specs.Replay.{passedOn, entryAt, heldByRow}
 use Rattle.rules.specs.Step.{endDown, nodeDown, replaying, recoverGives}
@@ -223,14 +223,14 @@ unfoldable pub nodeDamaged : Line → ℕ → Bool
 unfolding nodePastLimits nodeWrongParent nodeTimePast nodeTimeZero nodeMakerWrong logWrong pastClock heldWrong heldNotPassed markMissing markOnEnd replayWrong nodeHolds
 nodeDamaged l n =
     let x = nodeAt l n in
-    nodePastLimits x || nodeWrongParent (l .plan) n x || nodeTimePast (l .steps) x || nodeTimeZero x || nodeMakerWrong (l .plan) n x || logWrong x || pastClock l n
+    nodePastLimits x || nodeWrongParent (l .plan) n x || nodeTimePast (acceptedSteps l) x || nodeTimeZero x || nodeMakerWrong (l .plan) n x || logWrong x || pastClock l n
     || heldWrong l n || heldNotPassed (l .plan) n x || markMissing x || markOnEnd (l .plan) n x || replayWrong l n || nodeHolds x
 
 unfoldable pub channelDamaged : Line → ℕ → Bool
 unfolding channelPastLimits channelWrongParent channelTimePast channelTimeZero channelMakerWrong queueWrong marksJoined channelHolds
 channelDamaged l b =
     let s = laneAt l b in
-    channelPastLimits s || channelWrongParent (l .plan) b s || channelTimePast (l .steps) s || channelTimeZero s || channelMakerWrong (l .plan) b s
+    channelPastLimits s || channelWrongParent (l .plan) b s || channelTimePast (acceptedSteps l) s || channelTimeZero s || channelMakerWrong (l .plan) b s
     || queueWrong l b || marksJoined l b || channelHolds l b
 
 -- Any of them.

@@ -6,7 +6,7 @@ use mathlib.Core.List.{List, [], _∷_, _++_, map}
 use Rattle.plan.specs.declared.Record.{Record}
 use Rattle.plan.specs.declared.Rule.the-variants.{Keep}
 use Rattle.plan.specs.declared.Channel.{Channel}
-use Rattle.rules.specs.Line.{Origin, fed, made, Message, Entry, Held, Target, Status, replay, Node, Lane, Line, freshNode, noLane, nodeAt, laneAt, withNode, withLane, initialLine}
+use Rattle.rules.specs.Line.{Origin, fed, made, Message, Entry, Held, Target, Status, replay, Node, Lane, Line, freshNode, noLane, nodeAt, laneAt, withNode, withLane, initialLine, acceptedSteps}
 use Rattle.rules.specs.Lists.{isEmpty, joined, upTo}
 use Rattle.rules.specs.Claim.{Story, startOf, storyFrom, told}
 use Rattle.rules.specs.Marked.{channel, feedFrame, frame, moved as twoSteps, replayPlan, replayBegun, replayEnded}
@@ -35,7 +35,7 @@ met l =
     ∷ stepsPast l
     ∷ atNode l (λ n x. nodePastLimits x)
     ∷ atNode l (nodeWrongParent p)
-    ∷ atNode l (λ n x. nodeTimePast (l .steps) x)
+    ∷ atNode l (λ n x. nodeTimePast (acceptedSteps l) x)
     ∷ atNode l (λ n x. nodeTimeZero x)
     ∷ atNode l (nodeMakerWrong p)
     ∷ atNode l (λ n x. logWrong x)
@@ -48,7 +48,7 @@ met l =
     ∷ atNode l (λ n x. nodeHolds x)
     ∷ atChannel l (λ b s. channelPastLimits s)
     ∷ atChannel l (channelWrongParent p)
-    ∷ atChannel l (λ b s. channelTimePast (l .steps) s)
+    ∷ atChannel l (λ b s. channelTimePast (acceptedSteps l) s)
     ∷ atChannel l (λ b s. channelTimeZero s)
     ∷ atChannel l (channelMakerWrong p)
     ∷ someChannel l (queueWrong l)

@@ -79,6 +79,10 @@ pub record Line : Type 0 where
   pub nodes : List Node
   pub lanes : List Lane
 
+-- The steps accepted so far: no time in an undamaged line exceeds them.
+abbrev pub acceptedSteps : Line → ℕ
+acceptedSteps l = l .steps
+
 -- "A node has a time (0 at first)": a node that is up and has done nothing.
 abbrev pub freshNode : Node
 freshNode = record { status = up; crashed = false; time = 0; log = []; held = []; targets = [] }

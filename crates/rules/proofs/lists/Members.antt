@@ -7,6 +7,7 @@ use mathlib.Core.List.{List, [], _∷_, _++_, map}
 use native.Mathlib.Omega.{arith}
 use native.Mathlib.Decide.{decLe, ℕ-discrete}
 use lib.Dec.{leb}
+use lib.ListN.{length, getD, drop}
 use borrow.Author.Tests.{le-leb}
 use Rattle.basics.specs.Bools.{both-true, neither-true}
 use Rattle.rules.specs.Lists.{keep, keepOne, isEmpty, allOf, anyOf, joined, greatestOf, leastOf, upTo}
@@ -22,6 +23,17 @@ in-none = elim [ ]
 pub in-first : {A : Type 0} {x y : A} {xs : List A} → In x (y ∷ xs) → (x ≡ y) ⊎ In x xs
 in-first here = inl refl
 in-first (there i) = inr i
+
+-- What stands at a place, and behind one.
+pub in-at : {A : Type 0} (xs : List A) (i : ℕ) (d : A) → i < length xs → In (getD xs i d) xs
+in-at [] i d h = let no : ⊥ = omega arith in absurd no
+in-at (x ∷ xs) zero d h = here
+in-at (x ∷ xs) (suc i) d h = there (in-at xs i d (omega arith))
+
+pub in-drop : {A : Type 0} {x : A} (i : ℕ) (xs : List A) → In x (drop i xs) → In x xs
+in-drop zero xs h = h
+in-drop (suc i) [] h = h
+in-drop (suc i) (y ∷ xs) h = there (in-drop i xs h)
 
 -- A list with a member is not empty.
 pub in-some : {A : Type 0} {x : A} {xs : List A} → In x xs → isEmpty xs ≡ false
