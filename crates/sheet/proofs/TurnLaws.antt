@@ -1,7 +1,9 @@
 -- What a read, the opening and a turn leave, by their cases.
 use Prim.Native.Nat.{ℕ, _+_, _≤_}
 use mathlib.Core.Path.{_≡_, sym, subst}
-use mathlib.Core.List.{List}
+use mathlib.Core.List.{List, _++_}
+use lib.ListN.{length, take}
+use lib.Seq.{take-at, length-take-le}
 use Rattle.stream.specs.declared.Phase.{Phase}
 use Rattle.stream.specs.declared.Phase.the-variants.{Planning}
 use Rattle.stream.specs.declared.Reader.{Reader}
@@ -11,6 +13,10 @@ use Rattle.sheet.specs.declared.Got.the-variants.{Bytes}
 use Rattle.sheet.specs.declared.Next.{Next}
 use Rattle.sheet.specs.declared.Next.the-variants.{On}
 use Rattle.sheet.specs.Turned.{Within, Turned}
+
+-- What is read behind the first bytes leaves them.
+pub kept-front : (w : List ℕ) (have : ℕ) → have ≤ length w → (x : List ℕ) → take have (take have w ++ x) ≡ take have w
+kept-front w have h x = take-at (take have w) x have (length-take-le have w h)
 
 pub bytes-within : {g : Got} (n have : ℕ) → g ≡ Bytes n → Within g have → (1 ≤ n) × (have + n ≤ windowSize)
 bytes-within n have e h = subst (λ (g : Got). Within g have) e h

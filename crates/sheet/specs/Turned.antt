@@ -1,7 +1,8 @@
 -- What holds from one block of the input to the next.
 use Prim.Native.Nat.{ℕ, _+_, _≤_, _<_, _^_}
+use mathlib.Core.Path.{_≡_}
 use mathlib.Core.List.{List}
-use lib.ListN.{length}
+use lib.ListN.{take}
 use Rattle.stream.specs.declared.Reader.{Reader}
 use Rattle.stream.specs.Reader.{windowSize, Holding}
 use Rattle.sheet.specs.declared.Got.{Got}
@@ -14,6 +15,11 @@ abbrev pub Within : Got → ℕ → Type 0
 Within (Bytes n) have = (1 ≤ n) × (have + n ≤ windowSize)
 Within End have = Unit
 Within Failed have = Unit
+
+-- What a read leaves of the window w: the bytes that are kept.
+pub record ReadBehind (w : List ℕ) (have : ℕ) (window : List ℕ) (r : Got) : Type 0 where
+  pub kept : take have window ≡ take have w
+  pub within : Within r have
 
 -- What a block asks of the reader and the state holds, there is room for a byte, and no frame's number can pass the allowance of bytes.
 pub record Between (r : Reader) (left : ℕ) (state : List ℕ) : Type 0 where

@@ -3,7 +3,7 @@ ghost use mathlib.Core.Path.{_≡_};
 ghost use Prim.Native.Nat.{_≤_};
 ghost use lib.ListN.{length};
 ghost use Rattle.stream.specs.Reader.{windowSize};
-ghost use Rattle.sheet.specs.Turned.{Within, Between, Turned};
+ghost use Rattle.sheet.specs.Turned.{ReadBehind, Between, Turned};
 use buffer::Line;
 use libc::STDERR_FILENO;
 use libc::STDIN_FILENO;
@@ -29,10 +29,10 @@ pub enum Next {
     Stop,
 }
 
-// One read, behind the bytes that are kept.
+// One read, behind the bytes that are kept, which stay.
 fn read_behind(window: &mut [u8], have: usize) -> Got
     requires { ⌜ (have ≤ length (now window)) × (length (now window) ≡ windowSize) ⌝ }
-    ensures { λ r. ⌜ Within r have ⌝ }
+    ensures { λ r. ⌜ ReadBehind (now (window .entry)) have (now (window .exit)) r ⌝ }
 {
     let got = libc::read(STDIN_FILENO, &mut window[have..]);
     if got < 0 {

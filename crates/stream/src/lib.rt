@@ -96,8 +96,8 @@ fn frame_end(
     if done.at == end {
         return report::line_text(state, out, done.wrote);
     }
-    let nodes = report::answer_line(out, done.wrote, done.count, 9);
-    report::line_text(state, out, nodes)
+    let behind_cut = report::answer_line(out, done.wrote, done.count, 9);
+    report::line_text(state, out, behind_cut)
 }
 
 // The plan, once it is whole, and the frames behind it.

@@ -9,7 +9,7 @@ take-block-requires c κs =
     let got = c .before .before .before .before in
     let read = got .before .before in
     let start = read .before .before in
-    let within = bytes-within (got .got .given .0 .0) (start .args .reader .have) (got .got .given .1) (read .read-behind .ensures) in
+    let within = bytes-within (got .got .given .0 .0) (start .args .reader .have) (got .got .given .1) (read .read-behind .ensures .within) in
     record { holding = start .pre .0 .holding; room = within .1; few = omega (arith, start .pre .0 .few) }
 
 sub-left : tie.Need-sub-t24
@@ -17,7 +17,7 @@ sub-left c =
     let got = c .before .before .before .before .before .before .before .before .before .before in
     let read = got .before .before in
     let start = read .before .before in
-    omega (arith, bytes-within (got .got .given .0 .0) (start .args .reader .have) (got .got .given .1) (read .read-behind .ensures), start .pre .1)
+    omega (arith, bytes-within (got .got .given .0 .0) (start .args .reader .have) (got .got .given .1) (read .read-behind .ensures .within), start .pre .1)
 
 returns : tie.Need-returns
 returns c =
@@ -25,7 +25,7 @@ returns c =
     let got = block .before .before .before .before .before in
     let read = got .before .before in
     let start = read .before .before in
-    let within = bytes-within (got .got .given .0 .0) (start .args .reader .have) (got .got .given .1) (read .read-behind .ensures) in
+    let within = bytes-within (got .got .given .0 .0) (start .args .reader .have) (got .got .given .1) (read .read-behind .ensures .within) in
     let g = block .take-block .ensures in
     (record { holding = g .holding; room = g .room; few = omega (arith, within, g .counted, start .pre) }, omega (arith, within, start .pre .1))
 
