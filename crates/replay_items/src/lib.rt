@@ -43,6 +43,12 @@ pub struct Ending {
     pub last: Waiting,
 }
 
+// How many items there are, and where the next target is looked for.
+pub struct Gathered {
+    pub count: usize,
+    pub hint: usize,
+}
+
 // ---- a held record
 
 fn held_at(s: &[u8], e: Ending, i: usize) -> Waiting
@@ -113,19 +119,18 @@ fn time_at(s: &[u8], e: Ending, i: usize) -> u32
     0
 }
 
-// "A target is fixed at its B-time": 0 for a free record. No two targets are one record; it is looked for from a place on first, since rows often come again as they came before.
-fn fixed_of(s: &[u8], e: Ending, goals: &[u32; 128], h: Waiting, hint: usize) -> u32
+// Which target a held record is, else how many there are. No two targets are one record; it is looked for from a place on first, since a row's records come again in the order of their targets.
+fn place_of(s: &[u8], e: Ending, goals: &[u32; 128], h: Waiting, hint: usize) -> usize
     requires { ⌜ Asked (now s) e × Listed (now goals) (goalSpots (now s) e) ⌝ }
-    ensures { λ r. ⌜ r ≡ fixedAt (nodeAt (lineOf (now (s .entry))) (e .node) .targets) (heldIs h) ⌝ }
+    ensures { λ r. ⌜ getD (nodeAt (lineOf (now (s .entry))) (e .node) .targets) r noTarget .time ≡ fixedAt (nodeAt (lineOf (now (s .entry))) (e .node) .targets) (heldIs h) ⌝ }
 {
     if hint < e.targets {
         let near = seek(goals, e.targets, h.sender as u32, h.time, hint);
         if near < e.targets {
-            return time_at(s, e, near);
+            return near;
         }
     }
-    let at = seek(goals, e.targets, h.sender as u32, h.time, 0);
-    time_at(s, e, at)
+    seek(goals, e.targets, h.sender as u32, h.time, 0)
 }
 
 // "A free record's floor is the greatest entry for B among children whose belts take it."
@@ -167,7 +172,7 @@ fn floor_with(s: &[u8], e: Ending, h: Waiting, fixed: u32) -> u32
     floor_of(s, e.node, e.leaving, h.what)
 }
 
-// Held record i behind k items, if it is of the parent's row: how many there are then.
+// Held record i behind k items, if it is of the parent's row: how many there are then, and where the row's next target is looked for.
 fn gather_one(
     s: &[u8],
     e: Ending,
@@ -177,18 +182,27 @@ fn gather_one(
     row: u32,
     t: &mut [u32],
     k: usize,
-) -> usize
+    hint: usize,
+) -> Gathered
     requires { ⌜ Asked (now s) e × Listed (now goals) (goalSpots (now s) e) × (i < e .held) × (length (now t) ≡ tableLong) × (eqb (getD (heldBy (now s) e) i noHeld .sender) parent ≡ true → k < 64) ⌝ }
-    ensures { λ r. ⌜ Filled (lineOf (now (s .entry))) (e .node) (heldBy (now (s .entry)) e) (now (t .entry)) k (oneSlot (heldBy (now (s .entry)) e) parent row i) (now (t .exit)) r ⌝ }
+    ensures { λ r. ⌜ Filled (lineOf (now (s .entry))) (e .node) (heldBy (now (s .entry)) e) (now (t .entry)) k (oneSlot (heldBy (now (s .entry)) e) parent row i) (now (t .exit)) (r .count) ⌝ }
 {
     let h = held_at(s, e, i);
     if look::index(h.sender) != parent {
-        return k;
+        return Gathered {
+            count: k,
+            hint: hint,
+        };
     }
-    let fixed = fixed_of(s, e, goals, h, i);
+    // "A target is fixed at its B-time": 0 for a free record.
+    let at = place_of(s, e, goals, h, hint);
+    let fixed = time_at(s, e, at);
     let floor = floor_with(s, e, h, fixed);
     push(t, k, row, h.time, fixed, floor, i as u32);
-    k + 1
+    Gathered {
+        count: k + 1,
+        hint: at,
+    }
 }
 
 // A parent's row behind the items that there are.
@@ -205,9 +219,12 @@ fn gather_row(
     ensures { λ r. ⌜ Filled (lineOf (now (s .entry))) (e .node) (heldBy (now (s .entry)) e) (now (t .entry)) start (rowSlots (heldBy (now (s .entry)) e) parent row) (now (t .exit)) r ⌝ }
 {
     let mut k = start;
+    let mut hint: usize = 0;
     let mut i: usize = 0;
     while i < e.held {
-        k = gather_one(s, e, goals, i, parent, row, t, k);
+        let g = gather_one(s, e, goals, i, parent, row, t, k, hint);
+        k = g.count;
+        hint = g.hint;
         i += 1;
     }
     k

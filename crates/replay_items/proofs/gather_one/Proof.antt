@@ -20,7 +20,7 @@ returns c =
 
 push-requires : tie.Need-push-requires
 push-requires c κs =
-    let asked = c .before .before .before in
+    let asked = c .before .before .before .before in
     let read = asked .before .before in
     let first = read .before .before .before in
     let a = first .args in
@@ -28,9 +28,9 @@ push-requires c κs =
     (sym (asked .before .index .ensures .0) ∙ asked .if1 .left) in
     (first .pre .3, first .pre .4 own)
 
-add-result : tie.Need-add-result
-add-result c =
-    let asked = c .before .before .before .before .before .before in
+add-count : tie.Need-add-t14
+add-count c =
+    let asked = c .before .before .before .before .before .before .before in
     let read = asked .before .before in
     let first = read .before .before .before in
     let a = first .args in
@@ -41,7 +41,8 @@ add-result c =
 returns-2 : tie.Need-returns-2
 returns-2 c =
     let told = c .before .before .before .before in
-    let asked = told .before .before in
+    let timed = told .before in
+    let asked = timed .before .before in
     let read = asked .before .before in
     let first = read .before .before .before in
     let a = first .args in
@@ -49,9 +50,9 @@ returns-2 c =
     let own = sym (asked .before .index .ensures .0) ∙ asked .if1 .left in
     rw (c .before .before .push .ensures)
     (one-more (lineOf (a .s .now)) (a .e .node) (heldBy (a .s .now) (a .e)) (a .t .now) (a .k) (a .i) (a .parent) (a .row) h (read .held-at .ensures) (first .pre .3)
-    (told .before .fixed-of .result) (told .floor-with .result) (eq-eqb (h .sender) (a .parent) own)
+    (timed .time-at .result) (told .floor-with .result) (eq-eqb (h .sender) (a .parent) own)
     (first .pre .4 (one-own (lineOf (a .s .now)) (a .e .node) (heldBy (a .s .now) (a .e)) (a .t .now) (a .k) (a .i) (a .parent) (a .row) h (read .held-at .ensures) (first .pre .3) own))
-    (told .before .fixed-of .ensures) (told .floor-with .ensures))
+    (timed .time-at .ensures ∙ timed .before .place-of .ensures) (told .floor-with .ensures))
 
 pub gather-one-spec : {M : Type 1} → statement M
 gather-one-spec =
@@ -62,8 +63,9 @@ gather-one-spec =
     returns
     (λ c κs. search needs)
     (λ c κs. search needs)
+    (λ c κs. search needs)
     (λ c. search needs)
     push-requires
-    add-result
+    add-count
     (λ c. search needs)
     returns-2)

@@ -10,10 +10,10 @@ use Rattle.replay_items.proofs.gather_row.Statement.{statement}
 use Rattle.replay_items.proofs.gather_row.Tie as tie
 
 abbrev Inv-loop : tie.InvT-loop
-Inv-loop s e goals parent row t₀ start k₀ i₀ t k i = RowTo (lineOf s) (e .node) (heldBy s e) parent row t₀ start t k i
+Inv-loop s e goals parent row t₀ start k₀ hint₀ i₀ t k hint i = RowTo (lineOf s) (e .node) (heldBy s e) parent row t₀ start t k i
 
 abbrev μ-loop : tie.MeasureT-loop
-μ-loop s e goals parent row t₀ start k₀ i₀ t k i = e .held - i
+μ-loop s e goals parent row t₀ start k₀ hint₀ i₀ t k hint i = e .held - i
 
 loop-holds : tie.Need-loop-holds Inv-loop μ-loop
 loop-holds c =
@@ -39,7 +39,7 @@ loop-again c =
     let a = first .args in
     let hs = heldBy (a .s .now) (a .e) in
     let l : t .i < length hs = omega (arith, turn .if1 .taken, held-long (a .s .now) (a .e) (first .pre .0)) in
-    row-turn (lineOf (a .s .now)) (a .e .node) hs (a .parent) (a .row) (a .t .now) (a .start) (t .t) (t .k) (t .i) (t .inv) l (done .last .1 .1 .1 .1 .1 .1 .0) (done .result) (done .ensures)
+    row-turn (lineOf (a .s .now)) (a .e .node) hs (a .parent) (a .row) (a .t .now) (a .start) (t .t) (t .k) (t .i) (t .inv) l (done .last .1 .1 .1 .1 .1 .1 .0) (done .result .count) (done .ensures)
 
 returns : tie.Need-returns Inv-loop μ-loop
 returns c =
