@@ -46,7 +46,7 @@ wrote-behind {a} {b} {o} {at} {x} {t} {p} {y} {u} {q} most v w h =
 -- ---- working
 
 before-before : (x y : List ℕ) (t : Told) → before x (before y t) ≡ before (x ++ y) t
-before-before x y t = λ i. record { text = sym (append-assoc x y (t .text)) i; next = t .next }
+before-before x y t = λ i. record { text = sym (append-assoc x y (t .text)) i; next = t .next; line = t .line }
 
 module _ (s w : List ℕ) (from end k : ℕ) (o : List ℕ) (can : Workable s w from end k o) where
   pub going-start : Going s w from end k o s o from k 0

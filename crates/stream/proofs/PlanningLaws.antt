@@ -3,6 +3,7 @@ use Prim.Native.Nat.{ℕ, _+_, _-_, _≤_, _<_}
 use mathlib.Core.Path.{_≡_, refl, sym, ap, subst, _∙_}
 use mathlib.Core.Logic.{_≢_, _⊎_, inl, inr}
 use mathlib.Core.List.{List, []}
+use mathlib.Core.Option.{Option, none}
 use native.Mathlib.Omega.{arith}
 use lib.ListN.{length, take, drop}
 use lib.Seq.{slice, take-take, length-take-le}
@@ -23,10 +24,10 @@ use Rattle.report.specs.Wrote.{Wrote}
 use Rattle.report.proofs.WroteLaws.{wrote-most}
 use Rattle.stream.specs.declared.Phase.the-variants.{Planning, Ended}
 use Rattle.stream.specs.declared.Reader.{Reader}
-use Rattle.stream.specs.Reading.{planning, framesTold, loadedTold, planTold, planAll}
-use Rattle.stream.specs.Reader.{windowSize, outSize, Gave}
+use Rattle.stream.specs.Reading.{Told, planning, framesTold, loadedTold, planTold, planAll}
+use Rattle.stream.specs.Reader.{windowSize, outSize, stateLeft, Gave, Finished}
 use Rattle.stream.specs.Frames.{PlanSize, Loadable, Workable}
-use Rattle.stream.proofs.ReadingLaws.{plan-told-few, plan-told-part, plan-told-whole, told-accepted, told-refused, text-accepted, text-refused, zero-or-not}
+use Rattle.stream.proofs.ReadingLaws.{plan-told-few, plan-told-part, plan-told-whole, told-accepted, told-refused, text-accepted, text-refused, left-same, zero-or-not}
 use Rattle.stream.proofs.WindowLaws.{part-field}
 use Rattle.stream.proofs.GoingLaws.{wrote-none}
 use Rattle.stream.proofs.EndingLaws.{put-same, gave-of}
@@ -44,12 +45,12 @@ module _ (state w : List ℕ) (end : ℕ) (o : List ℕ) (can : Loadable state w
   -- ---- no whole plan yet
 
   abbrev Waiting : Type 0
-  Waiting = Gave (planTold all) (1 + end) w o state w o (record { phase = Planning; have = end; count = 1; wrote = 0 })
+  Waiting = Gave (planTold all) (1 + end) state w o state w o (record { phase = Planning; have = end; count = 1; wrote = 0 })
 
-  waiting : planTold all ≡ record { text = []; next = planning all } → end < windowSize → Waiting
+  waiting : planTold all ≡ record { text = []; next = planning all; line = none } → end < windowSize → Waiting
   waiting is less =
       gave-of is
-      (record { text = wrote-none outSize o; next = refl; left = put-same w end (can .inside); holding = refl; room = less; counted = omega arith })
+      (record { text = wrote-none outSize o; next = refl; left = put-same w end (can .inside); held = refl; holding = refl; room = less; counted = omega arith })
 
   pub waiting-few : end < 2 → Waiting
   waiting-few less = waiting (plan-told-few all (omega (arith, all-long))) (omega arith)
@@ -98,34 +99,47 @@ module _ (state w : List ℕ) (end : ℕ) (o : List ℕ) (can : Loadable state w
       -- ---- a block: the frames behind the plan
 
       pub block-loaded : 2 ≤ end → n ≡ spelled 0 (take 2 w) → {t v u : List ℕ} {r : Reader}
-          → Gave (framesTold (length (slice n end w)) 1 (lineOf after) (slice n end w)) (1 + (end - n)) w o t v u r → Gave (planTold all) (1 + end) w o t v u r
+          → Gave (framesTold (length (slice n end w)) 1 (lineOf after) (slice n end w)) (1 + (end - n)) after w o t v u r → Gave (planTold all) (1 + end) state w o t v u r
       block-loaded two e {t} {v} {u} {r} g =
           let told : planTold all ≡ framesTold (length (drop n all)) 1 (lineOf after) (drop n all) =
           whole-told n two e within ∙ told-accepted (planRefusal (take n all)) (take n all) (drop n all) (sym load-number ∙ z)
           ∙ ap (λ (l : Line). framesTold (length (drop n all)) 1 l (drop n all)) (sym loaded-line) in
           gave-of told
-          (record { text = g .text; next = g .next; left = g .left; holding = g .holding; room = g .room; counted = omega (arith, g .counted) })
+          (record { text = g .text; next = g .next; left = g .left; held = g .held ∙ left-same (length (drop n all)) 1 (lineOf after) (drop n all) after state; holding = g .holding; room = g .room; counted = omega (arith, g .counted) })
 
       -- ---- the end of the input
 
-      pub closed-loaded : PlanSize all n → {u : List ℕ} {r : ℕ} → Wrote outSize o 0 (framesText (length (slice n end w)) 1 (lineOf after) (slice n end w)) u r → Wrote outSize o 0 (planAll all) u r
-      closed-loaded size {u} {r} wrote =
-          subst (λ (x : List ℕ). Wrote outSize o 0 x u r)
-          (ap (λ (l : Line). framesText (length (drop n all)) 1 l (drop n all)) loaded-line ∙ sym (text-accepted (planRefusal (take n all)) (take n all) (drop n all) (sym load-number ∙ z)) ∙ size .same)
-          wrote
+      pub closed-loaded : PlanSize all n → {t u : List ℕ} {r : ℕ}
+          → Finished (framesText (length (slice n end w)) 1 (lineOf after) (slice n end w)) (framesTold (length (slice n end w)) 1 (lineOf after) (slice n end w)) after o t u r → Finished (planAll all) (planTold all) state o t u r
+      closed-loaded size {t} {u} {r} f =
+          let refused : planRefusal (take n all) ≡ 0 = sym load-number ∙ z in
+          let told : planTold all .line ≡ framesTold (length (drop n all)) 1 (lineOf after) (drop n all) .line =
+          size .line ∙ ap (λ (k : Told). k .line) (told-accepted (planRefusal (take n all)) (take n all) (drop n all) refused) ∙ ap (λ (l : Line). framesTold (length (drop n all)) 1 l (drop n all) .line) (sym loaded-line) in
+          record {
+            text = subst (λ (x : List ℕ). Wrote outSize o 0 x u r)
+                (ap (λ (l : Line). framesText (length (drop n all)) 1 l (drop n all)) loaded-line ∙ sym (text-accepted (planRefusal (take n all)) (take n all) (drop n all) refused) ∙ size .same)
+                (f .text);
+            held = f .held ∙ left-same (length (drop n all)) 1 (lineOf after) (drop n all) after state ∙ sym (ap (λ (l : Option Line). stateLeft l state) told);
+          }
 
     -- Refused: the answer is all that is written.
-    module _ (other : answer ≢ 0) {most : ℕ} {u : List ℕ} {r : ℕ} (wrote : Wrote most o 0 (answerLine 0 answer) u r) (small : most ≤ outSize) where
+    module _ (other : answer ≢ 0) {most : ℕ} {u : List ℕ} {r : ℕ} (wrote : Wrote most o 0 (answerLine 0 answer) u r) (small : most ≤ outSize) {after : List ℕ} (left : after ≡ loadLeft (take n w) state) where
       line-is : answerLine 0 (planRefusal (take n all)) ≡ answerLine 0 answer
       line-is = ap (answerLine 0) (sym load-number)
 
       refused : planRefusal (take n all) ≡ 0 → ⊥
       refused z = other (load-number ∙ z)
 
-      pub block-refused : 2 ≤ end → n ≡ spelled 0 (take 2 w) → {t : List ℕ} → Gave (planTold all) (1 + end) w o t w u (record { phase = Ended; have = 0; count = 1; wrote = r })
+      as-it-was : after ≡ state
+      as-it-was = left ∙ sym (plan-refused (take n w) state (λ z. refused (ap planRefusal plan-is ∙ z)) .1)
+
+      pub block-refused : 2 ≤ end → n ≡ spelled 0 (take 2 w) → Gave (planTold all) (1 + end) state w o after w u (record { phase = Ended; have = 0; count = 1; wrote = r })
       block-refused two e =
           gave-of (whole-told n two e within ∙ told-refused (planRefusal (take n all)) (take n all) (drop n all) refused)
-          (record { text = rw line-is (wrote-most outSize (omega (arith, wrote .short)) wrote); next = refl; left = sym (put-none w 0); holding = tt; room = omega arith; counted = omega arith })
+          (record { text = rw line-is (wrote-most outSize (omega (arith, wrote .short)) wrote); next = refl; left = sym (put-none w 0); held = as-it-was; holding = tt; room = omega arith; counted = omega arith })
 
-      pub closed-refused : PlanSize all n → Wrote outSize o 0 (planAll all) u r
-      closed-refused size = rw (← size .same, text-refused (planRefusal (take n all)) (take n all) (drop n all) refused, line-is) (wrote-most outSize (omega (arith, wrote .short)) wrote)
+      pub closed-refused : PlanSize all n → Finished (planAll all) (planTold all) state o after u r
+      closed-refused size = record {
+        text = rw (← size .same, text-refused (planRefusal (take n all)) (take n all) (drop n all) refused, line-is) (wrote-most outSize (omega (arith, wrote .short)) wrote);
+        held = as-it-was ∙ sym (ap (λ (l : Option Line). stateLeft l state) (size .line ∙ ap (λ (k : Told). k .line) (told-refused (planRefusal (take n all)) (take n all) (drop n all) refused)));
+      }

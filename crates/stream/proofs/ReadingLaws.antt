@@ -7,6 +7,7 @@ use mathlib.Core.List.{List, [], _∷_, _++_}
 use native.Mathlib.Omega.{arith}
 use borrow.Author.Tests.{lt-ltb, le-ltb, le-leb, lt-leb, ne-eqb}
 use lib.Dec.{leb, ltb}
+use mathlib.Core.Option.{none, some}
 use lib.ListN.{length, take, drop, length-drop}
 use lib.Seq.{take-append-le}
 use Rattle.basics.specs.Bools.{below-or-not}
@@ -16,6 +17,7 @@ use Rattle.plan.specs.Check.{planRefusal}
 use Rattle.rules.specs.Line.{Line, initialLine}
 use Rattle.rules.specs.Step.{Answer, step}
 use Rattle.rules.specs.Sheet.{answerLine, lineText, lengthField, frameCut, framesText, planText}
+use Rattle.stream.specs.Reader.{stateLeft}
 use Rattle.stream.specs.Reading.{planning, framing, ended, Told, before, whole, tooShort, framesTold, loadedTold, planTold}
 
 -- The length field does not change by what comes behind it.
@@ -63,10 +65,10 @@ and-false false = refl
 abbrev toldBy : Bool → Bool → ℕ → ℕ → Line → List ℕ → Told
 toldBy isShort isWhole f k l s =
     elim isShort [
-      | true ↦ record { text = answerLine k 9 ++ lineText l; next = ended }
+      | true ↦ record { text = answerLine k 9 ++ lineText l; next = ended; line = some l }
       | false ↦
           elim isWhole [
-            | false ↦ record { text = []; next = framing s k l }
+            | false ↦ record { text = []; next = framing s k l; line = some l }
             | true ↦ before (answerLine k (stepped l s .number)) (framesTold f (suc k) (stepped l s .line) (behind s))
           ]
     ]
@@ -78,28 +80,31 @@ or-true false = refl
 pub is-short : (s : List ℕ) → 2 ≤ length s → lengthField s < 5 → tooShort s ≡ true
 is-short s two under = rw (le-leb 2 (length s) two) (lt-ltb (lengthField s) 5 under)
 
-none-short : (s : List ℕ) → 5 ≤ lengthField s → tooShort s ≡ false
-none-short s five = rw (le-ltb (lengthField s) 5 five) (and-false (leb 2 (length s)))
+not-short : (s : List ℕ) → 5 ≤ lengthField s → tooShort s ≡ false
+not-short s five = rw (le-ltb (lengthField s) 5 five) (and-false (leb 2 (length s)))
 
 module _ (k : ℕ) (l : Line) (s : List ℕ) where
-  pub told-short : (f : ℕ) → 2 ≤ length s → lengthField s < 5 → length s ≤ f → framesTold f k l s ≡ record { text = answerLine k 9 ++ lineText l; next = ended }
-  told-short zero two under h = let no : ⊥ = omega arith in absurd no
-  told-short (suc f) two under h = ap (λ (b : Bool). toldBy b (whole s) f k l s) (is-short s two under)
+  told-under : (f : ℕ) → 2 ≤ length s → lengthField s < 5 → framesTold (suc f) k l s ≡ record { text = answerLine k 9 ++ lineText l; next = ended; line = some l }
+  told-under f two under = ap (λ (b : Bool). toldBy b (whole s) f k l s) (is-short s two under)
 
-  pub told-few : (f : ℕ) → length s < 2 → framesTold f k l s ≡ record { text = []; next = framing s k l }
+  pub told-short : (f : ℕ) → 2 ≤ length s → lengthField s < 5 → length s ≤ f → framesTold f k l s ≡ record { text = answerLine k 9 ++ lineText l; next = ended; line = some l }
+  told-short zero two under h = let no : ⊥ = omega arith in absurd no
+  told-short (suc f) two under h = told-under f two under
+
+  pub told-few : (f : ℕ) → length s < 2 → framesTold f k l s ≡ record { text = []; next = framing s k l; line = some l }
   told-few zero less = refl
   told-few (suc f) less = ap (λ (b : Bool). toldBy (b && ltb (lengthField s) 5) (b && leb (lengthField s) (length s)) f k l s) (lt-leb 2 (length s) less)
 
-  pub told-part : (f : ℕ) → 5 ≤ lengthField s → length s < lengthField s → framesTold f k l s ≡ record { text = []; next = framing s k l }
+  pub told-part : (f : ℕ) → 5 ≤ lengthField s → length s < lengthField s → framesTold f k l s ≡ record { text = []; next = framing s k l; line = some l }
   told-part zero five less = refl
   told-part (suc f) five less =
-      let none : whole s ≡ false = rw (lt-leb (lengthField s) (length s) less) (and-false (leb 2 (length s))) in
-      ap₂ (λ (b c : Bool). toldBy b c f k l s) (none-short s five) none
+      let cut : whole s ≡ false = rw (lt-leb (lengthField s) (length s) less) (and-false (leb 2 (length s))) in
+      ap₂ (λ (b c : Bool). toldBy b c f k l s) (not-short s five) cut
 
   pub told-next : (f : ℕ) → 5 ≤ lengthField s → lengthField s ≤ length s → framesTold (suc f) k l s ≡ before (answerLine k (stepped l s .number)) (framesTold f (suc k) (stepped l s .line) (behind s))
   told-next f five all =
       let one : whole s ≡ true = rw (le-leb 2 (length s) (omega arith)) (le-leb (lengthField s) (length s) all) in
-      ap₂ (λ (b c : Bool). toldBy b c f k l s) (none-short s five) one
+      ap₂ (λ (b c : Bool). toldBy b c f k l s) (not-short s five) one
 
 -- The bound makes no difference as long as it is at least the length.
 pub told-bound : (f g k : ℕ) (l : Line) (s : List ℕ) → length s ≤ f → length s ≤ g → framesTold f k l s ≡ framesTold g k l s
@@ -122,6 +127,18 @@ told-frame zero k l s five all h = let no : ⊥ = omega arith in absurd no
 told-frame (suc f) k l s five all h =
     told-next k l s f five all ∙ ap (before (answerLine k (stepped l s .number))) (told-bound f (length (behind s)) (suc k) (stepped l s .line) (behind s) (behind-less s f five h) (omega arith))
 
+-- Behind the plan the bytes lead to a line, so the state that was there makes no difference.
+pub left-same : (f k : ℕ) (l : Line) (s x y : List ℕ) → stateLeft (framesTold f k l s .line) x ≡ stateLeft (framesTold f k l s .line) y
+left-same zero k l s x y = refl
+left-same (suc f) k l s x y = by (front s) (left-same f (suc k) (stepped l s .line) (behind s) x y)
+  where
+    by : Front s → stateLeft (framesTold f (suc k) (stepped l s .line) (behind s) .line) x ≡ stateLeft (framesTold f (suc k) (stepped l s .line) (behind s) .line) y
+        → stateLeft (framesTold (suc f) k l s .line) x ≡ stateLeft (framesTold (suc f) k l s .line) y
+    by (short two under) more = rw (told-under k l s f two under)
+    by (few less) more = rw (told-few k l s (suc f) less)
+    by (part two five less) more = rw (told-part k l s (suc f) five less)
+    by (frame five all) more = rw (told-next k l s f five all) more
+
 -- ---- what the end of the input tells
 
 abbrev textBy : Bool → ℕ → ℕ → Line → List ℕ → List ℕ
@@ -138,30 +155,30 @@ text-open f k l (b ∷ bs) h = refl
 module _ (k : ℕ) (l : Line) (s : List ℕ) where
   pub text-none : (f : ℕ) → length s ≡ 0 → framesText f k l s ≡ lineText l
   text-none zero e = refl
-  text-none (suc f) e = none s e
+  text-none (suc f) e = nothing s e
     where
-      none : (s : List ℕ) → length s ≡ 0 → framesText (suc f) k l s ≡ lineText l
-      none [] e = refl
-      none (b ∷ bs) e = let no : ⊥ = omega arith in absurd no
+      nothing : (s : List ℕ) → length s ≡ 0 → framesText (suc f) k l s ≡ lineText l
+      nothing [] e = refl
+      nothing (b ∷ bs) e = let no : ⊥ = omega arith in absurd no
 
   text-cut : (f : ℕ) → 0 < length s → length s ≤ f → frameCut s ≡ true → framesText f k l s ≡ answerLine k 9 ++ lineText l
-  text-cut zero some h e = let no : ⊥ = omega arith in absurd no
-  text-cut (suc f) some h e = text-open f k l s some ∙ ap (λ (b : Bool). textBy b f k l s) e
+  text-cut zero full h e = let no : ⊥ = omega arith in absurd no
+  text-cut (suc f) full h e = text-open f k l s full ∙ ap (λ (b : Bool). textBy b f k l s) e
 
   pub text-short : (f : ℕ) → 0 < length s → length s ≤ f → lengthField s < 5 → framesText f k l s ≡ answerLine k 9 ++ lineText l
-  text-short f some h under =
+  text-short f full h under =
       let e : frameCut s ≡ true = rw (lt-ltb (lengthField s) 5 under, or-true (ltb (length s) 2)) in
-      text-cut f some h e
+      text-cut f full h e
 
   pub text-few : (f : ℕ) → 0 < length s → length s ≤ f → length s < 2 → framesText f k l s ≡ answerLine k 9 ++ lineText l
-  text-few f some h less =
+  text-few f full h less =
       let e : frameCut s ≡ true = rw (lt-ltb (length s) 2 less) in
-      text-cut f some h e
+      text-cut f full h e
 
   pub text-part : (f : ℕ) → 0 < length s → length s ≤ f → length s < lengthField s → framesText f k l s ≡ answerLine k 9 ++ lineText l
-  text-part f some h less =
+  text-part f full h less =
       let e : frameCut s ≡ true = rw (lt-ltb (length s) (lengthField s) less) (or-true (ltb (length s) 2 || ltb (lengthField s) 5)) in
-      text-cut f some h e
+      text-cut f full h e
 
   text-next : (f : ℕ) → 5 ≤ lengthField s → lengthField s ≤ length s → framesText (suc f) k l s ≡ answerLine k (stepped l s .number) ++ framesText f (suc k) (stepped l s .line) (behind s)
   text-next f five all =
@@ -175,12 +192,12 @@ text-bound (suc f) g k l s p q = by g q (below-or-not 0 (length s)) (front s) (�
     by : (g : ℕ) → length s ≤ g → (0 < length s) ⊎ (length s ≤ 0) → Front s
         → ((m : ℕ) → length (behind s) ≤ f → length (behind s) ≤ m → framesText f (suc k) (stepped l s .line) (behind s) ≡ framesText m (suc k) (stepped l s .line) (behind s))
         → framesText (suc f) k l s ≡ framesText g k l s
-    by g q (inr none) at more = text-none k l s (suc f) (omega arith) ∙ sym (text-none k l s g (omega arith))
-    by g q (inl some) (short two under) more = text-short k l s (suc f) some p under ∙ sym (text-short k l s g some q under)
-    by g q (inl some) (few less) more = text-few k l s (suc f) some p less ∙ sym (text-few k l s g some q less)
-    by g q (inl some) (part two five less) more = text-part k l s (suc f) some p less ∙ sym (text-part k l s g some q less)
-    by zero q (inl some) (frame five all) more = let no : ⊥ = omega arith in absurd no
-    by (suc g) q (inl some) (frame five all) more =
+    by g q (inr empty) at more = text-none k l s (suc f) (omega arith) ∙ sym (text-none k l s g (omega arith))
+    by g q (inl full) (short two under) more = text-short k l s (suc f) full p under ∙ sym (text-short k l s g full q under)
+    by g q (inl full) (few less) more = text-few k l s (suc f) full p less ∙ sym (text-few k l s g full q less)
+    by g q (inl full) (part two five less) more = text-part k l s (suc f) full p less ∙ sym (text-part k l s g full q less)
+    by zero q (inl full) (frame five all) more = let no : ⊥ = omega arith in absurd no
+    by (suc g) q (inl full) (frame five all) more =
         text-next k l s f five all ∙ ap (_++_ (answerLine k (stepped l s .number))) (more g (behind-less s f five p) (behind-less s g five q)) ∙ sym (text-next k l s g five all)
 
 pub text-frame : (f k : ℕ) (l : Line) (s : List ℕ) → 5 ≤ lengthField s → lengthField s ≤ length s → length s ≤ f
@@ -208,10 +225,10 @@ plan-front s = here (below-or-not (length s) 2)
     here (inr two) = there two (below-or-not (length s) (lengthField s))
 
 module _ (s : List ℕ) where
-  pub plan-told-few : length s < 2 → planTold s ≡ record { text = []; next = planning s }
+  pub plan-told-few : length s < 2 → planTold s ≡ record { text = []; next = planning s; line = none }
   plan-told-few less = rw (lt-leb 2 (length s) less, planTold)
 
-  pub plan-told-part : length s < lengthField s → planTold s ≡ record { text = []; next = planning s }
+  pub plan-told-part : length s < lengthField s → planTold s ≡ record { text = []; next = planning s; line = none }
   plan-told-part less = rw (lt-leb (lengthField s) (length s) less, and-false (leb 2 (length s)), planTold)
 
   pub plan-told-whole : 2 ≤ length s → lengthField s ≤ length s → planTold s ≡ loadedTold (planRefusal (take (lengthField s) s)) (take (lengthField s) s) (behind s)
@@ -225,7 +242,7 @@ module _ (refused : ℕ) (plan frames : List ℕ) where
   pub told-accepted : refused ≡ 0 → loadedTold refused plan frames ≡ framesTold (length frames) 1 (initialLine (planOf plan)) frames
   told-accepted e = rw e
 
-  pub told-refused : (refused ≡ 0 → ⊥) → loadedTold refused plan frames ≡ record { text = answerLine 0 refused; next = ended }
+  pub told-refused : (refused ≡ 0 → ⊥) → loadedTold refused plan frames ≡ record { text = answerLine 0 refused; next = ended; line = none }
   told-refused other = rw (ne-eqb refused 0 other, loadedTold)
 
   pub text-accepted : refused ≡ 0 → planText refused plan frames ≡ framesText (length frames) 1 (initialLine (planOf plan)) frames

@@ -11,13 +11,16 @@ use lib.ListN.{length, getD, take, drop, set, length-take, drop-of-length-le}
 use lib.Seq.{slice, length-slice, length-take-le, take-take, take-all, drop-drop}
 use Rattle.basics.specs.Put.{put}
 use Rattle.plan.specs.Layout.{spelled}
+use Rattle.plan.specs.Plan.{planLength}
 use Rattle.plan.specs.Check.{badLength, planRefusal}
+use Rattle.plan.proofs.CheckLaws.{accepted}
 use Rattle.plan.proofs.BytesLaws.{drop-take}
 use Rattle.rules.specs.Sheet.{answerLine, lengthField, planText}
 use Rattle.buffer.proofs.BytesLaws.{gap-turn}
-use Rattle.stream.specs.Reading.{tooShort}
+use Rattle.stream.specs.Reading.{Told, tooShort}
 use Rattle.stream.specs.Reader.{windowSize}
 use Rattle.stream.specs.Frames.{FrameSize, PlanSize}
+use Rattle.stream.proofs.ReadingLaws.{plan-told-few, plan-told-part, plan-told-whole, told-refused}
 
 module _ (w : List ℕ) (at end : ℕ) where
   pub part-long : end ≤ length w → length (slice at end w) ≡ end - at
@@ -69,6 +72,19 @@ module _ (w : List ℕ) (at end : ℕ) (inside : end ≤ length w) where
 
 -- ---- the plan in front
 
+line-of : {t u : Told} → t ≡ u → t .line ≡ u .line
+line-of e = ap (λ (t : Told). t .line) e
+
+length-spelled : (s : List ℕ) → planLength s ≡ lengthField s
+unfolding planLength
+length-spelled s = refl
+
+-- A plan that its length field makes longer is refused.
+plan-cut : (p : List ℕ) → length p < lengthField p → planRefusal p ≡ 0 → ⊥
+plan-cut p less z =
+    let a = accepted p z in
+    omega (arith, a .lengthField, length-spelled p)
+
 plan-too-short : (p : List ℕ) → length p < 5 → planRefusal p ≡ 1
 unfolding planRefusal badLength
 plan-too-short p h = rw (lt-ltb (length p) 5 h, planRefusal)
@@ -86,23 +102,36 @@ module _ (w : List ℕ) (end : ℕ) (inside : end ≤ length w) where
   pub plan-few : end < 2 → PlanSize all end
   plan-few less =
       let refused : (n : ℕ) → planFrom n ≡ answerLine 0 1 = λ n. rw (plan-too-short (take n all) (rw length-take (omega (arith, all-long)))) refl in
-      record { within = omega (arith, all-long); same = refused end ∙ sym (refused (lengthField all)) }
+      let few : length all < 2 = omega (arith, all-long) in
+      let short : planRefusal (take end all) ≡ 0 → ⊥ = λ z. omega (arith, z, plan-too-short (take end all) (rw length-take (omega (arith, all-long)))) in
+      record {
+        within = omega (arith, all-long);
+        same = refused end ∙ sym (refused (lengthField all));
+        line = line-of (plan-told-few all few) ∙ sym (line-of (told-refused (planRefusal (take end all)) (take end all) (drop end all) short));
+      }
 
   module _ (n : ℕ) (two : 2 ≤ end) (e : n ≡ spelled 0 (take 2 w)) where
     plan-is : n ≡ lengthField all
     plan-is = e ∙ sym (part-field w 0 end (omega arith))
 
     pub plan-field : n ≤ end → PlanSize all n
-    plan-field h = record { within = omega (arith, all-long); same = ap planFrom plan-is }
+    plan-field h = record {
+      within = omega (arith, all-long);
+      same = ap planFrom plan-is;
+      line = rw plan-is (line-of (plan-told-whole all (omega (arith, all-long)) (omega (arith, all-long, plan-is))));
+    }
 
-    pub plan-all : end ≤ n → PlanSize all end
+    pub plan-all : end < n → PlanSize all end
     plan-all h =
         let past : length all ≤ lengthField all = omega (arith, plan-is, all-long) in
+        let less : length all < lengthField all = omega (arith, plan-is, all-long) in
+        let cut : planRefusal (take end all) ≡ 0 → ⊥ = λ z. plan-cut all less (rw (← take-all end all (omega (arith, all-long))) z) in
         record {
           within = omega (arith, all-long);
           same = ap₂ (λ (p r : List ℕ). planText (planRefusal p) p r)
               (take-all end all (omega (arith, all-long)) ∙ sym (take-all (lengthField all) all past))
               (drop-of-length-le all {i = end} (omega (arith, all-long)) ∙ sym (drop-of-length-le all {i = lengthField all} past));
+          line = line-of (plan-told-part all less) ∙ sym (line-of (told-refused (planRefusal (take end all)) (take end all) (drop end all) cut));
         }
 
 -- ---- what moves to the front

@@ -12,7 +12,7 @@ use Rattle.state.specs.State.{lineOf}
 use Rattle.buffer.specs.Holds.{Undamaged}
 use Rattle.report.specs.Wrote.{Wrote}
 use Rattle.stream.specs.declared.frames.Worked.{Worked}
-use Rattle.stream.specs.Reading.{before, framesTold, planAll}
+use Rattle.stream.specs.Reading.{before, framesTold, loadedTold, planTold, planAll}
 use Rattle.stream.specs.Reader.{windowSize, outSize, countMost}
 
 -- The size of the whole frame in front of some bytes, 0 if none is there.
@@ -24,6 +24,7 @@ pub record FrameSize (s : List ℕ) (r : ℕ) : Type 0 where
 pub record PlanSize (s : List ℕ) (r : ℕ) : Type 0 where
   pub within : r ≤ length s
   pub same : planText (planRefusal (take r s)) (take r s) (drop r s) ≡ planAll s
+  pub line : planTold s .line ≡ loadedTold (planRefusal (take r s)) (take r s) (drop r s) .line
 
 -- What loading asks: a state of a line's size, bytes in the window, and the whole output.
 pub record Loadable (state window : List ℕ) (end : ℕ) (out : List ℕ) : Type 0 where

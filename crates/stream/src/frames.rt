@@ -71,7 +71,7 @@ pub fn plan_size(window: &[u8], end: usize) -> usize
         return end;
     }
     let n = field(window, 0);
-    if n < end { n } else { end }
+    if n <= end { n } else { end }
 }
 
 // Every whole frame is answered.

@@ -1,14 +1,14 @@
 // A sheet read block by block (document 01, "The sheet"). What is kept between two blocks stands at the front of a window; a block comes behind it.
 ghost use mathlib.Core.Path.{_≡_};
+ghost use mathlib.Core.List.{[]};
 ghost use Prim.Native.Nat.{_+_, _-_};
 ghost use lib.ListN.{length, take, drop};
 ghost use lib.Seq.{slice};
 ghost use Rattle.rules.specs.Sheet.{framesText};
 ghost use Rattle.state.specs.State.{lineOf};
-ghost use Rattle.report.specs.Wrote.{Wrote};
 ghost use Rattle.stream.specs.Reading.{framesTold, planTold, taken, planAll, closed};
 ghost use Rattle.stream.specs.Frames.{Loadable, Workable};
-ghost use Rattle.stream.specs.Reader.{outSize, readingOf, Asked, Gave, Begun};
+ghost use Rattle.stream.specs.Reader.{readingOf, Asked, Gave, Finished, Begun};
 use buffer::Line;
 
 mod frames;
@@ -56,7 +56,7 @@ fn frame_block(
 ) -> Reader
     requires { ⌜ Workable (now state) (now window) from end count (now out) ⌝ }
     ensures { λ r. ⌜ Gave (framesTold (length (slice from end (now (window .entry)))) count (lineOf (now (state .entry))) (slice from end (now (window .entry))))
-        (count + (end - from)) (now (window .entry)) (now (out .entry)) (now (state .exit)) (now (window .exit)) (now (out .exit)) r ⌝ }
+        (count + (end - from)) (now (state .entry)) (now (window .entry)) (now (out .entry)) (now (state .exit)) (now (window .exit)) (now (out .exit)) r ⌝ }
 {
     let done = frames::work(state, window, from, end, count, out);
     let at = done.at;
@@ -89,8 +89,9 @@ fn frame_end(
     out: &mut [u8],
 ) -> usize
     requires { ⌜ Workable (now state) (now window) from end count (now out) ⌝ }
-    ensures { λ r. ⌜ Wrote outSize (now (out .entry)) 0 (framesText (length (slice from end (now (window .entry)))) count (lineOf (now (state .entry))) (slice from end (now (window .entry))))
-        (now (out .exit)) r ⌝ }
+    ensures { λ r. ⌜ Finished (framesText (length (slice from end (now (window .entry)))) count (lineOf (now (state .entry))) (slice from end (now (window .entry))))
+        (framesTold (length (slice from end (now (window .entry)))) count (lineOf (now (state .entry))) (slice from end (now (window .entry))))
+        (now (state .entry)) (now (out .entry)) (now (state .exit)) (now (out .exit)) r ⌝ }
 {
     let done = frames::work(state, window, from, end, count, out);
     if done.at == end {
@@ -103,7 +104,7 @@ fn frame_end(
 // The plan, once it is whole, and the frames behind it.
 fn plan_block(state: &mut [u8], window: &mut [u8], end: usize, out: &mut [u8]) -> Reader
     requires { ⌜ Loadable (now state) (now window) end (now out) ⌝ }
-    ensures { λ r. ⌜ Gave (planTold (take end (now (window .entry)))) (1 + end) (now (window .entry)) (now (out .entry)) (now (state .exit)) (now (window .exit)) (now (out .exit)) r ⌝ }
+    ensures { λ r. ⌜ Gave (planTold (take end (now (window .entry)))) (1 + end) (now (state .entry)) (now (window .entry)) (now (out .entry)) (now (state .exit)) (now (window .exit)) (now (out .exit)) r ⌝ }
 {
     if end < 2 {
         return waiting(end);
@@ -128,7 +129,7 @@ fn plan_block(state: &mut [u8], window: &mut [u8], end: usize, out: &mut [u8]) -
 // The plan and the frames behind it, where no more bytes come.
 fn plan_end(state: &mut [u8], window: &[u8], end: usize, out: &mut [u8]) -> usize
     requires { ⌜ Loadable (now state) (now window) end (now out) ⌝ }
-    ensures { λ r. ⌜ Wrote outSize (now (out .entry)) 0 (planAll (take end (now (window .entry)))) (now (out .exit)) r ⌝ }
+    ensures { λ r. ⌜ Finished (planAll (take end (now (window .entry)))) (planTold (take end (now (window .entry)))) (now (state .entry)) (now (out .entry)) (now (state .exit)) (now (out .exit)) r ⌝ }
 {
     let size = frames::plan_size(window, end);
     let answer = line::line_load(&window[..size], state);
@@ -161,7 +162,7 @@ pub fn take_block(
 ) -> Reader
     requires { ⌜ Asked reader (now state) n ⌝ }
     ensures { λ r. ⌜ Gave (taken (readingOf reader (now (state .entry)) (now (window .entry))) (take n (drop (reader .have) (now (window .entry)))))
-        (reader .count + reader .have + n) (now (window .entry)) (now (out .entry)) (now (state .exit)) (now (window .exit)) (now (out .exit)) r ⌝ }
+        (reader .count + reader .have + n) (now (state .entry)) (now (window .entry)) (now (out .entry)) (now (state .exit)) (now (window .exit)) (now (out .exit)) r ⌝ }
 {
     let phase = reader.phase;
     let end = reader.have + n;
@@ -185,7 +186,8 @@ pub fn finish(
     out: &mut [u8; OUT],
 ) -> usize
     requires { ⌜ Asked reader (now state) 0 ⌝ }
-    ensures { λ r. ⌜ Wrote outSize (now (out .entry)) 0 (closed (readingOf reader (now (state .entry)) (now (window .entry)))) (now (out .exit)) r ⌝ }
+    ensures { λ r. ⌜ Finished (closed (readingOf reader (now (state .entry)) (now (window .entry)))) (taken (readingOf reader (now (state .entry)) (now (window .entry))) [])
+        (now (state .entry)) (now (out .entry)) (now (state .exit)) (now (out .exit)) r ⌝ }
 {
     let phase = reader.phase;
     let have = reader.have;

@@ -1,6 +1,6 @@
 use native.Mathlib.Omega.{arith}
 use borrow.Author.Needs.{needs}
-use Rattle.stream.proofs.ReaderLaws.{framing-workable, wrote-planning, wrote-framing, wrote-ended}
+use Rattle.stream.proofs.ReaderLaws.{framing-workable, finished-planning, finished-framing, finished-ended}
 use Rattle.stream.proofs.finish.Statement.{statement}
 use Rattle.stream.proofs.finish.Tie as tie
 
@@ -13,17 +13,17 @@ frame-end-requires c κs =
 returns : tie.Need-returns
 returns c =
     let a = c .before .before .before .before .before .before .args in
-    wrote-planning (a .reader) (a .state .now) (a .window .now) (c .before .before .before .before .enum-told .given .1) (c .plan-end .ensures)
+    finished-planning (a .reader) (a .state .now) (a .window .now) (c .before .before .before .before .enum-told .given .1) (c .plan-end .ensures)
 
 returns-2 : tie.Need-returns-2
 returns-2 c =
     let a = c .before .before .before .before .before .before .args in
-    wrote-framing (a .reader) (a .state .now) (a .window .now) (c .before .before .before .before .enum-told2 .given .1) (c .frame-end .ensures)
+    finished-framing (a .reader) (a .state .now) (a .window .now) (c .before .before .before .before .enum-told2 .given .1) (c .frame-end .ensures)
 
 returns-3 : tie.Need-returns-3
 returns-3 c =
     let a = c .before .before .args in
-    wrote-ended (a .reader) (a .state .now) (a .window .now) (c .enum-told3 .given .1) (a .out .now)
+    finished-ended (a .reader) (a .state .now) (a .window .now) (c .enum-told3 .given .1) (a .out .now)
 
 pub finish-spec : {M : Type 1} → statement M
 finish-spec =

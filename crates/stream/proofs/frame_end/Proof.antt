@@ -33,7 +33,7 @@ returns c =
     let worked = nodes .before .before .before .before .before .before .before .before .before in
     let start = worked .before .before .before .before .before .before in
     let a = start .args in
-    closed-even (a .state .now) (a .window .now) (a .from) (a .end) (a .count) (a .out .now) (start .pre) (worked .work .ensures .going) (nodes .before .before .before .if1 .taken) (nodes .line-text .ensures)
+    closed-even (a .state .now) (a .window .now) (a .from) (a .end) (a .count) (a .out .now) (start .pre) (worked .work .ensures .going) (worked .work .ensures .none) (nodes .before .before .before .if1 .taken) (nodes .line-text .ensures)
 
 returns-2 : tie.Need-returns-2
 returns-2 c =

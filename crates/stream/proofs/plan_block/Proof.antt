@@ -28,7 +28,7 @@ returns-3 c =
     let start = read .before .before .before .before .before .before in
     let a = start .args in
     block-refused (a .state .now) (a .window .now) (a .end) (a .out .now) (start .pre) (read .field .result) (load .before .before .before .if2 .left)
-    (bytes-known (a .window .now) (λ i. read .before .before .before .before .slice-known2 .given i .fits)) (load .line-load .result) (load .line-load .ensures .0) (answered .before .before .if3 .taken) (answered .answer-line .ensures) (omega arith) (read .before .before .if1 .left) (read .field .ensures .0)
+    (bytes-known (a .window .now) (λ i. read .before .before .before .before .slice-known2 .given i .fits)) (load .line-load .result) (load .line-load .ensures .0) (answered .before .before .if3 .taken) (answered .answer-line .ensures) (omega arith) (load .line-load .ensures .1) (read .before .before .if1 .left) (read .field .ensures .0)
 
 frame-block-requires : tie.Need-frame-block-requires
 frame-block-requires c κs =

@@ -26,7 +26,7 @@ returns c =
     let start = known .before .before in
     let a = start .args in
     closed-refused (a .state .now) (a .window .now) (a .end) (a .out .now) (start .pre) (sized .plan-size .result) (size-within (a .window .now) (a .end) (start .pre .inside) (sized .plan-size .ensures))
-    (bytes-known (a .window .now) (λ i. known .shared-slice-known .given i .fits)) (load .line-load .result) (load .line-load .ensures .0) (answered .before .before .if1 .taken) (answered .answer-line .ensures) (omega arith) (sized .plan-size .ensures)
+    (bytes-known (a .window .now) (λ i. known .shared-slice-known .given i .fits)) (load .line-load .result) (load .line-load .ensures .0) (answered .before .before .if1 .taken) (answered .answer-line .ensures) (omega arith) (load .line-load .ensures .1) (sized .plan-size .ensures)
 
 returns-2 : tie.Need-returns-2
 returns-2 c =

@@ -1,4 +1,3 @@
-use native.Mathlib.Omega.{arith}
 use borrow.Author.Needs.{needs}
 use Rattle.stream.proofs.WindowLaws.{plan-few, plan-field, plan-all}
 use Rattle.stream.proofs.frames.plan_size.Statement.{statement}
@@ -12,7 +11,7 @@ returns c =
 returns-2 : tie.Need-returns-2
 returns-2 c =
     let start = c .before .before .before .before in
-    plan-field (start .args .window .now) (start .args .end) (start .pre) (c .before .field .result) (c .before .before .if1 .left) (c .before .field .ensures .0) (omega arith)
+    plan-field (start .args .window .now) (start .args .end) (start .pre) (c .before .field .result) (c .before .before .if1 .left) (c .before .field .ensures .0) (c .if2 .taken)
 
 returns-3 : tie.Need-returns-3
 returns-3 c =
