@@ -118,4 +118,6 @@ fn main() {
     );
     let ending = staged::replaying();
     row("Take that ends with 64 records", &ending, from(3, &ending));
+    let by_rows = staged::holding_by_rows(Line::MOST_TARGETS - 1);
+    row("the same, taken row by row", &by_rows, from(3, &by_rows));
 }

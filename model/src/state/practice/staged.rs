@@ -105,6 +105,15 @@ pub fn down<T: Staged>() -> T {
 /// sources' and sinks' logs are full, and so are the channels that enter the
 /// routers.
 pub fn holding<T: Staged>(held: usize) -> T {
+    replaying_by(take_in_turn, held)
+}
+
+/// The same, but each router has taken again all of one source, then of the next.
+pub fn holding_by_rows<T: Staged>(held: usize) -> T {
+    replaying_by(take_by_rows, held)
+}
+
+fn replaying_by<T: Staged>(take: fn(&mut T, usize, usize), held: usize) -> T {
     let mut line: T = routers_plan().into();
     for source in 0..4 {
         fill_source(&mut line, source);
@@ -119,7 +128,7 @@ pub fn holding<T: Staged>(held: usize) -> T {
     }
     for router in 4..8 {
         restart(&mut line, router);
-        take_in_turn(&mut line, router, held);
+        take(&mut line, router, held);
     }
     fill_channels(&mut line);
     line
@@ -203,6 +212,15 @@ fn take_in_turn(line: &mut impl Played, node: usize, messages: usize) {
     let entering: Vec<usize> = line.line().plan.entering(node).collect();
     for channel in entering.iter().cycle().take(messages) {
         pass(line, *channel);
+    }
+}
+
+/// So many messages, as many from each parent before the next one's come.
+fn take_by_rows(line: &mut impl Played, node: usize, messages: usize) {
+    let entering: Vec<usize> = line.line().plan.entering(node).collect();
+    let each = Line::MOST_TARGETS / entering.len();
+    for place in 0..messages {
+        pass(line, entering[place / each]);
     }
 }
 
