@@ -2,11 +2,11 @@
 use Prim.Native.Nat.{ℕ, _+_, _-_, _≤_, _<_}
 use mathlib.Core.Path.{_≡_, refl, sym, _∙_}
 use mathlib.Core.List.{List, [], _∷_, _++_, append-assoc}
-use native.Mathlib.Nat.{add-assoc, add-zero}
+use native.Mathlib.Nat.{add-assoc, add-zero, zero-add}
 use native.Mathlib.Numerals.{add-one}
 use native.Mathlib.Omega.{arith}
 use lib.ListN.{length, getD, take, drop, set, replicate, length-append, length-drop, length-replicate, take-append-drop}
-use lib.Seq.{length-take-le, take-at, drop-at, drop-drop, set-split, getD-drop, sets, sets-eq}
+use lib.Seq.{take-append-seam, length-take-le, take-at, drop-at, drop-drop, set-split, getD-drop, sets, sets-eq}
 
 -- What stands at a place, written over.
 unfoldable pub put : {A : Type 0} → List A → ℕ → List A → List A
@@ -96,3 +96,12 @@ puts-joined s at [] h a = sym (put-none s at)
 puts-joined s at (p ∷ ps) h a =
     let end : ℕ = at + length (p .1) in
     rw (a .0) (puts-joined (put s at (p .1)) end ps (reach-put s at (p .1) h) (a .1) ∙ put-behind s at (p .1) end (joined ps) h refl)
+
+-- At the front.
+pub put-front : {A : Type 0} (s xs : List A) → take (length xs) (put s 0 xs) ≡ xs
+unfolding put
+put-front s xs = take-append-seam xs (drop (0 + length xs) s)
+
+pub put-same : {A : Type 0} (s : List A) (n : ℕ) → n ≤ length s → s ≡ put s 0 (take n s)
+unfolding put
+put-same s n h = rw (length-take-le n s h, zero-add) (sym (take-append-drop n s))

@@ -25,16 +25,10 @@ pub enum Frame {
 }
 
 // A head: the frame's length, its version, its kind, and the number of a node or a channel.
-const HEAD: usize = 5;
+pub const HEAD: usize = 5;
 
 // A Feed has a record behind its head.
 const FEED: usize = 13;
-
-fn size_of(n: u16) -> usize
-    ensures { λ r. ⌜ r ≡ n ⌝ }
-{
-    n as usize
-}
 
 fn kind_of(frame: &[u8]) -> u8
     requires { ⌜ 5 ≤ length (now frame) ⌝ }
@@ -57,7 +51,7 @@ fn bad_length(frame: &[u8]) -> bool
     if frame.len() < HEAD {
         return true;
     }
-    size_of(bytes::get16(frame, 0)) != frame.len()
+    plan::bytes::count_of(bytes::get16(frame, 0)) != frame.len()
 }
 
 // 10: the version.

@@ -18,6 +18,7 @@ use Rattle.plan.proofs.FitsLaws.{fitting}
 use Rattle.plan.proofs.PlanLaws.{node-count, channel-count}
 use Rattle.rules.specs.Line.{Line, nodeAt, laneAt, senderOf}
 use Rattle.rules.specs.Sheet.{spaced, bracketed, nodeAndTime, listed, clockText}
+use Rattle.rules.proofs.lists.ListLaws.{map-at}
 use Rattle.rules.proofs.lists.Members.{in-drop}
 use Rattle.rules.proofs.line.Joins.{entering-in}
 use Rattle.state.specs.State.{lineOf}
@@ -30,19 +31,19 @@ use Rattle.buffer.proofs.MaskWalk.{Left, Next, next}
 use Rattle.report.specs.declared.Heard.{Heard}
 use Rattle.report.specs.declared.Heard.the-variants.{Itself, Through}
 use Rattle.report.specs.declared.Parent.{Parent}
-use Rattle.report.specs.Clock.{timesOf, HeardAt, parentsListed, markAt, NextParent}
+use Rattle.report.specs.Clock.{timesOf, HeardAt, parentsListed, separatorAt, NextParent}
 use Rattle.report.specs.Most.{clockMost}
 use Rattle.report.specs.Parts.{after}
 use Rattle.report.specs.Wrote.{Wrote}
 use Rattle.report.proofs.PartsLaws.{spaced-after}
 use Rattle.report.proofs.WroteLaws.{Writing, wrote-most, writing-of, writing-start, writing-on, writing-as, writing-last}
 
-pub mark-first : (place : ℕ) → place ≡ 0 → 91 ≡ markAt place
-mark-first place e = rw e
+pub separator-first : (place : ℕ) → place ≡ 0 → 91 ≡ separatorAt place
+separator-first place e = rw e
 
-pub mark-later : (place : ℕ) → place ≢ 0 → 32 ≡ markAt place
-mark-later zero h = absurd (h refl)
-mark-later (suc place) h = refl
+pub separator-later : (place : ℕ) → place ≢ 0 → 32 ≡ separatorAt place
+separator-later zero h = absurd (h refl)
+separator-later (suc place) h = refl
 
 -- ---- the channels from a place on
 
@@ -108,16 +109,11 @@ module _ (s : List ℕ) (n : ℕ) (ready : Ready s) where
   times-long (Through c) x =
       heard-long s (ready .fits) c (x .0) ∙ sym (heard-entering s c (record { ready = ready; below = x .0 })) ∙ ap (λ (k : ℕ). length (entering (planOf s) k)) (x .1)
 
-  map-at : (f : ℕ → ℕ) (xs : List ℕ) (i : ℕ) → i < length xs → getD (map f xs) i 0 ≡ f (getD xs i 0)
-  map-at f [] i h = let no : ⊥ = omega arith in absurd no
-  map-at f (x ∷ xs) zero h = refl
-  map-at f (x ∷ xs) (suc i) h = map-at f xs i (omega arith)
-
   pub own-time : (h : Heard) (place b : ℕ) → h ≡ Itself → place < length (entering (planOf s) n) → getD (entering (planOf s) n) place 0 ≡ b → laneAt (lineOf s) b .taken ≡ getD (timesOf (lineOf s) n h) place 0
   unfolding timesOf
   own-time h place b e inside is =
       let taken : ℕ → ℕ = λ (b : ℕ). laneAt (lineOf s) b .taken in
-      rw e (ap taken (sym is) ∙ sym (map-at taken those place inside) ∙ ap (λ (bs : List ℕ). getD (map taken bs) place 0) (sym listed-same))
+      rw e (ap taken (sym is) ∙ sym (map-at taken those place 0 0 inside) ∙ ap (λ (bs : List ℕ). getD (map taken bs) place 0) (sym listed-same))
 
   pub heard-time : (h : Heard) (place c : ℕ) → h ≡ Through c → getD (laneAt (lineOf s) c .heard) place 0 ≡ getD (timesOf (lineOf s) n h) place 0
   unfolding timesOf
@@ -135,7 +131,7 @@ through-at s n holds h place c e x inside =
 -- Each behind what stands before it.
 abbrev pub partsFrom : ℕ → List (List ℕ) → List ℕ
 partsFrom place [] = []
-partsFrom place (w ∷ ws) = (markAt place ∷ []) ++ (w ++ partsFrom (suc place) ws)
+partsFrom place (w ∷ ws) = (separatorAt place ∷ []) ++ (w ++ partsFrom (suc place) ws)
 
 parts-after : (place : ℕ) (ws : List (List ℕ)) → partsFrom (suc place) ws ≡ after ws
 parts-after place [] = refl
@@ -172,10 +168,10 @@ module _ (l : Line) (layers n t : ℕ) (ts : List ℕ) where
     pub listed-parts : 0 < length (entering (l .plan) n) → listed l (suc layers) n t ts ≡ nodeAndTime n t ++ rest 0
     listed-parts h = ap (λ (x : List ℕ). nodeAndTime n t ++ x) (rw (zip-at 0 h) (brackets (part (getD channels 0 0) (getD ts 0 0)) (zipWith part (drop 1 channels) (drop 1 ts))))
 
-    pub rest-at : (place : ℕ) → place < length (entering (l .plan) n) → rest place ≡ (markAt place ∷ []) ++ (part (getD (entering (l .plan) n) place 0) (getD ts place 0) ++ rest (suc place))
+    pub rest-at : (place : ℕ) → place < length (entering (l .plan) n) → rest place ≡ (separatorAt place ∷ []) ++ (part (getD (entering (l .plan) n) place 0) (getD ts place 0) ++ rest (suc place))
     rest-at place h =
         ap (λ (ws : List (List ℕ)). partsFrom place ws ++ 93 ∷ []) (zip-at place h)
-        ∙ ap (λ (x : List ℕ). markAt place ∷ x) (append-assoc (part (getD channels place 0) (getD ts place 0)) (partsFrom (suc place) (zipWith part (drop (suc place) channels) (drop (suc place) ts))) (93 ∷ []))
+        ∙ ap (λ (x : List ℕ). separatorAt place ∷ x) (append-assoc (part (getD channels place 0) (getD ts place 0)) (partsFrom (suc place) (zipWith part (drop (suc place) channels) (drop (suc place) ts))) (93 ∷ []))
 
     pub rest-none : (place : ℕ) → length (entering (l .plan) n) ≤ place → rest place ≡ 93 ∷ []
     unfolding zipWith
@@ -268,8 +264,8 @@ module _ (s : List ℕ) (n t : ℕ) (h : Heard) (node : AtNode s n) (heard : Hea
       pub listing-four : place ≤ 4
       listing-four = omega (arith, x .few, four)
 
-      pub listing-mark : to < length now
-      listing-mark = omega (arith, space 0 (omega (arith, listing-four)), zero-mul (1 + clockMost k))
+      pub listing-separator : to < length now
+      listing-separator = omega (arith, space 0 (omega (arith, listing-four)), zero-mul (1 + clockMost k))
 
       pub listing-room : place < length (entering (planOf s) n) → to + 1 + clockMost (layers - 1) ≤ length now
       listing-room p = omega (arith, space 1 (omega (arith, four)), one-mul (1 + clockMost k))

@@ -21,6 +21,16 @@ wrote-at most s at text t r e f m w =
 pub wrote-most : {most : ℕ} {s : List ℕ} {at : ℕ} {text t : List ℕ} {r : ℕ} (k : ℕ) → length text ≤ k → Wrote most s at text t r → Wrote k s at text t r
 wrote-most k h w = record { left = w .left; end = w .end; short = h; within = w .within; same = w .same }
 
+-- One text behind another.
+pub wrote-then : {a b : ℕ} {s : List ℕ} {at : ℕ} {x t : List ℕ} {p : ℕ} {y u : List ℕ} {q : ℕ} → Wrote a s at x t p → Wrote b t p y u q → Wrote (a + b) s at (x ++ y) u q
+wrote-then {a} {b} {s} {at} {x} {t} {p} {y} {u} {q} v w =
+    let long : length (x ++ y) ≡ length x + length y = length-append x y in
+    wrote-at (a + b) s at (x ++ y) u q
+    (w .left ∙ ap (λ (z : List ℕ). put z p y) (v .left) ∙ put-behind s at x p y (omega (arith, v .end, v .within)) (v .end))
+    (omega (arith, v .end, w .end, long))
+    (omega (arith, v .short, w .short, long))
+    (omega (arith, w .within, v .same))
+
 -- ---- a text being written: what is done of it, and what is left
 
 pub record Writing (whole s : List ℕ) (at done : ℕ) (t : List ℕ) (p : ℕ) (rest : List ℕ) : Type 0 where
@@ -40,17 +50,10 @@ pub writing-start : (whole s : List ℕ) (at : ℕ) → at ≤ length s → Writ
 writing-start whole s at h = writing-of s at refl h
 
 pub writing-on : {whole s : List ℕ} {at done : ℕ} {t : List ℕ} {p most : ℕ} {part u : List ℕ} {q : ℕ} {rest left : List ℕ} → rest ≡ part ++ left → Writing whole s at done t p rest → Wrote most t p part u q → Writing whole s at (done + most) u q left
-writing-on {whole} {s} {at} {done} {t} {p} {most} {part} {u} {q} {rest} {left} e w x =
-    let v : Wrote done s at (w .text) t p = w .wrote in
-    let long : length (w .text ++ part) ≡ length (w .text) + length part = length-append (w .text) part in
-    let here : at ≤ length s = omega (arith, v .end, v .within) in
+writing-on {part = part} {left = left} e w x =
     record {
       text = w .text ++ part;
-      wrote = wrote-at (done + most) s at (w .text ++ part) u q
-          (x .left ∙ ap (λ (y : List ℕ). put y p part) (v .left) ∙ put-behind s at (w .text) p part here (v .end))
-          (omega (arith, x .end, v .end, long))
-          (omega (arith, v .short, x .short, long))
-          (omega (arith, x .within, v .same));
+      wrote = wrote-then (w .wrote) x;
       splits = w .splits ∙ ap (λ (y : List ℕ). w .text ++ y) e ∙ sym (append-assoc (w .text) part left);
     }
 

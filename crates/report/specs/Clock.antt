@@ -28,9 +28,9 @@ parentsListed l zero n = []
 parentsListed l (suc layers) n = entering (l .plan) n
 
 -- What stands before the parent at a place: a bracket before the first, else a space.
-abbrev pub markAt : ℕ → ℕ
-markAt zero = 91
-markAt (suc place) = 32
+abbrev pub separatorAt : ℕ → ℕ
+separatorAt zero = 91
+separatorAt (suc place) = 32
 
 -- The parent at a place, with what stands before it written.
 pub record NextParent (s : List ℕ) (n : ℕ) (h : Heard) (place : ℕ) (out : List ℕ) (at : ℕ) (t : List ℕ) (r : Parent) : Type 0 where
@@ -41,4 +41,4 @@ pub record NextParent (s : List ℕ) (n : ℕ) (h : Heard) (place : ℕ) (out : 
   pub known : r .node < planNodes s
   pub time : r .time ≡ getD (timesOf (lineOf s) n h) place 0
   pub left : r .left ≡ maskOf (drop (suc place) (entering (planOf s) n))
-  pub wrote : Wrote 1 out at (markAt place ∷ []) t (r .start)
+  pub wrote : Wrote 1 out at (separatorAt place ∷ []) t (r .start)

@@ -1,11 +1,10 @@
 -- The text of a node in the parts that it is written in.
-use Prim.Native.Nat.{ℕ, zero, suc}
-use mathlib.Core.List.{List, [], _∷_, _++_, map, zipWith}
+use Prim.Native.Nat.{ℕ}
+use mathlib.Core.List.{List, [], _∷_, _++_, map}
 use Rattle.plan.specs.declared.Record.{Record}
-use Rattle.plan.specs.Plan.{entering}
 use Rattle.rules.specs.Lists.{joined}
-use Rattle.rules.specs.Line.{Origin, Line, nodeAt, laneAt, senderOf}
-use Rattle.rules.specs.Sheet.{decimal, textLine, statusWord, originWords, entryLine, clockText, nodeAndTime, listed}
+use Rattle.rules.specs.Line.{Origin, Line, nodeAt}
+use Rattle.rules.specs.Sheet.{decimal, textLine, statusWord, originWords, entryLine, clockText}
 
 -- Words, each behind a space.
 abbrev pub after : List (List ℕ) → List ℕ

@@ -8,7 +8,7 @@ ghost use Rattle.plan.specs.Mask.{maskOf};
 ghost use Rattle.rules.specs.Sheet.{nodeAndTime, listed as Sheet·listed};
 ghost use Rattle.state.specs.State.{lineOf};
 ghost use Rattle.buffer.specs.Holds.{AtNode, AtLane};
-ghost use Rattle.report.specs.Clock.{timesOf, HeardAt, markAt, parentsListed, NextParent};
+ghost use Rattle.report.specs.Clock.{timesOf, HeardAt, separatorAt, parentsListed, NextParent};
 ghost use Rattle.report.specs.Most.{clockMost};
 ghost use Rattle.report.specs.Wrote.{Wrote};
 use crate::Heard;
@@ -22,7 +22,7 @@ fn node_and_time(n: usize, t: u32, out: &mut [u8], at: usize) -> usize
     ensures { λ r. ⌜ Wrote 21 (now (out .entry)) at (nodeAndTime n t) (now (out .exit)) r ⌝ }
 {
     let next = text::decimal(out, at, n as u64);
-    text::number(out, next, b':', t)
+    text::byte_and_number(out, next, b':', t)
 }
 
 // The entry for the parent at a place, whose channel is the one at that place among those that enter the node.
@@ -37,8 +37,8 @@ fn parent_time(s: &[u8], n: usize, h: Heard, b: usize, place: usize) -> u32
 }
 
 // What stands before the parent at a place.
-fn mark(place: usize) -> u8
-    ensures { λ r. ⌜ r ≡ markAt place ⌝ }
+fn separator(place: usize) -> u8
+    ensures { λ r. ⌜ r ≡ separatorAt place ⌝ }
 {
     if place == 0 { b'[' } else { b' ' }
 }
@@ -68,7 +68,7 @@ fn next_parent(
     requires { ⌜ AtNode (now s) n × HeardAt (now s) n h × (left ≡ maskOf (drop place (entering (planOf (now s)) n))) × (left ≢ 0) × (at < length (now out)) ⌝ }
     ensures { λ r. ⌜ NextParent (now (s .entry)) n h place (now (out .entry)) at (now (out .exit)) r ⌝ }
 {
-    let start = text::byte(out, at, mark(place));
+    let start = text::byte(out, at, separator(place));
     let b = plan::masks::mask_next(left);
     let channel = bytes::size(b);
     Parent {

@@ -4,7 +4,7 @@ ghost use lib.ListN.{length};
 ghost use Rattle.rules.specs.Sheet.{opening as Sheet·opening, answerLine, lineText};
 ghost use Rattle.state.specs.State.{lineOf};
 ghost use Rattle.buffer.specs.Holds.{Holds};
-ghost use Rattle.report.specs.Most.{openingMost, answerMost, nodeMost, textMost};
+ghost use Rattle.report.specs.Most.{openingMost, answerMost, textMost};
 ghost use Rattle.report.specs.Wrote.{Wrote};
 use buffer::look;
 
@@ -27,11 +27,6 @@ pub struct Parent {
     pub start: usize,
 }
 
-// How much space the text of all nodes can take, and that of an answer (`textMost`, `answerMost`).
-pub const TEXT_MOST: usize = 66_672;
-
-pub const ANSWER_MOST: usize = 34;
-
 // "The sheet opens with the fixed line LINE 1."
 pub fn opening(out: &mut [u8], at: usize) -> usize
     requires { ⌜ at + openingMost ≤ length (now out) ⌝ }
@@ -48,7 +43,7 @@ pub fn answer_line(out: &mut [u8], at: usize, frame: u64, answer: u32) -> usize
     let word = text::byte(out, at, b'A');
     let first = text::byte(out, word, b' ');
     let second = text::decimal(out, first, frame);
-    let last = text::number(out, second, b' ', answer);
+    let last = text::byte_and_number(out, second, b' ', answer);
     text::byte(out, last, b'\n')
 }
 

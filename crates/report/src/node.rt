@@ -39,9 +39,9 @@ fn head_line(s: &[u8], n: usize, out: &mut [u8], at: usize) -> usize
     ensures { λ r. ⌜ Wrote headMost (now (out .entry)) at (headLine (lineOf (now (s .entry))) n) (now (out .exit)) r ⌝ }
 {
     let first = text::byte(out, at, b'N');
-    let second = text::number(out, first, b' ', n as u32);
+    let second = text::byte_and_number(out, first, b' ', n as u32);
     let third = status_word(s, n, out, second);
-    let last = text::number(out, third, b' ', node_fields::time_of(s, n));
+    let last = text::byte_and_number(out, third, b' ', node_fields::time_of(s, n));
     text::byte(out, last, b'\n')
 }
 
@@ -54,8 +54,8 @@ fn origin_words(m: Made, out: &mut [u8], at: usize) -> usize
         return text::word(out, at, b" - -");
     }
     let sender = bytes::wide32(m.from - 1);
-    let next = text::number(out, at, b' ', sender);
-    text::number(out, next, b' ', m.time)
+    let next = text::byte_and_number(out, at, b' ', sender);
+    text::byte_and_number(out, next, b' ', m.time)
 }
 
 // piece, material, mass, each behind a space
@@ -63,9 +63,9 @@ fn record_words(r: Record, out: &mut [u8], at: usize) -> usize
     requires { ⌜ at + 33 ≤ length (now out) ⌝ }
     ensures { λ e. ⌜ Wrote 33 (now (out .entry)) at (recordAfter r) (now (out .exit)) e ⌝ }
 {
-    let second = text::number(out, at, b' ', r.piece);
-    let third = text::number(out, second, b' ', bytes::wide32(r.material));
-    text::number(out, third, b' ', r.mass as u32)
+    let second = text::byte_and_number(out, at, b' ', r.piece);
+    let third = text::byte_and_number(out, second, b' ', bytes::wide32(r.material));
+    text::byte_and_number(out, third, b' ', r.mass as u32)
 }
 
 // "a line `L` per log entry"
@@ -74,8 +74,8 @@ fn entry_line(n: usize, e: Logged, out: &mut [u8], at: usize) -> usize
     ensures { λ r. ⌜ Wrote entryMost (now (out .entry)) at (entryLine n (entryIs e)) (now (out .exit)) r ⌝ }
 {
     let first = text::byte(out, at, b'L');
-    let second = text::number(out, first, b' ', n as u32);
-    let third = text::number(out, second, b' ', e.time);
+    let second = text::byte_and_number(out, first, b' ', n as u32);
+    let third = text::byte_and_number(out, second, b' ', e.time);
     let fourth = origin_words(e.made, out, third);
     let last = record_words(e.what, out, fourth);
     text::byte(out, last, b'\n')

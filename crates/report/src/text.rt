@@ -57,7 +57,7 @@ pub fn decimal(out: &mut [u8], at: usize, n: u64) -> usize
 }
 
 // A byte, and a number behind it.
-pub fn number(out: &mut [u8], at: usize, b: u8, n: u32) -> usize
+pub fn byte_and_number(out: &mut [u8], at: usize, b: u8, n: u32) -> usize
     requires { ⌜ at + (1 + numberMost) ≤ length (now out) ⌝ }
     ensures { λ r. ⌜ Wrote (1 + numberMost) (now (out .entry)) at (b ∷ Sheet·decimal n) (now (out .exit)) r ⌝ }
 {

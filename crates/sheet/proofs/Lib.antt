@@ -1,2 +1,3 @@
 -- What a turn rests on.
+pub mod GotLaws
 pub mod TurnLaws

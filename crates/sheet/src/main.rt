@@ -3,7 +3,7 @@ ghost use mathlib.Core.Path.{_≡_};
 ghost use Prim.Native.Nat.{_≤_};
 ghost use lib.ListN.{length};
 ghost use Rattle.stream.specs.Reader.{windowSize};
-ghost use Rattle.sheet.specs.Turned.{ReadBehind, Between, Turned};
+ghost use Rattle.sheet.specs.Turned.{gotOf, ReadBehind, isEnded, Between, Turned};
 use buffer::Line;
 use libc::STDERR_FILENO;
 use libc::STDIN_FILENO;
@@ -29,20 +29,26 @@ pub enum Next {
     Stop,
 }
 
+// What a read's answer says, and so many bytes that came.
+fn got_of(answer: isize, n: usize) -> Got
+    ensures { λ r. ⌜ r ≡ gotOf answer n ⌝ }
+{
+    if answer < 0 {
+        return Got::Failed;
+    }
+    if n == 0 {
+        return Got::End;
+    }
+    Got::Bytes(n)
+}
+
 // One read, behind the bytes that are kept, which stay.
 fn read_behind(window: &mut [u8], have: usize) -> Got
     requires { ⌜ (have ≤ length (now window)) × (length (now window) ≡ windowSize) ⌝ }
     ensures { λ r. ⌜ ReadBehind (now (window .entry)) have (now (window .exit)) r ⌝ }
 {
-    let got = libc::read(STDIN_FILENO, &mut window[have..]);
-    if got < 0 {
-        return Got::Failed;
-    }
-    let n = io::count(got, &window[have..]);
-    if n == 0 {
-        return Got::End;
-    }
-    Got::Bytes(n)
+    let answer = libc::read(STDIN_FILENO, &mut window[have..]);
+    got_of(answer, io::count(answer, &window[have..]))
 }
 
 // The text that was written, to standard output; no call is made for none.
@@ -57,10 +63,13 @@ fn write(out: &[u8], wrote: usize) -> bool
 }
 
 // "and no more", "ends reading"
-fn is_ended(phase: Phase) -> bool {
+fn is_ended(phase: Phase) -> bool
+    ensures { λ r. ⌜ r ≡ isEnded phase ⌝ }
+{
     match phase {
+        Phase::Planning => false,
+        Phase::Framing => false,
         Phase::Ended => true,
-        Phase::Planning | Phase::Framing => false,
     }
 }
 
@@ -73,7 +82,7 @@ fn turn(
     out: &mut [u8; OUT],
 ) -> Next
     requires { ⌜ Between reader left (now state) × (windowSize ≤ left) ⌝ }
-    ensures { λ r. ⌜ Turned r left (now (state .exit)) ⌝ }
+    ensures { λ r. ⌜ Turned reader (now (state .entry)) (now (window .entry)) left r (now (state .exit)) (now (window .exit)) ⌝ }
 {
     let have = reader.have;
     let got = read_behind(window, have);

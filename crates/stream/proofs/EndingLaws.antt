@@ -12,7 +12,7 @@ use lib.Dec.{leb, ltb}
 use lib.ListN.{length, take, drop, take-append-drop}
 use lib.Seq.{slice, take-append-seam, length-take-le}
 use Rattle.basics.specs.Bools.{both-true}
-use Rattle.basics.specs.Put.{put, put-none}
+use Rattle.basics.specs.Put.{put, put-none, put-front}
 use Rattle.rules.specs.Sheet.{answerLine, lineText, lengthField, framesText}
 use Rattle.rules.specs.Line.{Line}
 use Rattle.state.specs.State.{lineOf}
@@ -25,16 +25,6 @@ use Rattle.stream.specs.Frames.{FrameSize, Workable, Going}
 use Rattle.stream.proofs.ReadingLaws.{Front, short, few, part, frame, front, is-short, told-short, told-few, told-part, text-none, text-short, text-few, text-part}
 use Rattle.stream.proofs.WindowLaws.{part-long}
 use Rattle.stream.proofs.GoingLaws.{wrote-behind}
-
--- ---- what is kept
-
-pub put-front : (w s : List ℕ) → take (length s) (put w 0 s) ≡ s
-unfolding put
-put-front w s = take-append-seam s (drop (0 + length s) w)
-
-pub put-same : (w : List ℕ) (n : ℕ) → n ≤ length w → w ≡ put w 0 (take n w)
-unfolding put
-put-same w n h = rw (length-take-le n w h, zero-add) (sym (take-append-drop n w))
 
 -- What was told, said of another that is the same.
 pub gave-of : {told told′ : Told} {most : ℕ} {s w o state window out : List ℕ} {r : Reader} → told′ ≡ told → Gave told most s w o state window out r → Gave told′ most s w o state window out r

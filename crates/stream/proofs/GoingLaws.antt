@@ -21,7 +21,7 @@ use Rattle.step.specs.Stepped.{Stepped}
 use Rattle.line.proofs.StepLaws.{step-number}
 use Rattle.report.specs.Most.{answerMost}
 use Rattle.report.specs.Wrote.{Wrote}
-use Rattle.report.proofs.WroteLaws.{wrote-at}
+use Rattle.report.proofs.WroteLaws.{wrote-at, wrote-most, wrote-then}
 use Rattle.stream.specs.Reading.{Told, before, framesTold}
 use Rattle.stream.specs.Reader.{outSize}
 use Rattle.stream.specs.Frames.{FrameSize, Workable, Going}
@@ -35,13 +35,7 @@ wrote-none most o = wrote-at most o 0 [] o 0 (sym (put-none o 0)) refl (omega ar
 
 -- A text behind another, both within the output.
 pub wrote-behind : {a b : ℕ} {o : List ℕ} {at : ℕ} {x t : List ℕ} {p : ℕ} {y u : List ℕ} {q : ℕ} (most : ℕ) → Wrote a o at x t p → Wrote b t p y u q → length o ≤ most → Wrote most o at (x ++ y) u q
-wrote-behind {a} {b} {o} {at} {x} {t} {p} {y} {u} {q} most v w h =
-    let long : length (x ++ y) ≡ length x + length y = length-append x y in
-    wrote-at most o at (x ++ y) u q
-    (w .left ∙ ap (λ (s : List ℕ). put s p y) (v .left) ∙ put-behind o at x p y (omega (arith, v .end, v .within)) (v .end))
-    (omega (arith, v .end, w .end, long))
-    (omega (arith, v .end, w .end, w .within, v .same, long))
-    (omega (arith, w .within, v .same))
+wrote-behind {x = x} {y = y} most v w h = let both = wrote-then v w in wrote-most most (omega (arith, both .end, both .within)) both
 
 -- ---- working
 

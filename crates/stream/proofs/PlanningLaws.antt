@@ -7,7 +7,7 @@ use mathlib.Core.Option.{Option, none}
 use native.Mathlib.Omega.{arith}
 use lib.ListN.{length, take, drop}
 use lib.Seq.{slice, take-take, length-take-le}
-use Rattle.basics.specs.Put.{put-none}
+use Rattle.basics.specs.Put.{put-none, put-same}
 use Rattle.plan.specs.Layout.{spelled}
 use Rattle.plan.specs.Lawful.{Bytes}
 use Rattle.plan.specs.Plan.{planOf}
@@ -30,7 +30,7 @@ use Rattle.stream.specs.Frames.{PlanSize, Loadable, Workable}
 use Rattle.stream.proofs.ReadingLaws.{plan-told-few, plan-told-part, plan-told-whole, told-accepted, told-refused, text-accepted, text-refused, left-same, zero-or-not}
 use Rattle.stream.proofs.WindowLaws.{part-field}
 use Rattle.stream.proofs.GoingLaws.{wrote-none}
-use Rattle.stream.proofs.EndingLaws.{put-same, gave-of}
+use Rattle.stream.proofs.EndingLaws.{gave-of}
 
 pub size-within : (w : List ℕ) (end : ℕ) → end ≤ length w → {n : ℕ} → PlanSize (take end w) n → n ≤ end
 size-within w end h size = omega (arith, size .within, length-take-le end w h)

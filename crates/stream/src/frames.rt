@@ -8,6 +8,7 @@ ghost use Rattle.plan.specs.Layout.{spelled};
 ghost use Rattle.stream.specs.Reading.{tooShort};
 ghost use Rattle.stream.specs.Frames.{FrameSize, PlanSize, Workable, AllWorked};
 use buffer::bytes;
+use frame::HEAD;
 
 // Up to which place frames were worked, the next one's number, and how many bytes were written.
 pub struct Worked {
@@ -16,21 +17,12 @@ pub struct Worked {
     pub wrote: usize,
 }
 
-// "A frame length field .. under 5"
-const HEAD: usize = 5;
-
-fn size_of(n: u16) -> usize
-    ensures { λ r. ⌜ r ≡ n ⌝ }
-{
-    n as usize
-}
-
 // A length field.
 pub fn field(window: &[u8], at: usize) -> usize
     requires { ⌜ at + 2 ≤ length (now window) ⌝ }
     ensures { λ r. ⌜ (r ≡ spelled 0 (take 2 (drop at (now (window .entry))))) × (r ≤ 65535) ⌝ }
 {
-    size_of(bytes::get16(window, at))
+    plan::bytes::count_of(bytes::get16(window, at))
 }
 
 // How long the whole frame at a place is, 0 where none stands there.

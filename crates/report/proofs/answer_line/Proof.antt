@@ -30,7 +30,7 @@ returns c =
     (writing-on refl (writing-of (a .out .now) (a .at) (answer-parts (a .frame) (a .answer)) (omega (arith, start .pre))) (first .byte .ensures))
     (second .byte2 .ensures))
     (third .decimal .ensures))
-    (fourth .number .ensures))
+    (fourth .byte-and-number .ensures))
     (fifth .byte3 .ensures)
 
 pub answer-line-spec : {M : Type 1} → statement M

@@ -1,7 +1,10 @@
 -- Lists joined at their ends, and selections from them.
+use Prim.Native.Nat.{ℕ, zero, suc, _<_}
 use mathlib.Core.Path.{_≡_, refl, sym, ap, _∙_}
 use mathlib.Core.Bool.{Bool, true, false, true≢false}
 use mathlib.Core.List.{List, [], _∷_, _++_, map, append-nil, append-cancel-left}
+use native.Mathlib.Omega.{arith}
+use lib.ListN.{length, getD}
 use Rattle.rules.specs.Lists.{keep, keepOne, isEmpty}
 
 pub nil-right : {A : Type 0} (xs : List A) → xs ++ [] ≡ xs
@@ -84,3 +87,9 @@ module _ {A : Type 0} (f g : A → Bool) where
       one true false d e q = absurd (true≢false (sym (h x d) ∙ e))
       one false true d e q = rw d q
       one false false d e q = q
+
+-- What is made of the thing at a place.
+pub map-at : {A B : Type 0} (f : A → B) (xs : List A) (i : ℕ) (d : A) (e : B) → i < length xs → getD (map f xs) i e ≡ f (getD xs i d)
+map-at f [] i d e h = let no : ⊥ = omega arith in absurd no
+map-at f (x ∷ xs) zero d e h = refl
+map-at f (x ∷ xs) (suc i) d e h = map-at f xs i d e (omega arith)

@@ -13,6 +13,7 @@ use Rattle.plan.specs.Check.{planRefusal, planFits}
 use Rattle.plan.proofs.FitsLaws.{accepted-fits}
 use Rattle.rules.specs.Line.{Node, Line, freshNode, noLane, freshLane, initialLine, nodeAt, laneAt, parents}
 use Rattle.rules.specs.Damaged.{damaged}
+use Rattle.rules.proofs.lists.ListLaws.{map-at}
 use Rattle.rules.proofs.lists.Rising.{none, none-in}
 use Rattle.rules.proofs.lists.Members.{In, in-none, in-first}
 use Rattle.rules.proofs.invariant.InvLaws.{up-not-replay}
@@ -22,11 +23,6 @@ use Rattle.rules.proofs.undamaged.Undamaged.{ordered-fit, sound-undamag
 pub replicate-in : {A : Type 0} (n : ℕ) (x : A) {y : A} → In y (replicate n x) → y ≡ x
 replicate-in zero x i = absurd (in-none i)
 replicate-in (suc n) x i = elim (in-first i) [ inl q ↦ q | inr j ↦ replicate-in n x j ]
-
-map-at : {A B : Type 0} (f : A → B) (xs : List A) (i : ℕ) (d : A) (e : B) → i < length xs → getD (map f xs) i e ≡ f (getD xs i d)
-map-at f [] i d e h = let no : ⊥ = omega arith in absurd no
-map-at f (x ∷ xs) zero d e h = refl
-map-at f (x ∷ xs) (suc i) d e h = map-at f xs i d e (omega arith)
 
 -- A channel with nothing on it, marked and taken up to a time.
 pub fresh-fits : (p : Plan) (steps b t : ℕ) → t ≤ steps → LaneFits p steps b (freshLane p (channelAt p b) t)

@@ -22,13 +22,15 @@ loop-less : tie.Need-loop-less Inv-loop μ-loop
 loop-less c =
     let turned = c .before .before .before in
     let t = c .before .t .given in
-    turned-on (t .0 .0) (t .0 .1 .0) (turned .before .before .before .before .before .loop .left) (turned .turn .last .1 .1 .0) (t .1) (turned .turn .ensures) .1
+    let v = turned .before .before .before .before .before .loop in
+    turned-on (v .reader) (v .state) (v .window) (v .left) (t .0 .0) (t .0 .1 .0) (turned .turn .last .1 .1 .0) (turned .turn .last .1 .1 .1 .0) (t .1) (turned .turn .ensures) .1
 
 loop-again : tie.Need-loop-again Inv-loop μ-loop
 loop-again c =
     let turned = c .before .before .before in
     let t = c .before .t .given in
-    turned-on (t .0 .0) (t .0 .1 .0) (turned .before .before .before .before .before .loop .left) (turned .turn .last .1 .1 .0) (t .1) (turned .turn .ensures) .0
+    let v = turned .before .before .before .before .before .loop in
+    turned-on (v .reader) (v .state) (v .window) (v .left) (t .0 .0) (t .0 .1 .0) (turned .turn .last .1 .1 .0) (turned .turn .last .1 .1 .1 .0) (t .1) (turned .turn .ensures) .0
 
 pub run-spec : {M : Type 1} → statement M
 run-spec =

@@ -26,8 +26,11 @@ returns c =
     let read = got .before .before in
     let start = read .before .before in
     let within = bytes-within (got .got .given .0 .0) (start .args .reader .have) (got .got .given .1) (read .read-behind .ensures .within) in
-    let g = block .take-block .ensures in
-    (record { holding = g .holding; room = g .room; few = omega (arith, within, g .counted, start .pre) }, omega (arith, within, start .pre .1))
+    let g = block .take-block .ensures in (
+      record { holding = g .holding; room = g .room; few = omega (arith, within, g .counted, start .pre) },
+      omega (arith, within, start .pre .1),
+      record { came = read .read-behind .last .0; n = got .got .given .0 .0; kept = read .read-behind .ensures .kept; reading = g .next },
+    )
 
 pub turn-spec : {M : Type 1} → statement M
 turn-spec =

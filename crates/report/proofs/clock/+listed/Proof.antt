@@ -3,7 +3,7 @@ use mathlib.Core.Path.{refl, sym, subst, _∙_}
 use native.Mathlib.Omega.{arith}
 use borrow.Fn.Kinds.{In}
 use borrow.Fn.PlainCycle.{Measures, is, falls, and}
-use Rattle.report.proofs.ClockLaws.{Listing, listing-none, listing-start, listing-four, listing-mark, listing-room, listing-same, listing-less, listing-turn, listing-end, node-few, root-most}
+use Rattle.report.proofs.ClockLaws.{Listing, listing-none, listing-start, listing-four, listing-separator, listing-room, listing-same, listing-less, listing-turn, listing-end, node-few, root-most}
 use Rattle.report.proofs.clock.listed.Reads as listed
 use Rattle.report.proofs.clock.listed.Kinds as listed-kinds
 use Rattle.report.proofs.clock.+listed.Lts-listed as listed-lts
@@ -59,7 +59,7 @@ listed-next-parent-requires t c κs =
     let a = start .args in
     let root = c .before .before .before .before .before .before .before .node-and-time in
     let v = c .before .before .loop in
-    (start .pre .1 .0, start .pre .1 .1, v .inv .mask, c .before .loop-test .taken, listing-mark (a .s .now) (a .n) (a .t) (a .h) (start .pre .1 .0) (start .pre .1 .1) (a .out .now) (a .at) (a .layers) (start .pre .1 .2) (root .last .1 .1 .0) (root .result) (root .ensures) (v .out) (v .to) (v .left) (v .place) (v .inv))
+    (start .pre .1 .0, start .pre .1 .1, v .inv .mask, c .before .loop-test .taken, listing-separator (a .s .now) (a .n) (a .t) (a .h) (start .pre .1 .0) (start .pre .1 .1) (a .out .now) (a .at) (a .layers) (start .pre .1 .2) (root .last .1 .1 .0) (root .result) (root .ensures) (v .out) (v .to) (v .left) (v .place) (v .inv))
 
 listed-sub-listed : (t : ℕ) → listed-lts.Need-sub-listed (node-and-time-reads.Asked, node-and-time-reads.Learnt, parents-reads.Asked, parents-reads.Learnt, next-parent-reads.Asked, next-parent-reads.Learnt, listed-below t, listed.Post, byte-reads.Asked, byte-reads.Learnt) (listed-at t) listed.Post Inv-loop μ-loop
 listed-sub-listed t c =
@@ -115,7 +115,7 @@ listed-byte-requires t c κs =
     let a = start .args in
     let root = c .before .before .before .before .before .before .before .node-and-time in
     let v = c .before .before .loop in
-    listing-mark (a .s .now) (a .n) (a .t) (a .h) (start .pre .1 .0) (start .pre .1 .1) (a .out .now) (a .at) (a .layers) (start .pre .1 .2) (root .last .1 .1 .0) (root .result) (root .ensures) (v .out) (v .to) (v .left) (v .place) (v .inv)
+    listing-separator (a .s .now) (a .n) (a .t) (a .h) (start .pre .1 .0) (start .pre .1 .1) (a .out .now) (a .at) (a .layers) (start .pre .1 .2) (root .last .1 .1 .0) (root .result) (root .ensures) (v .out) (v .to) (v .left) (v .place) (v .inv)
 
 listed-same-length-2 : (t : ℕ) → listed-lts.Need-same-length-2 (node-and-time-reads.Asked, node-and-time-reads.Learnt, parents-reads.Asked, parents-reads.Learnt, next-parent-reads.Asked, next-parent-reads.Learnt, listed-below t, listed.Post, byte-reads.Asked, byte-reads.Learnt) (listed-at t) listed.Post Inv-loop μ-loop
 listed-same-length-2 t c =

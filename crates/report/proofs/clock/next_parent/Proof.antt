@@ -51,7 +51,7 @@ returns c =
       known = sender .ensures .1;
       time = c .before .parent-time .ensures;
       left = c .without .ensures ∙ behind-place (a .s .now) (a .n) ready (a .left) (a .place) (first .result) x;
-      wrote = rw (c .before .before .before .before .before .before .before .before .mark .ensures) at (c .before .before .before .before .before .before .before .byte .ensures);
+      wrote = rw (c .before .before .before .before .before .before .before .before .separator .ensures) at (c .before .before .before .before .before .before .before .byte .ensures);
     }
 
 pub next-parent-spec : {M : Type 1} → statement M

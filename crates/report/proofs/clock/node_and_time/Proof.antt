@@ -12,8 +12,8 @@ decimal-requires c κs =
     let start = c .before .before in
     omega (arith, number-few (start .args .n) (omega (arith, start .pre .0)), start .pre .1)
 
-number-requires : tie.Need-number-requires
-number-requires c κs =
+byte-and-number-requires : tie.Need-byte-and-number-requires
+byte-and-number-requires c κs =
     let start = c .before .before .before .before .before .before in
     let d = c .before .before .before .decimal .ensures in
     omega (arith, number-few (start .args .n) (omega (arith, start .pre .0)), start .pre .1, d .end, d .same)
@@ -23,13 +23,13 @@ returns c =
     let start = c .before .before .before .before .before .before .before .before .before in
     let a = start .args in
     let d = wrote-most 10 (number-few (a .n) (omega (arith, start .pre .0))) (c .before .before .before .before .before .before .decimal .ensures) in
-    writing-last (writing-on refl (writing-start (nodeAndTime (a .n) (a .t)) (a .out .now) (a .at) (omega (arith, start .pre .1))) d) (c .before .before .number .ensures)
+    writing-last (writing-on refl (writing-start (nodeAndTime (a .n) (a .t)) (a .out .now) (a .at) (omega (arith, start .pre .1))) d) (c .before .before .byte-and-number .ensures)
 
 pub node-and-time-spec : {M : Type 1} → statement M
 node-and-time-spec =
     tie.close
     (tie.spec
     decimal-requires
-    number-requires
+    byte-and-number-requires
     (λ c. search needs)
     returns)

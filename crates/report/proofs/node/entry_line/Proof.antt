@@ -23,8 +23,8 @@ returns c =
     (writing-on refl
     (writing-on refl
     (writing-on refl (writing-of (a .out .now) (a .at) (entry-parts (a .n) (entryIs (a .e))) (omega (arith, start .pre .1))) (first .byte .ensures))
-    (second .number .ensures))
-    (third .number2 .ensures))
+    (second .byte-and-number .ensures))
+    (third .byte-and-number2 .ensures))
     (fourth .origin-words .ensures))
     (fifth .record-words .ensures))
     (sixth .byte2 .ensures)

@@ -22,9 +22,9 @@ returns c =
     (writing-on refl
     (writing-on refl
     (writing-on refl (writing-of (a .out .now) (a .at) (head-parts (lineOf (a .s .now)) (a .n)) (omega (arith, start .pre .1))) (first .byte .ensures))
-    (second .number .ensures))
+    (second .byte-and-number .ensures))
     (third .status-word .ensures))
-    (rw time at (fourth .number2 .ensures)))
+    (rw time at (fourth .byte-and-number2 .ensures)))
     (fifth .byte2 .ensures)
 
 pub head-line-spec : {M : Type 1} → statement M

@@ -19,8 +19,8 @@ returns-2 c =
     let start = c .before .before .before .before .before .before .before .before .before .before .before .before .before in
     let a = start .args in
     writing-last
-    (writing-on refl (writing-of (a .out .now) (a .at) (origin-some (a .m .from) (a .m .time) (c .before .before .before .before .before .before .before .before .before .before .if1 .left)) (omega (arith, start .pre))) (rw sender at (first .number .ensures)))
-    (second .number2 .ensures)
+    (writing-on refl (writing-of (a .out .now) (a .at) (origin-some (a .m .from) (a .m .time) (c .before .before .before .before .before .before .before .before .before .before .if1 .left)) (omega (arith, start .pre))) (rw sender at (first .byte-and-number .ensures)))
+    (second .byte-and-number2 .ensures)
 
 pub origin-words-spec : {M : Type 1} → statement M
 origin-words-spec =

@@ -16,9 +16,9 @@ returns c =
     let a = start .args in
     writing-last
     (writing-on refl
-    (writing-on refl (writing-of (a .out .now) (a .at) (record-parts (a .r)) (omega (arith, start .pre))) (first .number .ensures))
-    (rw material at (second .number2 .ensures)))
-    (third .number3 .ensures)
+    (writing-on refl (writing-of (a .out .now) (a .at) (record-parts (a .r)) (omega (arith, start .pre))) (first .byte-and-number .ensures))
+    (rw material at (second .byte-and-number2 .ensures)))
+    (third .byte-and-number3 .ensures)
 
 pub record-words-spec : {M : Type 1} → statement M
 record-words-spec =

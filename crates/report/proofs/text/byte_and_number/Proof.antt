@@ -5,8 +5,8 @@ use borrow.Author.Needs.{needs}
 use Rattle.rules.specs.Sheet.{decimal}
 use Rattle.report.proofs.DecimalLaws.{number-few}
 use Rattle.report.proofs.WroteLaws.{wrote-most, writing-start, writing-on, writing-last}
-use Rattle.report.proofs.text.number.Statement.{statement}
-use Rattle.report.proofs.text.number.Tie as tie
+use Rattle.report.proofs.text.byte_and_number.Statement.{statement}
+use Rattle.report.proofs.text.byte_and_number.Tie as tie
 
 decimal-requires : tie.Need-decimal-requires
 decimal-requires c κs =
@@ -23,8 +23,8 @@ returns c =
     let few = wrote-most 10 (number-few (a .n) (omega arith)) d in
     writing-last (writing-on refl (writing-start (a .b ∷ decimal (a .n)) (a .out .now) (a .at) (omega (arith, first .pre))) b) few
 
-pub number-spec : {M : Type 1} → statement M
-number-spec =
+pub byte-and-number-spec : {M : Type 1} → statement M
+byte-and-number-spec =
     tie.close
     (tie.spec
     (λ c κs. search needs)
