@@ -118,10 +118,11 @@ pub fn at_the_limits(random: &mut Random) -> Vec<u8> {
     typed.bytes
 }
 
-/// A long frame within a right sheet, which may end within the frame.
+/// A long frame within a right sheet, or a long plan in front of it; the sheet may
+/// end within either.
 pub fn long_frame(random: &mut Random) -> Vec<u8> {
     let sheet = short(random, 1_000);
-    let at = random.pick(&frame_starts(&sheet));
+    let at = random.pick(&[vec![0], frame_starts(&sheet)].concat());
     let length: u16 = random.pick(&[255, 256, 4_095, 4_096, 4_097, 65_534, 65_535]);
     let mut frame = random.bytes(usize::from(length));
     frame[..2].copy_from_slice(&length.to_be_bytes());

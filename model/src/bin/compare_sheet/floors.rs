@@ -15,7 +15,7 @@ pub mod kind {
     pub const SLIPPED: &str = "typed with slips";
     pub const RAW: &str = "raw bytes";
     pub const LIMITS: &str = "at the limits";
-    pub const LONG: &str = "with a long frame, whole or cut";
+    pub const LONG: &str = "with a long frame or plan, whole or cut";
     pub const CUT: &str = "short ones cut at every byte";
     pub const EDGES: &str = "length fields at their edges";
     pub const MANY: &str = "over 65,536 frames, at every shift";
@@ -23,10 +23,11 @@ pub mod kind {
 }
 
 pub const WHOLE: &str = "in one piece";
-pub const PIECES: [(&str, usize); 4] = [
+pub const PIECES: [(&str, usize); 5] = [
     ("in pieces of 1 byte", 1),
     ("in pieces of 2 bytes", 2),
     ("in pieces of 3 bytes", 3),
+    ("in pieces of 61 bytes", 61),
     ("in pieces of 4,096 bytes", 4_096),
 ];
 

@@ -26,8 +26,8 @@ const LONG: usize = 400;
 /// Short sheets: each is cut at every byte and has its length fields changed.
 const SHORT: usize = 40;
 const SHORT_LENGTH: usize = 160;
-/// No longer sheet is passed in pieces of a few bytes.
-const SMALL_PIECES: usize = 400;
+/// No sheet is passed in more pieces than these.
+const MOST_PIECES: usize = 1_300;
 
 fn main() {
     let built = concat!(env!("CARGO_MANIFEST_DIR"), "/../target/bin/sheet");
@@ -103,7 +103,7 @@ impl Work<'_> {
         let fit: Vec<(&str, usize)> = PIECES
             .into_iter()
             .filter(|&(_, piece)| piece < input.len())
-            .filter(|&(_, piece)| piece > 3 || input.len() <= SMALL_PIECES)
+            .filter(|&(_, piece)| input.len() <= MOST_PIECES * piece)
             .collect();
         self.passed += 1;
         let pieces = fit.get(self.passed % fit.len().max(1));

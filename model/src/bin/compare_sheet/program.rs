@@ -18,11 +18,18 @@ pub fn written(program: &str, sheet: &[u8], piece: usize) -> io::Result<Vec<u8>>
     let mut child = Command::new(program)
         .stdin(Stdio::piped())
         .stdout(Stdio::piped())
+        .stderr(Stdio::piped())
         .spawn()?;
     let mut stdout = child.stdout.take().expect("a pipe");
+    let mut stderr = child.stderr.take().expect("a pipe");
     let reader = thread::spawn(move || {
-        let mut text = Vec::new();
-        stdout.read_to_end(&mut text).map(|_| text)
+        let (mut text, mut told) = (Vec::new(), String::new());
+        stdout.read_to_end(&mut text)?;
+        stderr.read_to_string(&mut told)?;
+        match told.is_empty() {
+            true => Ok(text),
+            false => Err(io::Error::other(told)),
+        }
     });
     match pass(&mut child, sheet, piece) {
         // The program may end with bytes left.
