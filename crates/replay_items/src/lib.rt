@@ -120,7 +120,7 @@ fn time_at(s: &[u8], e: Ending, i: usize) -> u32
 }
 
 // Which target a held record is, else how many there are. No two targets are one record; it is looked for from a place on first, since a row's records come again in the order of their targets.
-fn place_of(s: &[u8], e: Ending, goals: &[u32; 128], h: Waiting, hint: usize) -> usize
+fn target_place(s: &[u8], e: Ending, goals: &[u32; 128], h: Waiting, hint: usize) -> usize
     requires { ⌜ Asked (now s) e × Listed (now goals) (goalSpots (now s) e) ⌝ }
     ensures { λ r. ⌜ getD (nodeAt (lineOf (now (s .entry))) (e .node) .targets) r noTarget .time ≡ fixedAt (nodeAt (lineOf (now (s .entry))) (e .node) .targets) (heldIs h) ⌝ }
 {
@@ -195,7 +195,7 @@ fn gather_one(
         };
     }
     // "A target is fixed at its B-time": 0 for a free record.
-    let at = place_of(s, e, goals, h, hint);
+    let at = target_place(s, e, goals, h, hint);
     let fixed = time_at(s, e, at);
     let floor = floor_with(s, e, h, fixed);
     push(t, k, row, h.time, fixed, floor, i as u32);

@@ -52,7 +52,7 @@ returns-2 c =
     (one-more (lineOf (a .s .now)) (a .e .node) (heldBy (a .s .now) (a .e)) (a .t .now) (a .k) (a .i) (a .parent) (a .row) h (read .held-at .ensures) (first .pre .3)
     (timed .time-at .result) (told .floor-with .result) (eq-eqb (h .sender) (a .parent) own)
     (first .pre .4 (one-own (lineOf (a .s .now)) (a .e .node) (heldBy (a .s .now) (a .e)) (a .t .now) (a .k) (a .i) (a .parent) (a .row) h (read .held-at .ensures) (first .pre .3) own))
-    (timed .time-at .ensures ∙ timed .before .place-of .ensures) (told .floor-with .ensures))
+    (timed .time-at .ensures ∙ timed .before .target-place .ensures) (told .floor-with .ensures))
 
 pub gather-one-spec : {M : Type 1} → statement M
 gather-one-spec =

@@ -3,8 +3,8 @@ use native.Mathlib.Omega.{arith}
 use borrow.Author.Needs.{needs}
 use Rattle.slots.specs.Slots.{heldIs}
 use Rattle.replay_items.proofs.ItemLaws.{sought-found, sought-all}
-use Rattle.replay_items.proofs.place_of.Statement.{statement}
-use Rattle.replay_items.proofs.place_of.Tie as tie
+use Rattle.replay_items.proofs.target_place.Statement.{statement}
+use Rattle.replay_items.proofs.target_place.Tie as tie
 
 returns : tie.Need-returns
 returns c =
@@ -20,8 +20,8 @@ returns-2 c =
     let at = c .seek2 in
     sought-all (a .s .now) (a .e) (start .pre .0) (a .goals .now) (start .pre .1) (heldIs (a .h)) 0 (at .result) (at .ensures) refl
 
-pub place-of-spec : {M : Type 1} → statement M
-place-of-spec =
+pub target-place-spec : {M : Type 1} → statement M
+target-place-spec =
     tie.close
     (tie.spec
     (λ c. search needs)
