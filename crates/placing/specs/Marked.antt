@@ -60,13 +60,19 @@ abbrev columnsFrom : ℕ → ℕ → List ℕ
 columnsFrom zero t = []
 columnsFrom (suc n) t = t ∷ columnsFrom n (suc t)
 
--- The examples in document 01's table of numbers, each before one that is accepted and one in which the next number applies too.
+-- The examples in document 01's table of numbers, each before one that is accepted and one in which the next number applies too; and the limits of 2026-01.
 unfoldable pub numbered : List Case
 numbered =
     -- 22: "65 items"; 64 items; 65 items and no place
     case 0 65 (freeFrom 65 1) (replicate 65 9) 22 (replicate 65 9)
     ∷ case 0 65 (freeFrom 64 1) (replicate 65 9) 0 (columnsFrom 64 1 ++ 9 ∷ [])
     ∷ case 0 65 (freeFrom 65 1) [] 22 []
+    -- "columns, row times and floors rise to 4,000,000": all three there, and each one more
+    ∷ case 3_999_998 4_000_000 (free 0 4_000_000 3_999_999 ∷ []) (9 ∷ []) 0 (4_000_000 ∷ [])
+    ∷ case 3_999_998 4_000_001 (free 0 1 0 ∷ []) (9 ∷ []) 22 (9 ∷ [])
+    ∷ case 3_999_998 4_000_000 (free 0 4_000_001 0 ∷ []) (9 ∷ []) 22 (9 ∷ [])
+    ∷ case 3_999_998 4_000_000 (free 0 1 4_000_001 ∷ []) (9 ∷ []) 22 (9 ∷ [])
+    ∷ case 3_999_998 4_000_000 (free 0 1 4_000_000 ∷ []) (9 ∷ []) 24 (9 ∷ [])
     -- 23: "0 places, 1 item"; 1 place; 0 places, and no placing exists
     ∷ case 0 4 (free 0 1 0 ∷ []) [] 23 []
     ∷ case 0 4 (free 0 1 0 ∷ []) (9 ∷ []) 0 (1 ∷ [])

@@ -10,9 +10,9 @@ use Rattle.placing.specs.Item.{Item, itemsOf}
 abbrev pub mostItems : ℕ
 mostItems = 64
 
--- "high ≤ 1,000,000, row times 1..1,000,000, floors to 1,000,000"
+-- The limit on columns, row times and floors. 2026-01: "the limits of a replay table on columns, row times and floors rise to 4,000,000".
 abbrev pub greatest : ℕ
-greatest = 1_000_000
+greatest = 4_000_000
 
 -- Rows 0..3.
 abbrev pub rowCount : ℕ
@@ -36,7 +36,7 @@ abbrev pub itemsFit : ℕ → ℕ → ℕ → ℕ → List Item → Bool
 itemsFit low high row time [] = true
 itemsFit low high row time (x ∷ xs) = itemFits low high x && comesAfter row time (x .row) (x .time) && itemsFit low high (x .row) (x .time) xs
 
--- "low ≤ high ≤ 1,000,000"
+-- low ≤ high ≤ 4,000,000
 unfoldable pub boundsFit : ℕ → ℕ → Bool
 boundsFit low high = leb low high && leb high greatest
 

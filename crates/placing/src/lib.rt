@@ -15,8 +15,8 @@ ghost use Rattle.placing.specs.Places.{Prepared, PrepareAsks, Aligned, o
 // "at most 64 items"
 const MOST_ITEMS: usize = 64;
 
-// "high ≤ 1,000,000, row times 1..1,000,000, floors to 1,000,000"
-const GREATEST: u32 = 1_000_000;
+// "the limits of a replay table on columns, row times and floors rise to 4,000,000"
+const GREATEST: u32 = 4_000_000;
 
 // Rows 0..3.
 const ROWS: usize = 4;

@@ -10,7 +10,7 @@ use Rattle.plan.specs.Record.{materialFits}
 use Rattle.plan.specs.Plan.{Plan, nodeCount, channelCount, channelAt, entering, isSource, isSink}
 use Rattle.plan.specs.Check.{planFits}
 use Rattle.rules.specs.Lists.{isEmpty, allOf, anyOf, joined}
-use Rattle.rules.specs.Line.{logLimit, queueLimit, heldLimit, targetLimit, stepLimit, Origin, fed, made, Message, Entry, Held, Target, Status, up, down, replay, Node, Lane, Line, nodeAt, laneAt, nodeNumbers, channelNumbersOf, senderOf, receiverOf, parents, isUp, isReplay, acceptedSteps}
+use Rattle.rules.specs.Line.{logLimit, queueLimit, heldLimit, targetLimit, stepLimit, consoleCount, Origin, fed, made, Message, Entry, Held, Target, Status, up, down, replay, Node, Lane, Line, nodeAt, laneAt, nodeNumbers, channelNumbersOf, senderOf, receiverOf, parents, isUp, isReplay, acceptedSteps}
 use Rattle.rules.specs.Recover.{sameTarget}
 use Rattle.rules.specs.Replay.{passedOn, entryAt, heldByRow}
 use Rattle.rules.specs.Step.{endDown, nodeDown, replaying, recoverGives}
@@ -27,11 +27,12 @@ unfoldable pub planBroken : Line → Bool
 unfolding planFits
 planBroken l = not (planFits (l .plan))
 
--- A node for each rule, a lane for each channel, an entry heard for each parent of its sender.
+-- A count for each console, a node for each rule, a lane for each channel, an entry heard for each parent of its sender.
 unfoldable pub misshapen : Line → Bool
 unfolding parents
 misshapen l =
-    not (eqb (length (l .nodes)) (nodeCount (l .plan)))
+    not (eqb (length (l .steps)) consoleCount)
+    || not (eqb (length (l .nodes)) (nodeCount (l .plan)))
     || not (eqb (length (l .lanes)) (channelCount (l .plan)))
     || someChannel l (λ (b : ℕ). not (eqb (length (laneAt l b .heard)) (length (parents (l .plan) (senderOf l b)))))
 
@@ -39,9 +40,9 @@ misshapen l =
 abbrev pub workedOn : Node → List Entry
 workedOn x = x .log ++ map (entryAt 0) (x .held)
 
--- "a number is outside its limits": the steps, the counts and the records.
+-- "a number is outside its limits": the steps of each console, the counts and the records.
 unfoldable pub stepsPast : Line → Bool
-stepsPast l = ltb stepLimit (l .steps)
+stepsPast l = anyOf (ltb stepLimit) (l .steps)
 
 abbrev pub recordPastLimits : Record → Bool
 recordPastLimits r = not (materialFits (r .material) && ltb (r .piece) (2 ^ 32) && ltb (r .mass) (2 ^ 16))
@@ -93,7 +94,7 @@ channelNamedTimes s = joined (map (λ (m : Message). m .time ∷ originTimes (m 
 abbrev pub channelOtherTimes : Lane → List ℕ
 channelOtherTimes s = s .mark ∷ s .taken ∷ s .heard
 
--- "a time exceeds the accepted steps"
+-- "a time exceeds the accepted steps", of all consoles
 unfoldable pub nodeTimePast : ℕ → Node → Bool
 nodeTimePast steps x = anyOf (ltb steps) (nodeNamedTimes x ++ nodeOtherTimes x)
 

@@ -1,4 +1,4 @@
--- Document 01's own examples of the numbers 1 to 7, 9 to 19 and 21, and some of ours that tell readings apart, computed. Its examples of 22 to 24 are in the placing's `Marked`, that of 8 in the state's `Examples`; P9 shows that of 20.
+-- Document 01's own examples of the numbers 1 to 7, 9 to 19 and 21, and some of ours that tell readings apart, those of 2026-01 among them, computed. Its examples of 22 to 24 are in the placing's `Marked`, that of 8 in the state's `Examples`; P9 shows that of 20.
 use Prim.Native.Nat.{ℕ}
 use mathlib.Core.Path.{_≡_, refl}
 use mathlib.Core.List.{List, [], _∷_, _++_, map}
@@ -8,10 +8,10 @@ use Rattle.plan.specs.declared.Rule.the-variants.{Keep}
 use Rattle.plan.specs.Plan.{Plan}
 use Rattle.plan.specs.Check.{planRefusal}
 use Rattle.rules.specs.Lists.{keep, joined}
-use Rattle.rules.specs.Line.{fed, made, Lane, initialLine}
+use Rattle.rules.specs.Line.{fed, made, Lane, initialLine, onlyCount}
 use Rattle.rules.specs.Clock.{raiseHeard, takenFrom}
 use Rattle.rules.specs.Plain.{Receipt}
-use Rattle.rules.specs.Claim.{startOf, storyFrom, told}
+use Rattle.rules.specs.Claim.{Story, startOf, storyFrom, told}
 use Rattle.rules.specs.Marked.{channel, feedFrame, frame, moved, replayPlan, replayBegun, replayAfter}
 
 pub record Example : Type 0 where
@@ -33,30 +33,48 @@ widePlan = 0 ∷ 59 ∷ 1 ∷ 6 ∷ 5 ∷ (replicate 24 0 ++ joined (map wideCha
 unfoldable pub chain : Plan
 chain = record { rules = Keep ∷ Keep ∷ Keep ∷ Keep ∷ []; channels = channel 0 1 65535 ∷ channel 1 2 65535 ∷ channel 2 3 65535 ∷ [] }
 
--- The answers to a list of frames on a plan, from a number of steps on; the same on the chain.
-unfoldable pub answersOn : Plan → ℕ → List (List ℕ) → List ℕ
+-- What a list of frames does on a plan, from a number of steps of each console on; the answers, where console 0 alone has done steps; the same on the chain.
+unfoldable pub storyOn : Plan → List ℕ → List (List ℕ) → Story
 unfolding initialLine told
-answersOn p steps frames =
+storyOn p counts frames =
     let l = initialLine p in
-    storyFrom (startOf (record { plan = l .plan; steps = steps; nodes = l .nodes; lanes = l .lanes })) frames .numbers
+    storyFrom (startOf (record { plan = l .plan; steps = counts; nodes = l .nodes; lanes = l .lanes })) frames
+
+unfoldable pub answersOn : Plan → ℕ → List (List ℕ) → List ℕ
+unfolding storyOn
+answersOn p steps frames = storyOn p (onlyCount steps) frames .numbers
 
 unfoldable pub answers : ℕ → List (List ℕ) → List ℕ
 unfolding chain answersOn
 answers = answersOn chain
 
+-- The answers on the chain and the counts left, one list behind the other.
+unfoldable pub countedFrom : List ℕ → List (List ℕ) → List ℕ
+unfolding chain storyOn
+countedFrom counts frames =
+    let s = storyOn chain counts frames in
+    s .numbers ++ s .line .steps
+
+-- A frame of version 2 of a kind other than Feed, and a Feed.
+abbrev consoleFrame : ℕ → ℕ → ℕ → List ℕ
+consoleFrame c kind number = 0 ∷ 6 ∷ 2 ∷ kind ∷ c ∷ number ∷ []
+
+abbrev consoleFeed : ℕ → ℕ → ℕ → ℕ → List ℕ
+consoleFeed c node piece material = 0 ∷ 14 ∷ 2 ∷ 1 ∷ c ∷ node ∷ 0 ∷ 0 ∷ 0 ∷ piece ∷ material ∷ 0 ∷ 0 ∷ 0 ∷ []
+
 abbrev clockNumbers : Lane → List ℕ
 clockNumbers s = s .mark ∷ s .taken ∷ s .heard
 
 unfoldable pub exampleTable : List Example
-unfolding planRefusal answers answersOn chain initialLine takenFrom replayPlan replayBegun replayAfter told
+unfolding planRefusal answers answersOn countedFrom storyOn chain initialLine takenFrom replayPlan replayBegun replayAfter told
 exampleTable =
     record { given = map planRefusal ((0 ∷ 5 ∷ 1 ∷ []) ∷ smallPlan 19 0 2 0 0 ∷ smallPlan 19 1 13 0 0 ∷ (0 ∷ 18 ∷ 1 ∷ 2 ∷ 1 ∷ replicate 13 0) ∷ smallPlan 19 1 2 3 0 ∷ smallPlan 19 1 2 0 1 ∷ widePlan ∷ smallPlan 19 1 2 0 0 ∷ []); expected = 1 ∷ 2 ∷ 3 ∷ 4 ∷ 5 ∷ 6 ∷ 7 ∷ 0 ∷ [] }
     -- 9, 10, 11: "`00 05 01 02`", "third byte 0", "Send of 13 bytes"
     ∷ record { given = answers 0 ((0 ∷ 5 ∷ 1 ∷ 2 ∷ []) ∷ (0 ∷ 5 ∷ 0 ∷ 2 ∷ 0 ∷ []) ∷ (0 ∷ 13 ∷ 1 ∷ 2 ∷ 0 ∷ replicate 8 0) ∷ []); expected = 9 ∷ 10 ∷ 11 ∷ [] }
     -- 9: length field 6 of 5 bytes, 5 of 6, a frame of 4 bytes that says so; 9 comes before 10
     ∷ record { given = answers 0 ((0 ∷ 6 ∷ 1 ∷ 2 ∷ 0 ∷ []) ∷ (0 ∷ 5 ∷ 1 ∷ 2 ∷ 0 ∷ 0 ∷ []) ∷ (0 ∷ 4 ∷ 1 ∷ 2 ∷ []) ∷ (0 ∷ 5 ∷ 0 ∷ 2 ∷ []) ∷ []); expected = replicate 4 9 }
-    -- 10: version 2; 10 comes before 11
-    ∷ record { given = answers 0 ((0 ∷ 5 ∷ 2 ∷ 2 ∷ 0 ∷ []) ∷ (0 ∷ 5 ∷ 0 ∷ 6 ∷ 0 ∷ []) ∷ []); expected = 10 ∷ 10 ∷ [] }
+    -- 10: version 3; 10 comes before 11
+    ∷ record { given = answers 0 ((0 ∷ 5 ∷ 3 ∷ 2 ∷ 0 ∷ []) ∷ (0 ∷ 5 ∷ 0 ∷ 6 ∷ 0 ∷ []) ∷ []); expected = 10 ∷ 10 ∷ [] }
     -- 11: kinds 0 and 6, a Feed of 5 bytes; 11 comes before 12
     ∷ record { given = answers 0 (frame 0 0 ∷ frame 6 0 ∷ frame 1 0 ∷ []) ++ answers 1_000_000 (frame 6 0 ∷ []); expected = replicate 4 11 }
     -- 12: "one more Crash", before all that comes after it
@@ -80,8 +98,20 @@ exampleTable =
     ∷ record { given = answers 0 (replicate 64 (feedFrame 0 1 1) ++ feedFrame 0 1 16 ∷ []); expected = replicate 64 0 ++ 17 ∷ [] }
     -- node 2 has 64 log entries: a Send to it and its Crash need no space, a Take does
     ∷ record { given = answersOn replayPlan 0 (replicate 64 (feedFrame 0 1 3) ++ (joined (replicate 64 (moved 0)) ++ feedFrame 1 1 3 ∷ frame 2 1 ∷ frame 3 1 ∷ frame 4 2 ∷ [])); expected = replicate 194 0 ++ 21 ∷ 0 ∷ [] }
-    -- "accepted steps": P9 has 25 answers 0
-    ∷ record { given = replayAfter .line .steps ∷ length (keep (eqb 0) (replayAfter .numbers)) ∷ []; expected = 25 ∷ 25 ∷ [] }
+    -- "accepted steps": P9 has 25 answers 0, all of version 1, so of console 0
+    ∷ record { given = length (keep (eqb 0) (replayAfter .numbers)) ∷ replayAfter .line .steps; expected = 25 ∷ 25 ∷ 0 ∷ 0 ∷ 0 ∷ [] }
+    -- 2026-01, 11: a version 2 frame of 5 bytes, a Feed of 13, kind 6; a version 1 frame of 6 bytes, a Feed of 14; 11 comes before 25
+    ∷ record {
+      given = answers 0 ((0 ∷ 5 ∷ 2 ∷ 2 ∷ 0 ∷ []) ∷ (0 ∷ 13 ∷ 2 ∷ 1 ∷ 0 ∷ replicate 8 0) ∷ consoleFrame 0 6 0 ∷ (0 ∷ 6 ∷ 1 ∷ 2 ∷ 0 ∷ 0 ∷ []) ∷ (0 ∷ 14 ∷ 1 ∷ 1 ∷ 0 ∷ replicate 9 0) ∷ (0 ∷ 5 ∷ 2 ∷ 2 ∷ 9 ∷ []) ∷ []);
+      expected = replicate 6 11;
+    }
+    -- 25: "a console above 3", before 12 and 13; console 3 gets as far as 13; in version 1 the fifth byte is no console
+    ∷ record { given = answers 1_000_000 (consoleFrame 4 4 1 ∷ consoleFrame 255 4 99 ∷ consoleFeed 4 9 1 16 ∷ consoleFrame 3 4 99 ∷ []) ++ answers 0 (frame 4 99 ∷ []); expected = 25 ∷ 25 ∷ 25 ∷ 13 ∷ 13 ∷ [] }
+    -- "refusal 12 looks only at the caller's": console 1's steps are used up, then console 0's, in either version; an accepted step raises the caller's count alone
+    ∷ record {
+      given = countedFrom (999_999 ∷ 1_000_000 ∷ 0 ∷ 7 ∷ []) (consoleFrame 1 4 2 ∷ consoleFeed 3 0 1 1 ∷ feedFrame 0 1 1 ∷ feedFrame 0 1 1 ∷ consoleFrame 0 2 0 ∷ consoleFrame 2 2 0 ∷ consoleFrame 3 4 0 ∷ []);
+      expected = 12 ∷ 0 ∷ 0 ∷ 12 ∷ 12 ∷ 0 ∷ 14 ∷ 1_000_000 ∷ 1_000_000 ∷ 1 ∷ 8 ∷ [];
+    }
     -- a clock entry is raised: the greatest time heard stays
     ∷ record { given = raiseHeard (0 ∷ 1 ∷ []) (5 ∷ 2 ∷ []) (made 0 3); expected = 5 ∷ 2 ∷ [] }
     ∷ record { given = raiseHeard (0 ∷ 1 ∷ []) (5 ∷ 2 ∷ []) (made 1 3); expected = 5 ∷ 3 ∷ [] }

@@ -1,4 +1,4 @@
--- Document 01 over an abstract line, a module for each of its paragraphs.
+-- Documents 01 and 02 over an abstract line, a module for each of their paragraphs.
 pub mod Lists
 pub mod Line
 pub mod Frame
@@ -12,6 +12,8 @@ pub mod Sheet
 pub mod Claim
 pub mod Order
 pub mod Restart
+pub mod Console
+pub mod Base
 pub mod Marked
 pub mod Examples
 pub mod DamagedLines

@@ -6,9 +6,9 @@ use lib.ListN.{length, getD, set, replicate}
 use Rattle.plan.specs.declared.Record.{Record}
 use Rattle.plan.specs.declared.Channel.{Channel}
 use Rattle.plan.specs.Plan.{Plan, nodeCount, channelCount, channelAt, entering}
-use Rattle.rules.specs.Lists.{upTo}
+use Rattle.rules.specs.Lists.{upTo, sumOf}
 
--- "64 log entries a node, 8 messages on a belt, 64 held records a node, 64 targets a node, 1,000,000 accepted steps"
+-- "64 log entries a node, 8 messages on a belt, 64 held records a node, 64 targets a node, 1,000,000 accepted steps". Of the steps 2026-01 says: "Each console has its own count to 1,000,000".
 abbrev pub logLimit : ℕ
 logLimit = 64
 
@@ -23,6 +23,10 @@ targetLimit = 64
 
 abbrev pub stepLimit : ℕ
 stepLimit = 1_000_000
+
+-- 2026-01: "a console number 0..3".
+abbrev pub consoleCount : ℕ
+consoleCount = 4
 
 -- What something was made from: nothing at a source, else a sender and its time.
 pub data Origin : Type 0 where
@@ -73,15 +77,24 @@ pub record Lane : Type 0 where
   pub heard : List ℕ
   pub queue : List Message
 
+-- Of the steps, those accepted from each console.
 pub record Line : Type 0 where
   pub plan : Plan
-  pub steps : ℕ
+  pub steps : List ℕ
   pub nodes : List Node
   pub lanes : List Lane
 
--- The steps accepted so far: no time in an undamaged line exceeds them.
+-- A console's own count.
+abbrev pub stepsFrom : Line → ℕ → ℕ
+stepsFrom l c = getD (l .steps) c 0
+
+-- The counts where no other console than 0 has done a step.
+abbrev pub onlyCount : ℕ → List ℕ
+onlyCount k = k ∷ 0 ∷ 0 ∷ 0 ∷ []
+
+-- All the steps accepted so far, which no time in an undamaged line exceeds. 2026-01: "A time is now bounded by the sum of the four".
 abbrev pub acceptedSteps : Line → ℕ
-acceptedSteps l = l .steps
+acceptedSteps l = sumOf (l .steps)
 
 -- "A node has a time (0 at first)": a node that is up and has done nothing.
 abbrev pub freshNode : Node
@@ -100,7 +113,7 @@ freshLane p c t = record { mark = t; taken = t; heard = replicate (length (paren
 -- The line that a plan starts as.
 unfoldable pub initialLine : Plan → Line
 unfolding freshLane
-initialLine p = record { plan = p; steps = 0; nodes = replicate (nodeCount p) freshNode; lanes = map (λ (c : Channel). freshLane p c 0) (p .channels) }
+initialLine p = record { plan = p; steps = onlyCount 0; nodes = replicate (nodeCount p) freshNode; lanes = map (λ (c : Channel). freshLane p c 0) (p .channels) }
 
 abbrev pub noLane : Lane
 noLane = record { mark = 0; taken = 0; heard = []; queue = [] }
@@ -131,8 +144,12 @@ withNode n x l = record { plan = l .plan; steps = l .steps; nodes = set (l .node
 unfoldable pub withLane : ℕ → Lane → Line → Line
 withLane b x l = record { plan = l .plan; steps = l .steps; nodes = l .nodes; lanes = set (l .lanes) b x }
 
-unfoldable pub counted : Line → Line
-counted l = record { plan = l .plan; steps = suc (l .steps); nodes = l .nodes; lanes = l .lanes }
+-- One more accepted step, from console c.
+abbrev pub oneMore : ℕ → List ℕ → List ℕ
+oneMore c counts = set counts c (suc (getD counts c 0))
+
+unfoldable pub counted : ℕ → Line → Line
+counted c l = record { plan = l .plan; steps = oneMore c (l .steps); nodes = l .nodes; lanes = l .lanes }
 
 -- One change for each of some channels.
 abbrev pub withLanes : (ℕ → Lane → Lane) → List ℕ → Line → Line

@@ -7,7 +7,7 @@ use Rattle.plan.specs.declared.Rule.{Rule}
 use Rattle.plan.specs.declared.Rule.the-variants.{Keep, Relabel}
 use Rattle.plan.specs.Plan.{Plan}
 use Rattle.rules.specs.Lists.{upTo, joined}
-use Rattle.rules.specs.Line.{fed, made, Message, Entry, Held, Target, Status, up, down, replay, Node, Lane, Line, nodeAt, laneAt, initialLine}
+use Rattle.rules.specs.Line.{fed, made, Message, Entry, Held, Target, Status, up, down, replay, Node, Lane, Line, nodeAt, laneAt, initialLine, onlyCount}
 use Rattle.rules.specs.Recover.{sortTargets}
 use Rattle.rules.specs.Step.{step}
 use Rattle.rules.specs.Damaged.{damaged}
@@ -36,7 +36,7 @@ abbrev entry : ℕ → ℕ → ℕ → ℕ → Entry
 entry t b a u = record { what = piece 1 1; time = t; origin = made 2 b; before = made a u }
 
 abbrev line : Rule → List Node → List Lane → Line
-line r ns ls = record { plan = plan r; steps = 500; nodes = ns; lanes = ls }
+line r ns ls = record { plan = plan r; steps = onlyCount 500; nodes = ns; lanes = ls }
 
 -- sources that are up with nothing logged; node 2; its children
 abbrev around : Node → Node → Node → Node → List Node

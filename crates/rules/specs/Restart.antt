@@ -1,5 +1,5 @@
 -- A crashed node can always come back. No paper asks for it; operators do: "can a restart get stuck?"
-use Prim.Native.Nat.{ℕ, _+_, _≤_}
+use Prim.Native.Nat.{ℕ, _+_, _<_, _≤_}
 use mathlib.Core.Path.{_≡_}
 use mathlib.Core.Logic.{_≢_}
 use mathlib.Core.Bool.{true, false}
@@ -8,59 +8,78 @@ use lib.ListN.{length, replicate}
 use Rattle.plan.specs.Plan.{Plan, planOf, entering}
 use Rattle.plan.specs.Check.{planRefusal}
 use Rattle.rules.specs.Lists.{isEmpty}
-use Rattle.rules.specs.Line.{stepLimit, Status, up, down, replay, Line, initialLine, nodeAt, laneAt, receiverOf}
+use Rattle.rules.specs.Line.{stepLimit, consoleCount, Status, up, down, replay, Line, initialLine, nodeAt, laneAt, stepsFrom, receiverOf}
 use Rattle.rules.specs.Recover.{rowComplete}
 use Rattle.rules.specs.Step.{noStepsLeft, refusal}
 use Rattle.rules.specs.Claim.{named, startOf, storyFrom}
 
--- The five bytes of a Send and a Take on channel b, and of a Recover of node n.
-abbrev pub sendFrame : ℕ → List ℕ
-sendFrame b = 0 ∷ 5 ∷ 1 ∷ 2 ∷ b ∷ []
+-- Who passes a frame: one who types version 1, or a console that says its number.
+pub data Caller : Type 0 where
+  unnamed : Caller
+  console : ℕ → Caller
 
-abbrev pub takeFrame : ℕ → List ℕ
-takeFrame b = 0 ∷ 5 ∷ 1 ∷ 3 ∷ b ∷ []
+abbrev pub consoleOf : Caller → ℕ
+consoleOf unnamed = 0
+consoleOf (console c) = c
 
-abbrev pub recoverFrame : ℕ → List ℕ
-recoverFrame n = 0 ∷ 5 ∷ 1 ∷ 5 ∷ n ∷ []
+-- A caller's frame of a kind without a record, for a node or a channel.
+abbrev pub frameFrom : Caller → ℕ → ℕ → List ℕ
+frameFrom unnamed kind n = 0 ∷ 5 ∷ 1 ∷ kind ∷ n ∷ []
+frameFrom (console c) kind n = 0 ∷ 6 ∷ 2 ∷ kind ∷ c ∷ n ∷ []
 
--- The answer of a frame that nothing but the step limit refuses.
-unfoldable pub unlessUsedUp : Line → ℕ
+-- A Send and a Take on channel b, and a Recover of node n.
+abbrev pub sendFrame : Caller → ℕ → List ℕ
+sendFrame w b = frameFrom w 2 b
+
+abbrev pub takeFrame : Caller → ℕ → List ℕ
+takeFrame w b = frameFrom w 3 b
+
+abbrev pub recoverFrame : Caller → ℕ → List ℕ
+recoverFrame w n = frameFrom w 5 n
+
+-- The answer of a frame that nothing but the caller's step limit refuses.
+unfoldable pub unlessUsedUp : Line → Caller → ℕ
 unfolding noStepsLeft
-unlessUsedUp l = elim (noStepsLeft l) [ true ↦ 12 | false ↦ 0 ]
+unlessUsedUp l w = elim (noStepsLeft l (consoleOf w)) [ true ↦ 12 | false ↦ 0 ]
 
--- Only Sends and Takes on the channels that enter node n.
-pub data OnEntering (p : Plan) (n : ℕ) : List (List ℕ) → Type 0 where
-  no-more : OnEntering p n []
-  send-next : {b : ℕ} {frames : List (List ℕ)} → named b (entering p n) ≡ true → OnEntering p n frames → OnEntering p n (sendFrame b ∷ frames)
-  take-next : {b : ℕ} {frames : List (List ℕ)} → named b (entering p n) ≡ true → OnEntering p n frames → OnEntering p n (takeFrame b ∷ frames)
+-- Only Sends and Takes of a caller's, on the channels that enter node n.
+pub data OnEntering (p : Plan) (w : Caller) (n : ℕ) : List (List ℕ) → Type 0 where
+  no-more : OnEntering p w n []
+  send-next : (b : ℕ) {frames : List (List ℕ)} → named b (entering p n) ≡ true → OnEntering p w n frames → OnEntering p w n (sendFrame w b ∷ frames)
+  take-next : (b : ℕ) {frames : List (List ℕ)} → named b (entering p n) ≡ true → OnEntering p w n frames → OnEntering p w n (takeFrame w b ∷ frames)
 
 -- First Recover if the node is down, and then only Sends and Takes on the channels that enter it.
-abbrev pub Restarting : Plan → ℕ → Status → List (List ℕ) → Type 0
-Restarting p n up frames = OnEntering p n frames
-Restarting p n down frames = (rest : List (List ℕ)) × (frames ≡ recoverFrame n ∷ rest) × OnEntering p n rest
-Restarting p n replay frames = OnEntering p n frames
+abbrev pub Restarting : Plan → Caller → ℕ → Status → List (List ℕ) → Type 0
+Restarting p w n up frames = OnEntering p w n frames
+Restarting p w n down frames = (rest : List (List ℕ)) × (frames ≡ recoverFrame w n ∷ rest) × OnEntering p w n rest
+Restarting p w n replay frames = OnEntering p w n frames
 
 -- One Recover, and for each of at most 4 rows at most 64 Sends and 64 Takes.
 abbrev pub restartSteps : ℕ
 restartSteps = 513
 
--- Steps that bring node n back.
-pub record ComesBack (l : Line) (n : ℕ) : Type 0 where
+-- Steps of one caller's that bring node n back.
+pub record ComesBack (l : Line) (w : Caller) (n : ℕ) : Type 0 where
   pub frames : List (List ℕ)
   pub few : length frames ≤ restartSteps
-  pub shape : Restarting (l .plan) n (nodeAt l n .status) frames
+  pub shape : Restarting (l .plan) w n (nodeAt l n .status) frames
   pub accepted : storyFrom (startOf l) frames .numbers ≡ replicate (length frames) 0
   pub back : nodeAt (storyFrom (startOf l) frames .line) n .status ≡ up
+
+-- Of what one caller asks.
+pub record NeverStuckFor (l : Line) (w : Caller) : Type 0 where
+  -- Recover of a node that is down (and so no source and no sink) is accepted unless the caller's steps are used up: there are never over 64 targets.
+  pub recovers : (n : ℕ) → nodeAt l n .status ≡ down → refusal l (recoverFrame w n) ≡ unlessUsedUp l w
+  -- A replay never lacks space: so is a Take on an incomplete row of a replaying node whose channel has a message.
+  pub replays : (b : ℕ) → nodeAt l (receiverOf l b) .status ≡ replay → rowComplete l (receiverOf l b) b ≡ false → isEmpty (laneAt l b .queue) ≡ false → refusal l (takeFrame w b) ≡ unlessUsedUp l w
+  -- So the node comes back, whatever its status is.
+  pub comes-back : (n : ℕ) → stepsFrom l (consoleOf w) + restartSteps ≤ stepLimit → ComesBack l w n
 
 pub record NeverStuck (l : Line) : Type 0 where
   -- No frame is answered 24.
   pub placed : (f : List ℕ) → refusal l f ≢ 24
-  -- Recover of a node that is down (and so no source and no sink) is accepted unless the steps are used up: there are never over 64 targets.
-  pub recovers : (n : ℕ) → nodeAt l n .status ≡ down → refusal l (recoverFrame n) ≡ unlessUsedUp l
-  -- A replay never lacks space: so is a Take on an incomplete row of a replaying node whose channel has a message.
-  pub replays : (b : ℕ) → nodeAt l (receiverOf l b) .status ≡ replay → rowComplete l (receiverOf l b) b ≡ false → isEmpty (laneAt l b .queue) ≡ false → refusal l (takeFrame b) ≡ unlessUsedUp l
-  -- So the node comes back, whatever its status is.
-  pub comes-back : (n : ℕ) → l .steps + restartSteps ≤ stepLimit → ComesBack l n
+  -- Whoever asks, in version 1 or from one of the consoles.
+  pub asked : (w : Caller) → consoleOf w < consoleCount → NeverStuckFor l w
 
 -- For every accepted plan and every list of frames, of the line that the list leaves.
 abbrev pub AlwaysBack : Type 0

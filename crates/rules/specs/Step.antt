@@ -1,4 +1,4 @@
--- A step: the refusals 9 to 21 and 24 in rising order, and the effect of each kind (document 01, "Clocks and steps", "Numbers returned").
+-- A step: the refusals 9 to 21, 24 and 25 in their order, and the effect of each kind (document 01, "Clocks and steps", "Numbers returned"; document 02, 2026-01).
 use Prim.Native.Nat.{ℕ}
 use mathlib.Core.Bool.{Bool, true, false, cond, not, _&&_, _||_}
 use mathlib.Core.List.{List, [], _∷_}
@@ -11,15 +11,15 @@ use Rattle.plan.specs.Rule.{applied}
 use Rattle.plan.specs.Channel.{takes}
 use Rattle.plan.specs.Plan.{nodeCount, channelCount, ruleAt, channelAt, entering, leaving, isSource, isSink}
 use Rattle.rules.specs.Lists.{isEmpty, anyOf}
-use Rattle.rules.specs.Line.{logLimit, queueLimit, heldLimit, targetLimit, stepLimit, fed, made, Message, Entry, down, Lane, Line, nodeAt, laneAt, senderOf, receiverOf, withNode, withLane, counted, withLanes, isDown, isReplay, parents, freshLane}
-use Rattle.rules.specs.Frame.{Frame, feed, send, take, crash, recover, frameOf, badFrameLength, badFrameVersion, badKind}
+use Rattle.rules.specs.Line.{logLimit, queueLimit, heldLimit, targetLimit, stepLimit, fed, made, Message, Entry, down, Lane, Line, nodeAt, laneAt, stepsFrom, senderOf, receiverOf, withNode, withLane, counted, withLanes, isDown, isReplay, parents, freshLane}
+use Rattle.rules.specs.Frame.{Frame, feed, send, take, crash, recover, frameConsole, frameOf, frameRefusal}
 use Rattle.rules.specs.Clock.{logged, nextToSend, sentOn, takenFrom}
 use Rattle.rules.specs.Recover.{targetsOf, conflict, rowComplete, recovered}
 use Rattle.rules.specs.Replay.{passedOn, holding, endedIfComplete}
 
--- 12: "1,000,000 steps accepted"
-unfoldable pub noStepsLeft : Line → Bool
-noStepsLeft l = leb stepLimit (l .steps)
+-- 12: "1,000,000 steps accepted". 2026-01: "refusal 12 looks only at the caller's" count.
+unfoldable pub noStepsLeft : Line → ℕ → Bool
+noStepsLeft l c = leb stepLimit (stepsFrom l c)
 
 -- 13: "no such node or belt"
 abbrev pub noSuch : Line → Frame → Bool
@@ -217,32 +217,29 @@ unfoldable pub noPlacing : Line → Frame → Bool
 unfolding effect
 noPlacing l f = isNothing (effect l f)
 
--- The first of 12 to 21 and 24 that applies, 0 if none does.
+-- What the line itself refuses, whoever sent the frame: the first of 13 to 21 and 24 that applies, 0 if none does.
 unfoldable pub lineRefusal : Line → Frame → ℕ
-unfolding noStepsLeft isSource isSink neighbourCrashed recordFits sendable rowComplete takeLacks targetsOf noPlacing
+unfolding isSource isSink neighbourCrashed recordFits sendable rowComplete takeLacks targetsOf noPlacing
 lineRefusal l f =
-    elim (noStepsLeft l) [
-      | true ↦ 12
-      | false ↦ elim (noSuch l f) [
-        | true ↦ 13
-        | false ↦ elim (wrongNode l f) [
-          | true ↦ 14
-          | false ↦ elim (wrongStatus l f) [
-            | true ↦ 15
-            | false ↦ elim (besideCrashed l f) [
-              | true ↦ 16
-              | false ↦ elim (badRecord f) [
-                | true ↦ 17
-                | false ↦ elim (nothingThere l f) [
-                  | true ↦ 18
-                  | false ↦ elim (queueFull l f) [
-                    | true ↦ 19
-                    | false ↦ elim (rowDone l f) [
-                      | true ↦ 20
-                      | false ↦ elim (noSpace l f) [
-                        | true ↦ 21
-                        | false ↦ elim (noPlacing l f) [ true ↦ 24 | false ↦ 0 ]
-                      ]
+    elim (noSuch l f) [
+      | true ↦ 13
+      | false ↦ elim (wrongNode l f) [
+        | true ↦ 14
+        | false ↦ elim (wrongStatus l f) [
+          | true ↦ 15
+          | false ↦ elim (besideCrashed l f) [
+            | true ↦ 16
+            | false ↦ elim (badRecord f) [
+              | true ↦ 17
+              | false ↦ elim (nothingThere l f) [
+                | true ↦ 18
+                | false ↦ elim (queueFull l f) [
+                  | true ↦ 19
+                  | false ↦ elim (rowDone l f) [
+                    | true ↦ 20
+                    | false ↦ elim (noSpace l f) [
+                      | true ↦ 21
+                      | false ↦ elim (noPlacing l f) [ true ↦ 24 | false ↦ 0 ]
                     ]
                   ]
                 ]
@@ -253,29 +250,27 @@ lineRefusal l f =
       ]
     ]
 
--- "Step 8 to 21 and then 24", "each in rising order, and the first that applies is returned". 8 is of the state's bytes.
+-- "Step 8 to 21 and then 24", "each in rising order, and the first that applies is returned"; 25 comes "after 11". 8 is of the state's bytes.
 unfoldable pub refusal : Line → List ℕ → ℕ
-unfolding badFrameLength badFrameVersion badKind frameOf lineRefusal
+unfolding frameRefusal noStepsLeft frameConsole frameOf lineRefusal
 refusal l f =
-    elim (badFrameLength f) [
-      | true ↦ 9
-      | false ↦ elim (badFrameVersion f) [
-        | true ↦ 10
-        | false ↦ elim (badKind f) [ true ↦ 11 | false ↦ lineRefusal l (frameOf f) ]
-      ]
+    let n = frameRefusal f in
+    elim (eqb n 0) [
+      | true ↦ elim (noStepsLeft l (frameConsole f)) [ true ↦ 12 | false ↦ lineRefusal l (frameOf f) ]
+      | false ↦ n
     ]
 
 pub record Answer : Type 0 where
   pub number : ℕ
   pub line : Line
 
-abbrev pub accepted : Line → Option Line → Line
-accepted l none = l
-accepted l (some k) = counted k
+abbrev pub accepted : ℕ → Line → Option Line → Line
+accepted c l none = l
+accepted c l (some k) = counted c k
 
--- A step: refused, the line as it was; accepted, the effect and one more step.
+-- A step: refused, the line as it was; accepted, the effect and one more step of the caller's.
 unfoldable pub step : Line → List ℕ → Answer
-unfolding refusal frameOf effect counted
+unfolding refusal frameConsole frameOf effect counted
 step l f =
     let n = refusal l f in
-    elim (eqb n 0) [ true ↦ record { number = 0; line = accepted l (effect l (frameOf f)) } | false ↦ record { number = n; line = l } ]
+    elim (eqb n 0) [ true ↦ record { number = 0; line = accepted (frameConsole f) l (effect l (frameOf f)) } | false ↦ record { number = n; line = l } ]

@@ -1,0 +1,43 @@
+-- 2026-01: "What the line does with a step doesn't depend on who sent it, counts and refusal 12 excepted."
+use Prim.Native.Nat.{ℕ, _+_}
+use mathlib.Core.Path.{_≡_}
+use mathlib.Core.Logic.{_≢_}
+use mathlib.Core.Bool.{false, cond, _&&_}
+use mathlib.Core.List.{List}
+use lib.Dec.{eqb}
+use Rattle.rules.specs.Line.{Line, stepsFrom}
+use Rattle.rules.specs.Frame.{frameConsole, frameOf, frameRefusal}
+use Rattle.rules.specs.Step.{refusal, step}
+use Rattle.rules.specs.Damaged.{damaged}
+
+-- Two lines that differ in their counts alone.
+pub record SameButCounts (k l : Line) : Type 0 where
+  pub plan : k .plan ≡ l .plan
+  pub nodes : k .nodes ≡ l .nodes
+  pub lanes : k .lanes ≡ l .lanes
+
+-- Two frames, both well formed, that ask the same and differ in version and console alone.
+pub record SameAsked (f g : List ℕ) : Type 0 where
+  pub formed : frameRefusal f ≡ 0
+  pub formed-too : frameRefusal g ≡ 0
+  pub asked : frameOf f ≡ frameOf g
+
+-- An accepted step raises the caller's count, and no step another's.
+unfoldable pub countsOne : Line → List ℕ → ℕ → ℕ
+unfolding refusal frameConsole
+countsOne l f c = cond (eqb (refusal l f) 0 && eqb c (frameConsole f)) 1 0
+
+abbrev pub CountsCaller : Line → List ℕ → Type 0
+CountsCaller l f = (c : ℕ) → stepsFrom (step l f .line) c ≡ stepsFrom l c + countsOne l f c
+
+pub record SameDone (k l : Line) (f g : List ℕ) : Type 0 where
+  pub number : step k f .number ≡ step l g .number
+  pub line : SameButCounts (step k f .line) (step l g .line)
+  pub counts : CountsCaller k f
+  pub counts-too : CountsCaller l g
+
+-- Of damaged lines it is not said: a time is bounded by the counts.
+abbrev pub WhoeverSends : Type 0
+WhoeverSends =
+    (k l : Line) (f g : List ℕ) → damaged k ≡ false → damaged l ≡ false → SameButCounts k l → SameAsked f g
+    → step k f .number ≢ 12 → step l g .number ≢ 12 → SameDone k l f g
