@@ -13,4 +13,11 @@ always-back plan frames z =
     let start = startOf (initialLine (planOf plan)) in
     let l = storyFrom start frames .line in
     let known = known-all frames start (known-start plan z) in
-    record { placed = placed l known; recovers = recovers l known; replays = replays l known; comes-back = comes-back l known }
+    record {
+      placed = placed l known;
+      asked = λ w listed. record {
+        recovers = recovers l known w listed;
+        replays = λ b again open-row queued. replays l known b again open-row queued w listed;
+        comes-back = comes-back l known w listed;
+      };
+    }

@@ -17,7 +17,7 @@ use Rattle.rules.proofs.invariant.Conclusion.{run, run-gives}
 use Rattle.rules.proofs.theorem.QuietRest.{quiet-rests}
 use Rattle.rules.proofs.steps.LoadInv.{start-steady, load-inv}
 use Rattle.rules.proofs.theorem.Accepted.{step-accepted, step-refused}
-use Rattle.rules.proofs.theorem.PlanKept.{step-plan}
+use Rattle.rules.proofs.theorem.Unmoved.{step-plan}
 use Rattle.rules.proofs.theorem.StepInv.{Kept, kept-same, step-inv}
 use Rattle.rules.proofs.theorem.SteadyKept.{step-steady}
 

@@ -2,5 +2,5 @@
 pub mod Accepted
 pub mod StepInv
 pub mod SteadyKept
-pub mod PlanKept
+pub mod Unmoved
 pub mod QuietRest

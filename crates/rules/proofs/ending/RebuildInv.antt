@@ -32,7 +32,7 @@ use Rattle.rules.proofs.ending.RebuildEvents.{Rebuilding, events, ghost
 
 module _ (l : Line) (g : Ghost) (cut base : ℕ → ℕ) (fed : List Act) (receipts : List Receipt) (crashes : List ℕ) (inv : Inv l g cut base fed receipts crashes) (n : ℕ) (inside : n < nodeCount (l .plan)) (replaying : nodeAt l n .status ≡ replay)
     (T : ℕ) (fs : List Event) (r : Rebuilding l g base n T fs)
-    (steps : ℕ) (nodes : List Node) (long : length nodes ≡ length (l .nodes))
+    (steps : List ℕ) (nodes : List Node) (long : length nodes ≡ length (l .nodes))
     (now : nodeAt (moved l steps nodes (l .lanes)) n ≡ record { status = up; crashed = true; time = T; log = map (entryOf (l .plan) n) fs; held = []; targets = [] })
     (other : (m : ℕ) → m ≢ n → nodeAt (moved l steps nodes (l .lanes)) m ≡ nodeAt l m) where
   abbrev k : Line

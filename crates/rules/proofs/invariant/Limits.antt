@@ -9,19 +9,21 @@ use native.Mathlib.Decide.{ℕ-discrete}
 use lib.ListN.{length}
 use lib.Dec.{leb}
 use Rattle.plan.specs.Plan.{channelAt, channelCount, entering, leaving}
-use Rattle.rules.specs.Line.{logLimit, Target, replay, Node, Lane, Line, nodeAt, laneAt, counted}
+use Rattle.rules.specs.Line.{logLimit, stepLimit, consoleCount, stepsFrom, acceptedSteps, Target, replay, Node, Lane, Line, nodeAt, laneAt, counted}
 use Rattle.rules.specs.Recover.{childTimes, highOf, rowGoal, rowComplete, rowsComplete}
 use Rattle.rules.proofs.lists.Members.{map-in, greatest-in}
 use Rattle.rules.proofs.line.Joins.{entering-in, leaving-in}
+use Rattle.rules.proofs.line.Consoles.{CountsFit, more-fit, counts-rise}
 use Rattle.rules.proofs.invariant.Inv.{Enters}
 use Rattle.rules.proofs.invariant.Stays.{moved}
 use Rattle.rules.proofs.undamaged.Restored.{all-same}
 
--- Logs are within their limit, and no time is past the steps counted and a few more.
+-- The counts and the logs are within their limits, and no time is past the steps counted and a few more.
 pub record Limits (more : ℕ) (l : Line) : Type 0 where
+  pub counts : CountsFit (l .steps)
   pub logs : (n : ℕ) → length (nodeAt l n .log) ≤ logLimit
-  pub times : (n : ℕ) → nodeAt l n .time ≤ l .steps + more
-  pub entries : (b : ℕ) → b < channelCount (l .plan) → laneAt l b .taken ≤ l .steps + more
+  pub times : (n : ℕ) → nodeAt l n .time ≤ acceptedSteps l + more
+  pub entries : (b : ℕ) → b < channelCount (l .plan) → laneAt l b .taken ≤ acceptedSteps l + more
 
 -- While node n replays, some row is not complete.
 abbrev pub OpenAt : Line → ℕ → Type 0
@@ -31,13 +33,19 @@ pub record Steady (more : ℕ) (l : Line) : Type 0 where
   pub limits : Limits more l
   pub open-rows : (n : ℕ) → OpenAt l n
 
--- One more step counted.
-pub counted-steady : {l : Line} → Steady 1 l → Steady 0 (counted l)
+-- One more step counted, of a console that has steps left.
+pub counted-steady : {l : Line} (c : ℕ) → c < consoleCount → stepsFrom l c < stepLimit → Steady 1 l → Steady 0 (counted c l)
 unfolding counted rowsComplete rowComplete
-counted-steady s = record { limits = record { logs = s .limits .logs; times = λ n. omega (arith, s .limits .times n); entries = λ b h. omega (arith, s .limits .entries b h) }; open-rows = s .open-rows }
+counted-steady {l} c inside left s =
+    let fits = s .limits .counts in
+    let rise = counts-rise fits inside left in
+    record {
+      limits = record { counts = more-fit fits inside left; logs = s .limits .logs; times = λ n. omega (arith, rise, s .limits .times n); entries = λ b h. omega (arith, rise, s .limits .entries b h) };
+      open-rows = s .open-rows;
+    }
 
 -- No child's entry is past the limit, so high is not.
-pub high-within : {more : ℕ} {l : Line} → Limits more l → (n : ℕ) → highOf l n ≤ l .steps + more
+pub high-within : {more : ℕ} {l : Line} → Limits more l → (n : ℕ) → highOf l n ≤ acceptedSteps l + more
 unfolding highOf childTimes
 high-within {more} {l} s n =
     let times = map (λ (c : ℕ). laneAt l c .taken) (leaving (l .plan) n) in
@@ -46,7 +54,7 @@ high-within {more} {l} s n =
       | inr i ↦ (let (c, j, q) = map-in (λ (c : ℕ). laneAt l c .taken) (leaving (l .plan) n) i in omega (arith, q, s .entries c (leaving-in (l .plan) n c j .0)))
     ]
 
-module _ (l : Line) (steps : ℕ) (nodes : List Node) (lanes : List Lane) where
+module _ (l : Line) (steps : List ℕ) (nodes : List Node) (lanes : List Lane) where
   abbrev k : Line
   k = moved l steps nodes lanes
 
@@ -63,16 +71,17 @@ module _ (l : Line) (steps : ℕ) (nodes : List Node) (lanes : List Lane) where
 
 -- One node changes, and the entries stay within the limit.
 pub limits-by : (l : Line) (nodes : List Node) (lanes : List Lane) (n : ℕ) → ((m : ℕ) → m ≢ n → nodeAt (moved l (l .steps) nodes lanes) m ≡ nodeAt l m)
-    → length (nodeAt (moved l (l .steps) nodes lanes) n .log) ≤ logLimit → nodeAt (moved l (l .steps) nodes lanes) n .time ≤ l .steps + 1
-    → ((b : ℕ) → b < channelCount (l .plan) → laneAt (moved l (l .steps) nodes lanes) b .taken ≤ l .steps + 1) → {more : ℕ} → more ≤ 1 → Limits more l → Limits 1 (moved l (l .steps) nodes lanes)
+    → length (nodeAt (moved l (l .steps) nodes lanes) n .log) ≤ logLimit → nodeAt (moved l (l .steps) nodes lanes) n .time ≤ acceptedSteps l + 1
+    → ((b : ℕ) → b < channelCount (l .plan) → laneAt (moved l (l .steps) nodes lanes) b .taken ≤ acceptedSteps l + 1) → {more : ℕ} → more ≤ 1 → Limits more l → Limits 1 (moved l (l .steps) nodes lanes)
 limits-by l nodes lanes n other log time entries {more} h s =
     record {
+      counts = s .counts;
       logs = λ m. elim (ℕ-discrete m n) [
         | yes q ↦ subst (λ (x : ℕ). length (nodeAt (moved l (l .steps) nodes lanes) x .log) ≤ logLimit) (sym q) log
         | no d ↦ rw (other m d) (s .logs m)
       ];
       times = λ m. elim (ℕ-discrete m n) [
-        | yes q ↦ subst (λ (x : ℕ). nodeAt (moved l (l .steps) nodes lanes) x .time ≤ l .steps + 1) (sym q) time
+        | yes q ↦ subst (λ (x : ℕ). nodeAt (moved l (l .steps) nodes lanes) x .time ≤ acceptedSteps l + 1) (sym q) time
         | no d ↦ rw (other m d) (omega (arith, s .times m))
       ];
       entries = entries;

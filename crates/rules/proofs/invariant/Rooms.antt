@@ -76,7 +76,7 @@ module _ (p : Plan) (n : ℕ) where
       one false true false a b c ih = rw c ih
       one false false t a b c ih = ih
 
-module _ (l : Line) (steps : ℕ) (nodes : List Node) (lanes : List Lane) where
+module _ (l : Line) (steps : List ℕ) (nodes : List Node) (lanes : List Lane) where
   abbrev k : Line
   k = moved l steps nodes lanes
 

@@ -23,10 +23,10 @@ use Rattle.rules.proofs.invariant.MarkedLaws.{at-ends}
 use Rattle.rules.proofs.invariant.Grow.{sender-same, sender-receiving}
 
 -- A line with the plan of another.
-abbrev pub moved : Line → ℕ → List Node → List Lane → Line
+abbrev pub moved : Line → List ℕ → List Node → List Lane → Line
 moved l steps nodes lanes = record { plan = l .plan; steps = steps; nodes = nodes; lanes = lanes }
 
-module _ (l : Line) (steps : ℕ) (nodes : List Node) (lanes : List Lane) where
+module _ (l : Line) (steps : List ℕ) (nodes : List Node) (lanes : List Lane) where
   abbrev k : Line
   k = moved l steps nodes lanes
 

@@ -12,14 +12,14 @@ use lib.Dec.{leb, ltb}
 use borrow.Author.Tests.{leb-false, lt-leb, le-leb, lt-ltb, ltb-true, eq-eqb}
 use Rattle.plan.specs.Plan.{Plan, channelAt, channelCount, entering}
 use Rattle.rules.specs.Lists.{isEmpty}
-use Rattle.rules.specs.Line.{stepLimit, queueLimit, Message, Entry, up, down, replay, Lane, Line, noLane, nodeAt, laneAt, withLane, counted, senderOf, receiverOf, parents}
+use Rattle.rules.specs.Line.{stepLimit, consoleCount, stepsFrom, queueLimit, Message, Entry, up, down, replay, Lane, Line, noLane, nodeAt, laneAt, withLane, oneMore, counted, senderOf, receiverOf, parents}
 use Rattle.rules.specs.Frame.{Frame, send, take}
 use Rattle.rules.specs.Clock.{messageOf, sentOn, raiseHeard}
 use Rattle.rules.specs.Recover.{rowGoal, rowComplete, rowsComplete}
 use Rattle.rules.specs.Replay.{endedIfComplete}
 use Rattle.rules.specs.Step.{noStepsLeft, sendable, isNothing, sentLine, takenLane, takenReplaying, effect, accepted, refusal, step}
 use Rattle.rules.specs.Claim.{named}
-use Rattle.rules.specs.Restart.{sendFrame, takeFrame, unlessUsedUp, OnEntering, send-next, take-next}
+use Rattle.rules.specs.Restart.{Caller, consoleOf, sendFrame, takeFrame, unlessUsedUp, OnEntering, send-next, take-next}
 use Rattle.rules.proofs.lists.ListLaws.{empty-none}
 use Rattle.rules.proofs.lists.Rising.{until, past}
 use Rattle.rules.proofs.lists.Members.{In, here, in-none, in-keep, keep-in}
@@ -27,6 +27,7 @@ use Rattle.rules.proofs.lists.Counts.{in-long}
 use Rattle.rules.proofs.lists.Options.{some-same, something-there}
 use Rattle.rules.proofs.line.Joins.{in-entering, entering-in}
 use Rattle.rules.proofs.line.LineLaws.{lane-there, lane-else}
+use Rattle.rules.proofs.line.Consoles.{counts-left}
 use Rattle.rules.proofs.histories.Ghost.{put, logPut}
 use Rattle.rules.proofs.invariant.Inv.{timeOf, SenderUp}
 use Rattle.rules.proofs.invariant.InvLaws.{replay-not-down, replay-marked}
@@ -37,25 +38,25 @@ use Rattle.rules.proofs.steps.HoldInv.{next}
 use Rattle.rules.proofs.ending.RecoverInv.{log-whole}
 use Rattle.rules.proofs.undamaged.Restored.{ended-up}
 use Rattle.rules.proofs.undamaged.TestLaws.{any-by}
-use Rattle.rules.proofs.theorem.Accepted.{CanTake, step-accepted}
+use Rattle.rules.proofs.theorem.Accepted.{CanTake}
 use Rattle.rules.proofs.theorem.StepInv.{sender-gives, again-is}
 use Rattle.rules.proofs.ending.ReplayTakeInv.{Again}
 use Rattle.rules.proofs.restart.Known.{Known}
-use Rattle.rules.proofs.restart.Frames.{send-asks, send-is, take-is}
+use Rattle.rules.proofs.restart.Frames.{send-formed, take-formed, formed-line}
 use Rattle.rules.proofs.restart.NeverUnplaced.{again-here, take-goes}
 use Rattle.rules.proofs.restart.Answers.{answered, ends-there, can, replays}
 use Rattle.rules.proofs.restart.RowsLeft.{total-less, leftBy, rowLeft, rowsLeft, log-same, less-left, taken-less, sent-less}
 
--- A frame on a channel that enters node n, accepted, after which the node is up or replays with less left.
-pub record Advances (l : Line) (n : ℕ) : Type 0 where
+-- A caller's frame on a channel that enters node n, accepted, after which the node is up or replays with less left.
+pub record Advances (l : Line) (w : Caller) (n : ℕ) : Type 0 where
   pub frame : List ℕ
-  pub shape : {frames : List (List ℕ)} → OnEntering (l .plan) n frames → OnEntering (l .plan) n (frame ∷ frames)
+  pub shape : {frames : List (List ℕ)} → OnEntering (l .plan) w n frames → OnEntering (l .plan) w n (frame ∷ frames)
   pub accepted : refusal l frame ≡ 0
-  pub after : (nodeAt (step l frame .line) n .status ≡ up) ⊎ ((nodeAt (step l frame .line) n .status ≡ replay) × (rowsLeft (step l frame .line) n < rowsLeft l n) × (step l frame .line .steps ≡ suc (l .steps)))
+  pub after : (nodeAt (step l frame .line) n .status ≡ up) ⊎ ((nodeAt (step l frame .line) n .status ≡ replay) × (rowsLeft (step l frame .line) n < rowsLeft l n) × (step l frame .line .steps ≡ oneMore (consoleOf w) (l .steps)))
 
-pub left-zero : (l : Line) → l .steps < stepLimit → unlessUsedUp l ≡ 0
+pub left-zero : (l : Line) (w : Caller) → stepsFrom l (consoleOf w) < stepLimit → unlessUsedUp l w ≡ 0
 unfolding unlessUsedUp noStepsLeft
-left-zero l h = rw (lt-leb stepLimit (l .steps) h, unlessUsedUp)
+left-zero l w h = rw (lt-leb stepLimit (stepsFrom l (consoleOf w)) h, unlessUsedUp)
 
 pub is-named : (p : Plan) (n b : ℕ) → In b (entering p n) → named b (entering p n) ≡ true
 is-named p n b i = any-by _ i (eq-eqb b b refl)
@@ -96,7 +97,7 @@ module _ (l : Line) (known : Known l) (b : ℕ) (inside : b < channelCount (l .p
       let one = in-long (in-keep (λ (x : Message). ltb (laneAt l b .taken) (x .time)) i (lt-ltb (laneAt l b .taken) (y .time) late)) in
       omega (arith, total-less (λ c. 0) (rowLeft l n) (λ c j. omega arith) mine (omega (arith, was-left, one)))
 
-  module _ (left : l .steps < stepLimit) where
+  module _ (w : Caller) (listed : consoleOf w < consoleCount) (left : stepsFrom l (consoleOf w) < stepLimit) where
     -- A message waits: it is taken.
     module _ (queued : isEmpty (laneAt l b .queue) ≡ false) where
       c : CanTake l b
@@ -116,14 +117,14 @@ module _ (l : Line) (known : Known l) (b : ℕ) (inside : b < channelCount (l .p
           keep-in (λ (x : Message). ltb (laneAt l b .taken) (x .time)) (logPut l b)
           (keep-in (λ (x : Message). leb (x .time) (laneAt l b .mark)) (past timeOf (laneAt l b .taken) (logPut l b)) (subst (λ (x : List Message). In m x) (sym (c .first) ∙ queue-is) here) .0) .0
 
-      take-accepted : refusal l (takeFrame b) ≡ 0
-      take-accepted = replays l known b again open-row queued ∙ left-zero l left
+      take-accepted : refusal l (takeFrame w b) ≡ 0
+      take-accepted = replays l known b again open-row queued w listed ∙ left-zero l w left
 
       goes : (k : Line) × (effect l (take b) ≡ some k)
-      goes = take-goes l known b c left
+      goes = take-goes l known b c (counts-left (steady .limits .counts) listed left)
 
-      line-is : step l (takeFrame b) .line ≡ counted (goes .0)
-      line-is = step-accepted l (takeFrame b) take-accepted .1 ∙ ap (λ (f : Frame). accepted l (effect l f)) (take-is b) ∙ ap (accepted l) (goes .1)
+      line-is : step l (takeFrame w b) .line ≡ counted (consoleOf w) (goes .0)
+      line-is = formed-line l (take-formed w listed b) take-accepted ∙ ap (accepted (consoleOf w) l) (goes .1)
 
       a : Again l ghost cut base fed receipts crashes inv b (c .here) (c .message) (c .rest) (c .first) (sender-gives l ghost cut base fed receipts crashes inv b (c .message) (c .rest) (c .here) (c .first)) again (c .below-goal again) r
       a = again-here l known b c again
@@ -133,11 +134,11 @@ module _ (l : Line) (known : Known l) (b : ℕ) (inside : b < channelCount (l .p
 
       -- The line where the replay goes on.
       abbrev on : Line
-      on = moved l (suc (r .steps)) (r .nodes) (r .lanes)
+      on = moved l (oneMore (consoleOf w) (r .steps)) (r .nodes) (r .lanes)
 
-      on-is : counted r ≡ on
+      on-is : counted (consoleOf w) r ≡ on
       unfolding counted
-      on-is = λ i. record { plan = a .plan i; steps = suc (r .steps); nodes = r .nodes; lanes = r .lanes }
+      on-is = λ i. record { plan = a .plan i; steps = oneMore (consoleOf w) (r .steps); nodes = r .nodes; lanes = r .lanes }
 
       abbrev lane : Lane
       lane = record { mark = laneAt l b .mark; taken = max (laneAt l b .taken) (m .time); heard = raiseHeard (parents (l .plan) (senderOf l b)) (laneAt l b .heard) (m .origin); queue = c .rest }
@@ -156,7 +157,7 @@ module _ (l : Line) (known : Known l) (b : ℕ) (inside : b < channelCount (l .p
           let done = rowComplete on n b in
           let taken : laneAt on b .taken ≡ m .time = ap (λ (x : Lane). x .taken) lane-now ∙ higher above in
           let mark : laneAt on b .mark ≡ laneAt l b .mark = ap (λ (x : Lane). x .mark) lane-now in
-          let log : logPut on b ≡ logPut l b = log-same l (suc (r .steps)) (r .nodes) (r .lanes) n (a .targets) b (sender-same b mine) in
+          let log : logPut on b ≡ logPut l b = log-same l (oneMore (consoleOf w) (r .steps)) (r .nodes) (r .lanes) n (a .targets) b (sender-same b mine) in
           let now : rowLeft on n b ≡ leftBy done (m .time) (laneAt l b .mark) (logPut l b) = λ i. leftBy done (taken i) (mark i) (log i) in
           omega (arith, now, was-left, taken-less m (laneAt l b .taken) (laneAt l b .mark) (logPut l b) in-log done above)
         where
@@ -164,21 +165,21 @@ module _ (l : Line) (known : Known l) (b : ℕ) (inside : b < channelCount (l .p
           higher h = omega arith
 
       abbrev After : Line → Type 0
-      After k = (nodeAt k n .status ≡ up) ⊎ ((nodeAt k n .status ≡ replay) × (rowsLeft k n < rowsLeft l n) × (k .steps ≡ suc (l .steps)))
+      After k = (nodeAt k n .status ≡ up) ⊎ ((nodeAt k n .status ≡ replay) × (rowsLeft k n < rowsLeft l n) × (k .steps ≡ oneMore (consoleOf w) (l .steps)))
 
-      after-take : After (counted (goes .0))
+      after-take : After (counted (consoleOf w) (goes .0))
       unfolding counted endedIfComplete
       after-take = go (rowsComplete r n) refl
         where
-          go : (t : Bool) → rowsComplete r n ≡ t → After (counted (goes .0))
+          go : (t : Bool) → rowsComplete r n ≡ t → After (counted (consoleOf w) (goes .0))
           go true e = inl (ended-up r n (rw (a .kept .shape .nodes-long, a .plan) (inv .ordered .inside b inside)) (goes .0) (sym (rw (e, endedIfComplete)) ∙ ended))
           go false e =
               let same : r ≡ goes .0 = some-same (sym (rw (e, endedIfComplete)) ∙ ended) in
-              subst (λ (x : Line). After (counted x)) same
-              (subst After (sym on-is) (inr (a .status, less-left l (suc (r .steps)) (r .nodes) (r .lanes) n (a .targets) mine sender-same (λ d i q. lane-other d q) row-less, ap suc (a .steps))))
+              subst (λ (x : Line). After (counted (consoleOf w) x)) same
+              (subst After (sym on-is) (inr (a .status, less-left l (oneMore (consoleOf w) (r .steps)) (r .nodes) (r .lanes) n (a .targets) mine sender-same (λ d i q. lane-other d q) row-less, ap (oneMore (consoleOf w)) (a .steps))))
 
-      take-advances : Advances l n
-      take-advances = record { frame = takeFrame b; shape = λ s. take-next (is-named (l .plan) n b mine) s; accepted = take-accepted; after = rw line-is after-take }
+      take-advances : Advances l w n
+      take-advances = record { frame = takeFrame w b; shape = λ s. take-next b (is-named (l .plan) n b mine) s; accepted = take-accepted; after = rw line-is after-take }
 
     -- Nothing waits: what the row still wants is in the sender's log, past the mark, and is sent.
     module _ (empty : isEmpty (laneAt l b .queue) ≡ true) where
@@ -207,10 +208,9 @@ module _ (l : Line) (known : Known l) (b : ℕ) (inside : b < channelCount (l .p
       unfolding effect
       send-goes = refl
 
-      send-accepted : refusal l (sendFrame b) ≡ 0
+      send-accepted : refusal l (sendFrame w b) ≡ 0
       send-accepted =
-          send-asks l b
-          ∙ answered l (send b)
+          answered l w (send-formed w listed b)
           (record {
             is-there = lt-leb (channelCount (l .plan)) b inside;
             right-node = refl;
@@ -223,7 +223,7 @@ module _ (l : Line) (known : Known l) (b : ℕ) (inside : b < channelCount (l .p
             space = refl;
           })
           (λ h. (_, send-goes))
-          ∙ left-zero l left
+          ∙ left-zero l w left
 
       entry : (e : Entry) × (sendable l b ≡ some e)
       entry = something-there (sendable l b) sendable-there
@@ -234,37 +234,37 @@ module _ (l : Line) (known : Known l) (b : ℕ) (inside : b < channelCount (l .p
       abbrev sentTo : Line
       sentTo = withLane b (sentOn (entry .0) (laneAt l b)) l
 
-      sent-line : step l (sendFrame b) .line ≡ counted sentTo
+      sent-line : step l (sendFrame w b) .line ≡ counted (consoleOf w) sentTo
       unfolding effect
-      sent-line = step-accepted l (sendFrame b) send-accepted .1 ∙ ap (λ (f : Frame). accepted l (effect l f)) (send-is b) ∙ ap (λ (o : Option Entry). counted (sentLine b o l)) (entry .1)
+      sent-line = formed-line l (send-formed w listed b) send-accepted ∙ ap (λ (o : Option Entry). counted (consoleOf w) (sentLine b o l)) (entry .1)
 
       first-sent : In (messageOf e) (logPut l b) × (ltb (laneAt l b .mark) (e .time) ≡ true)
       first-sent =
           let (rest, q) = subst (λ (x : Option Entry). First x (past timeOf (laneAt l b .mark) (logPut l b))) (entry .1) (sendable-first l b) in
           keep-in (λ (x : Message). ltb (laneAt l b .mark) (x .time)) (logPut l b) (subst (λ (x : List Message). In (messageOf e) x) (sym q) here)
 
-      send-less : rowsLeft (counted sentTo) n < rowsLeft l n
+      send-less : rowsLeft (counted (consoleOf w) sentTo) n < rowsLeft l n
       unfolding counted withLane sentOn
       send-less =
           let x = sentOn e (laneAt l b) in
-          let k = moved l (suc (l .steps)) (l .nodes) (sentTo .lanes) in
+          let k = moved l (oneMore (consoleOf w) (l .steps)) (l .nodes) (sentTo .lanes) in
           let lane-now : laneAt k b ≡ x = lane-there b x l (rw (inv .shape .lanes-long) inside) in
           let done = rowComplete k n b in
           let taken : laneAt k b .taken ≡ laneAt l b .taken = ap (λ (y : Lane). y .taken) lane-now in
           let mark : laneAt k b .mark ≡ e .time = ap (λ (y : Lane). y .mark) lane-now in
-          let log : logPut k b ≡ logPut l b = log-same l (suc (l .steps)) (l .nodes) (sentTo .lanes) n refl b refl in
+          let log : logPut k b ≡ logPut l b = log-same l (oneMore (consoleOf w) (l .steps)) (l .nodes) (sentTo .lanes) n refl b refl in
           let now : rowLeft k n b ≡ leftBy done (laneAt l b .taken) (e .time) (logPut l b) = λ i. leftBy done (taken i) (mark i) (log i) in
           let (i, late) = first-sent in
-          less-left l (suc (l .steps)) (l .nodes) (sentTo .lanes) n refl mine (λ d j. refl) (λ d j q. lane-else b x l d q)
+          less-left l (oneMore (consoleOf w) (l .steps)) (l .nodes) (sentTo .lanes) n refl mine (λ d j. refl) (λ d j q. lane-else b x l d q)
           (omega (arith, now, was-left, sent-less (messageOf e) (laneAt l b .taken) (laneAt l b .mark) (logPut l b) i done (ltb-true (laneAt l b .mark) (e .time) late)))
 
-      send-advances : Advances l n
+      send-advances : Advances l w n
       unfolding counted withLane
-      send-advances = record { frame = sendFrame b; shape = λ s. send-next (is-named (l .plan) n b mine) s; accepted = send-accepted; after = rw sent-line (inr (again, send-less, refl)) }
+      send-advances = record { frame = sendFrame w b; shape = λ s. send-next b (is-named (l .plan) n b mine) s; accepted = send-accepted; after = rw sent-line (inr (again, send-less, refl)) }
 
-    pub advance-at : Advances l (receiverOf l b)
+    pub advance-at : Advances l w (receiverOf l b)
     advance-at = go (isEmpty (laneAt l b .queue)) refl
       where
-        go : (t : Bool) → isEmpty (laneAt l b .queue) ≡ t → Advances l n
+        go : (t : Bool) → isEmpty (laneAt l b .queue) ≡ t → Advances l w n
         go false q = take-advances q
         go true q = send-advances q

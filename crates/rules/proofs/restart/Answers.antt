@@ -3,7 +3,7 @@ use Prim.Native.Nat.{ℕ, _<_}
 use mathlib.Core.Path.{_≡_, refl, sym, ap, _∙_}
 use mathlib.Core.Logic.{_≢_}
 use mathlib.Core.Bool.{Bool, true, false, not, _&&_, true≢false}
-use mathlib.Core.List.{[]}
+use mathlib.Core.List.{List, []}
 use mathlib.Core.Option.{some}
 use native.Mathlib.Omega.{arith}
 use native.Mathlib.Decide.{decLt}
@@ -12,13 +12,14 @@ use lib.Dec.{leb}
 use borrow.Author.Tests.{leb-false, lt-leb, le-ltb}
 use Rattle.plan.specs.Plan.{nodeCount, channelCount, channelAt}
 use Rattle.rules.specs.Lists.{isEmpty}
-use Rattle.rules.specs.Line.{stepLimit, heldLimit, targetLimit, Status, down, replay, Line, noLane, nodeAt, laneAt, receiverOf, isDown}
+use Rattle.rules.specs.Line.{stepLimit, consoleCount, stepsFrom, heldLimit, targetLimit, Status, down, replay, Line, noLane, nodeAt, laneAt, receiverOf, isDown}
 use Rattle.rules.specs.Frame.{Frame, take, recover}
 use Rattle.rules.specs.Recover.{targetsOf, rowComplete}
 use Rattle.rules.specs.Step.{noStepsLeft, noSuch, wrongNode, wrongStatus, besideCrashed, badRecord, nothingThere, queueFull, rowDone, takeLacks, noSpace, effect, noPlacing, lineRefusal, refusal}
-use Rattle.rules.specs.Restart.{takeFrame, recoverFrame, unlessUsedUp}
+use Rattle.rules.specs.Restart.{Caller, consoleOf, takeFrame, recoverFrame, unlessUsedUp}
 use Rattle.rules.proofs.lists.Members.{in-keep}
 use Rattle.rules.proofs.lists.Counts.{in-long}
+use Rattle.rules.proofs.line.Consoles.{counts-left}
 use Rattle.rules.proofs.histories.Passing.{goesOn}
 use Rattle.rules.proofs.invariant.Inv.{isUp, waits, takens}
 use Rattle.rules.proofs.invariant.InvLaws.{not-up-inside, up-not-down, replay-marked, marked-unless-up}
@@ -26,7 +27,7 @@ use Rattle.rules.proofs.invariant.MarkedLaws.{parent-up}
 use Rattle.rules.proofs.steps.HoldInv.{waited}
 use Rattle.rules.proofs.theorem.Accepted.{CanTake, may-take, may-recover}
 use Rattle.rules.proofs.restart.Known.{Known}
-use Rattle.rules.proofs.restart.Frames.{recover-asks, take-asks}
+use Rattle.rules.proofs.restart.Frames.{Formed, formed-refusal, recover-formed, take-formed}
 use Rattle.rules.proofs.restart.RecoverGoes.{targets-few}
 use Rattle.rules.proofs.restart.NeverUnplaced.{recover-goes, take-goes}
 
@@ -42,17 +43,18 @@ pub record Unrefused (l : Line) (f : Frame) : Type 0 where
   pub row-open : rowDone l f ≡ false
   pub space : noSpace l f ≡ false
 
--- It is accepted unless the steps are used up, where it leads to a line.
-pub answered : (l : Line) (f : Frame) → Unrefused l f → (l .steps < stepLimit → (k : Line) × (effect l f ≡ some k)) → lineRefusal l f ≡ unlessUsedUp l
+-- It is accepted unless the caller's steps are used up, where it leads to a line.
+pub answered : (l : Line) (w : Caller) {frame : List ℕ} {f : Frame} → Formed frame (consoleOf w) f → Unrefused l f → (stepsFrom l (consoleOf w) < stepLimit → (k : Line) × (effect l f ≡ some k)) → refusal l frame ≡ unlessUsedUp l w
 unfolding lineRefusal unlessUsedUp noStepsLeft noPlacing
-answered l f u goes = go (noStepsLeft l) refl
+answered l w {frame} {f} formed u goes = formed-refusal l formed ∙ go (noStepsLeft l (consoleOf w)) refl
   where
-    go : (t : Bool) → noStepsLeft l ≡ t → lineRefusal l f ≡ unlessUsedUp l
-    go true e = rw (e, lineRefusal, unlessUsedUp)
+    go : (t : Bool) → noStepsLeft l (consoleOf w) ≡ t → (elim (noStepsLeft l (consoleOf w)) [ true ↦ 12 | false ↦ lineRefusal l f ]) ≡ unlessUsedUp l w
+    go true e = rw (e, unlessUsedUp)
     go false e =
-        let (k, leads) = goes (leb-false stepLimit (l .steps) e) in
+        let (k, leads) = goes (leb-false stepLimit (stepsFrom l (consoleOf w)) e) in
         rw (
           e,
+          unlessUsedUp,
           lineRefusal,
           u .is-there,
           lineRefusal,
@@ -74,7 +76,6 @@ answered l f u goes = go (noStepsLeft l) refl
           lineRefusal,
           leads,
           lineRefusal,
-          unlessUsedUp,
         )
 
 module _ (l : Line) (known : Known l) where
@@ -104,10 +105,10 @@ module _ (l : Line) (known : Known l) where
         space = le-ltb targetLimit (length (targetsOf l n)) (targets-few l ghost cut base fed receipts crashes inv n inside e);
       }
 
-  pub recovers : (n : ℕ) → nodeAt l n .status ≡ down → refusal l (recoverFrame n) ≡ unlessUsedUp l
-  recovers n e =
+  pub recovers : (w : Caller) → consoleOf w < consoleCount → (n : ℕ) → nodeAt l n .status ≡ down → refusal l (recoverFrame w n) ≡ unlessUsedUp l w
+  recovers w there n e =
       let u = recover-unrefused n e in
-      recover-asks l n ∙ answered l (recover n) u (λ h. (_, recover-goes l known n (may-recover l n (u .is-there) (u .right-node) (u .right-status))))
+      answered l w (recover-formed w there n) u (λ h. (_, recover-goes l known n (may-recover l n (u .is-there) (u .right-node) (u .right-status))))
 
   -- The ends of a channel that enters a replaying node are not down.
   pub ends-there : (b : ℕ) → b < channelCount (l .plan) → nodeAt l (channelAt (l .plan) b .receiver) .status ≡ replay → wrongStatus l (take b) ≡ false
@@ -158,5 +159,5 @@ module _ (l : Line) (known : Known l) where
           space = space;
         }
 
-    pub replays : refusal l (takeFrame b) ≡ unlessUsedUp l
-    replays = take-asks l b ∙ answered l (take b) take-unrefused (take-goes l known b can)
+    pub replays : (w : Caller) → consoleOf w < consoleCount → refusal l (takeFrame w b) ≡ unlessUsedUp l w
+    replays w there = answered l w (take-formed w there b) take-unrefused (λ left. take-goes l known b can (counts-left (known .steady .limits .counts) there left))

@@ -5,23 +5,23 @@ use mathlib.Core.Logic.{inl, inr}
 use mathlib.Core.Bool.{false}
 use mathlib.Core.List.{List, [], _∷_, _++_, append-assoc}
 use native.Mathlib.Omega.{arith}
-use lib.ListN.{length, replicate}
+use lib.ListN.{length, getD, replicate}
 use Rattle.plan.specs.Plan.{Plan, channelCount, entering}
-use Rattle.rules.specs.Line.{stepLimit, Target, Status, up, down, replay, Node, Line, nodeAt, counted, receiverOf}
-use Rattle.rules.specs.Frame.{Frame}
+use Rattle.rules.specs.Line.{stepLimit, consoleCount, stepsFrom, Target, Status, up, down, replay, Node, Line, nodeAt, oneMore, counted, receiverOf}
 use Rattle.rules.specs.Recover.{targetsOf, rowComplete, rowsComplete, recovered, statusOf}
-use Rattle.rules.specs.Step.{effect, accepted, refusal, step}
+use Rattle.rules.specs.Step.{accepted, refusal, step}
 use Rattle.rules.specs.Claim.{Story, startOf, told, storyFrom}
-use Rattle.rules.specs.Restart.{recoverFrame, OnEntering, no-more, Restarting, restartSteps, ComesBack}
+use Rattle.rules.specs.Restart.{Caller, consoleOf, recoverFrame, OnEntering, no-more, Restarting, restartSteps, ComesBack}
 use Rattle.rules.proofs.lists.ListLaws.{nil-right}
 use Rattle.rules.proofs.lists.Members.{In, not-all}
 use Rattle.rules.proofs.line.Joins.{entering-in}
+use Rattle.rules.proofs.line.Consoles.{own-more}
 use Rattle.rules.proofs.invariant.InvLaws.{not-up-inside, up-not-replay, up-not-down}
 use Rattle.rules.proofs.undamaged.Restored.{recovered-is, restored-node}
 use Rattle.rules.proofs.theorem.Accepted.{may-recover, step-accepted}
-use Rattle.rules.proofs.theorem.PlanKept.{step-plan}
+use Rattle.rules.proofs.theorem.Unmoved.{step-plan}
 use Rattle.rules.proofs.restart.Known.{Known, known-step}
-use Rattle.rules.proofs.restart.Frames.{recover-is}
+use Rattle.rules.proofs.restart.Frames.{recover-formed, formed-line}
 use Rattle.rules.proofs.restart.NeverUnplaced.{recover-goes}
 use Rattle.rules.proofs.restart.Answers.{recover-unrefused, recovers}
 use Rattle.rules.proofs.restart.RowsLeft.{rowsLeft, row-most, total-most}
@@ -41,16 +41,20 @@ story-numbers (f ∷ fs) s =
     let rest = storyFrom (startOf (a .line)) fs .numbers in
     story-numbers fs (told s f) ∙ append-assoc (s .numbers) (a .number ∷ []) rest ∙ ap (λ (ns : List ℕ). s .numbers ++ ns) (sym (story-numbers fs (told (startOf (s .line)) f)))
 
--- At most j steps on the channels that enter node n bring it up.
-record Brought (j : ℕ) (l : Line) (n : ℕ) : Type 0 where
+-- At most j steps of a caller's on the channels that enter node n bring it up.
+record Brought (j : ℕ) (l : Line) (w : Caller) (n : ℕ) : Type 0 where
   frames : List (List ℕ)
   few : length frames ≤ j
-  shape : OnEntering (l .plan) n frames
+  shape : OnEntering (l .plan) w n frames
   all-zero : storyFrom (startOf l) frames .numbers ≡ replicate (length frames) 0
   back : nodeAt (storyFrom (startOf l) frames .line) n .status ≡ up
 
-brought-none : (j : ℕ) (l : Line) (n : ℕ) → nodeAt l n .status ≡ up → Brought j l n
-brought-none j l n e = record { frames = []; few = omega arith; shape = no-more; all-zero = refl; back = e }
+brought-none : (j : ℕ) (l : Line) (w : Caller) (n : ℕ) → nodeAt l n .status ≡ up → Brought j l w n
+brought-none j l w n e = record { frames = []; few = omega arith; shape = no-more; all-zero = refl; back = e }
+
+-- The caller's own count, one step on.
+own-count : (l : Line) → Known l → (w : Caller) → consoleOf w < consoleCount → stepsFrom l (consoleOf w) < stepLimit → (k : Line) → k .steps ≡ oneMore (consoleOf w) (l .steps) → stepsFrom k (consoleOf w) ≡ suc (stepsFrom l (consoleOf w))
+own-count l known w listed left k e = ap (λ (counts : List ℕ). getD counts (consoleOf w) 0) e ∙ own-more (known .steady .limits .counts) listed left
 
 -- An accepted frame, and then others.
 module _ (l : Line) (f : List ℕ) (z : refusal l f ≡ 0) where
@@ -63,12 +67,12 @@ module _ (l : Line) (f : List ℕ) (z : refusal l f ≡ 0) where
   unfolding told
   line-then fs = story-line fs (told (startOf l) f)
 
-  brought-then : {j n : ℕ} → ((frames : List (List ℕ)) → OnEntering (l .plan) n frames → OnEntering (l .plan) n (f ∷ frames)) → Brought j (step l f .line) n → Brought (suc j) l n
-  brought-then {j} {n} shape b =
+  brought-then : {j : ℕ} {w : Caller} {n : ℕ} → ((frames : List (List ℕ)) → OnEntering (l .plan) w n frames → OnEntering (l .plan) w n (f ∷ frames)) → Brought j (step l f .line) w n → Brought (suc j) l w n
+  brought-then {j} {w} {n} shape b =
       record {
         frames = f ∷ b .frames;
         few = omega (arith, b .few);
-        shape = shape (b .frames) (subst (λ (p : Plan). OnEntering p n (b .frames)) (step-plan l f) (b .shape));
+        shape = shape (b .frames) (subst (λ (p : Plan). OnEntering p w n (b .frames)) (step-plan l f) (b .shape));
         all-zero = zero-then (b .frames) (b .all-zero);
         back = ap (λ (k : Line). nodeAt k n .status) (line-then (b .frames)) ∙ b .back;
       }
@@ -97,75 +101,75 @@ module _ (l : Line) (known : Known l) (n : ℕ) (again : nodeAt l n .status ≡ 
   left-over : 0 < rowsLeft l n
   left-over = subst (λ (x : ℕ). 0 < rowsLeft l x) into (some-left l known b inside replays-there open-there)
 
-  advance : l .steps < stepLimit → Advances l n
-  advance left = subst (Advances l) into (advance-at l known b inside replays-there open-there left)
+  advance : (w : Caller) → consoleOf w < consoleCount → stepsFrom l (consoleOf w) < stepLimit → Advances l w n
+  advance w listed left = subst (Advances l w) into (advance-at l known b inside replays-there open-there w listed left)
 
-bring : (j : ℕ) (l : Line) → Known l → (n : ℕ) → nodeAt l n .status ≡ replay → rowsLeft l n ≤ j → l .steps + j ≤ stepLimit → Brought j l n
-bring zero l known n again few left = let no : ⊥ = omega (arith, left-over l known n again) in absurd no
-bring (suc j) l known n again few left =
-    let a = advance l known n again (omega arith) in
+bring : (j : ℕ) (l : Line) → Known l → (w : Caller) → consoleOf w < consoleCount → (n : ℕ) → nodeAt l n .status ≡ replay → rowsLeft l n ≤ j → stepsFrom l (consoleOf w) + j ≤ stepLimit → Brought j l w n
+bring zero l known w listed n again few left = let no : ⊥ = omega (arith, left-over l known n again) in absurd no
+bring (suc j) l known w listed n again few left =
+    let a = advance l known n again w listed (omega arith) in
     let next = step l (a .frame) .line in
     brought-then l (a .frame) (a .accepted) (λ frames s. a .shape s)
     (elim (a .after) [
-      | inl e ↦ brought-none j next n e
-      | inr (e, less, steps) ↦ bring j next (known-step l (a .frame) known) n e (omega arith) (omega arith)
+      | inl e ↦ brought-none j next w n e
+      | inr (e, less, steps) ↦ bring j next (known-step l (a .frame) known) w listed n e (omega arith) (omega (arith, own-count l known w listed (omega arith) next steps))
     ])
 
 -- At most 64 Sends and 64 Takes a row, four rows.
-bring-all : (l : Line) → Known l → (n : ℕ) → nodeAt l n .status ≡ replay → l .steps + 512 ≤ stepLimit → Brought 512 l n
-bring-all l known n again left =
-    bring 512 l known n again
+bring-all : (l : Line) → Known l → (w : Caller) → consoleOf w < consoleCount → (n : ℕ) → nodeAt l n .status ≡ replay → stepsFrom l (consoleOf w) + 512 ≤ stepLimit → Brought 512 l w n
+bring-all l known w listed n again left =
+    bring 512 l known w listed n again
     (total-most _ 4 (entering (l .plan) n) (λ b i. row-most l 0 (known .steady .limits) n b) (known .rows n (not-up-inside (known .inv .shape) n (λ z. up-not-replay (sym z ∙ again))))) left
 
 -- A node that is down is recovered first.
-module _ (l : Line) (known : Known l) (n : ℕ) (gone : nodeAt l n .status ≡ down) (left : l .steps + restartSteps ≤ stepLimit) where
-  recover-accepted : refusal l (recoverFrame n) ≡ 0
-  recover-accepted = recovers l known n gone ∙ left-zero l (omega arith)
+module _ (l : Line) (known : Known l) (w : Caller) (listed : consoleOf w < consoleCount) (n : ℕ) (gone : nodeAt l n .status ≡ down) (left : stepsFrom l (consoleOf w) + restartSteps ≤ stepLimit) where
+  recover-accepted : refusal l (recoverFrame w n) ≡ 0
+  recover-accepted = recovers l known w listed n gone ∙ left-zero l w (omega arith)
 
   abbrev next : Line
-  next = step l (recoverFrame n) .line
+  next = step l (recoverFrame w n) .line
 
-  next-is : next ≡ counted (recovered n l)
+  next-is : next ≡ counted (consoleOf w) (recovered n l)
   next-is =
       let u = recover-unrefused l known n gone in
-      step-accepted l (recoverFrame n) recover-accepted .1 ∙ ap (λ (f : Frame). accepted l (effect l f)) (recover-is n)
-      ∙ ap (accepted l) (recover-goes l known n (may-recover l n (u .is-there) (u .right-node) (u .right-status)))
+      formed-line l (recover-formed w listed n) recover-accepted
+      ∙ ap (accepted (consoleOf w) l) (recover-goes l known n (may-recover l n (u .is-there) (u .right-node) (u .right-status)))
 
   next-status : nodeAt next n .status ≡ statusOf (targetsOf l n)
   unfolding counted
   next-status =
       let inv = known .inv in
-      ap (λ (k : Line). nodeAt k n .status) (next-is ∙ ap counted (recovered-is l n (inv .ordered) (inv .shape))) ∙ ap (λ (x : Node). x .status) (restored-node l n (inv .ordered) (inv .shape) (not-up-inside (known .inv .shape) n (λ z. up-not-down (sym z ∙ gone))))
+      ap (λ (k : Line). nodeAt k n .status) (next-is ∙ ap (counted (consoleOf w)) (recovered-is l n (inv .ordered) (inv .shape))) ∙ ap (λ (x : Node). x .status) (restored-node l n (inv .ordered) (inv .shape) (not-up-inside (known .inv .shape) n (λ z. up-not-down (sym z ∙ gone))))
 
-  next-steps : next .steps ≡ suc (l .steps)
+  next-steps : next .steps ≡ oneMore (consoleOf w) (l .steps)
   unfolding counted
-  next-steps = ap (λ (k : Line). k .steps) (next-is ∙ ap counted (recovered-is l n (known .inv .ordered) (known .inv .shape)))
+  next-steps = ap (λ (k : Line). k .steps) (next-is ∙ ap (counted (consoleOf w)) (recovered-is l n (known .inv .ordered) (known .inv .shape)))
 
-  brought-after : Brought 512 next n
+  brought-after : Brought 512 next w n
   brought-after = go (targetsOf l n) refl
     where
-      go : (ts : List Target) → targetsOf l n ≡ ts → Brought 512 next n
-      go [] q = brought-none 512 next n (next-status ∙ ap statusOf q)
-      go (t ∷ ts) q = bring-all next (known-step l (recoverFrame n) known) n (next-status ∙ ap statusOf q) (omega (arith, next-steps))
+      go : (ts : List Target) → targetsOf l n ≡ ts → Brought 512 next w n
+      go [] q = brought-none 512 next w n (next-status ∙ ap statusOf q)
+      go (t ∷ ts) q = bring-all next (known-step l (recoverFrame w n) known) w listed n (next-status ∙ ap statusOf q) (omega (arith, own-count l known w listed (omega arith) next next-steps))
 
-  recovered-back : ComesBack l n
+  recovered-back : ComesBack l w n
   recovered-back =
       let b = brought-after in
       record {
-        frames = recoverFrame n ∷ b .frames;
+        frames = recoverFrame w n ∷ b .frames;
         few = omega (arith, b .few);
-        shape = subst (λ (s : Status). Restarting (l .plan) n s (recoverFrame n ∷ b .frames)) (sym gone) (b .frames, refl, subst (λ (p : Plan). OnEntering p n (b .frames)) (step-plan l (recoverFrame n)) (b .shape));
-        accepted = zero-then l (recoverFrame n) recover-accepted (b .frames) (b .all-zero);
-        back = ap (λ (k : Line). nodeAt k n .status) (line-then l (recoverFrame n) recover-accepted (b .frames)) ∙ b .back;
+        shape = subst (λ (s : Status). Restarting (l .plan) w n s (recoverFrame w n ∷ b .frames)) (sym gone) (b .frames, refl, subst (λ (p : Plan). OnEntering p w n (b .frames)) (step-plan l (recoverFrame w n)) (b .shape));
+        accepted = zero-then l (recoverFrame w n) recover-accepted (b .frames) (b .all-zero);
+        back = ap (λ (k : Line). nodeAt k n .status) (line-then l (recoverFrame w n) recover-accepted (b .frames)) ∙ b .back;
       }
 
-pub comes-back : (l : Line) → Known l → (n : ℕ) → l .steps + restartSteps ≤ stepLimit → ComesBack l n
-comes-back l known n left = go (nodeAt l n .status) refl
+pub comes-back : (l : Line) → Known l → (w : Caller) → consoleOf w < consoleCount → (n : ℕ) → stepsFrom l (consoleOf w) + restartSteps ≤ stepLimit → ComesBack l w n
+comes-back l known w listed n left = go (nodeAt l n .status) refl
   where
-    brought : {j : ℕ} (s : Status) → nodeAt l n .status ≡ s → ((fs : List (List ℕ)) → OnEntering (l .plan) n fs → Restarting (l .plan) n s fs) → j ≤ restartSteps → Brought j l n → ComesBack l n
-    brought s q shape h b = record { frames = b .frames; few = omega (arith, b .few); shape = subst (λ (t : Status). Restarting (l .plan) n t (b .frames)) (sym q) (shape (b .frames) (b .shape)); accepted = b .all-zero; back = b .back }
+    brought : {j : ℕ} (s : Status) → nodeAt l n .status ≡ s → ((fs : List (List ℕ)) → OnEntering (l .plan) w n fs → Restarting (l .plan) w n s fs) → j ≤ restartSteps → Brought j l w n → ComesBack l w n
+    brought s q shape h b = record { frames = b .frames; few = omega (arith, b .few); shape = subst (λ (t : Status). Restarting (l .plan) w n t (b .frames)) (sym q) (shape (b .frames) (b .shape)); accepted = b .all-zero; back = b .back }
 
-    go : (s : Status) → nodeAt l n .status ≡ s → ComesBack l n
-    go up q = brought up q (λ fs s. s) (omega arith) (brought-none 0 l n q)
-    go down q = recovered-back l known n q left
-    go replay q = brought replay q (λ fs s. s) (omega arith) (bring-all l known n q (omega arith))
+    go : (s : Status) → nodeAt l n .status ≡ s → ComesBack l w n
+    go up q = brought up q (λ fs s. s) (omega arith) (brought-none 0 l w n q)
+    go down q = recovered-back l known w listed n q left
+    go replay q = brought replay q (λ fs s. s) (omega arith) (bring-all l known w listed n q (omega arith))

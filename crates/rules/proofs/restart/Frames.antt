@@ -1,33 +1,44 @@
--- What the frames of a restart ask.
-use Prim.Native.Nat.{ℕ}
-use mathlib.Core.Path.{_≡_, ap}
-use native.Mathlib.Nat.{zero-add}
-use Rattle.rules.specs.Line.{Line}
-use Rattle.rules.specs.Frame.{send, take, recover, frameOf}
-use Rattle.rules.specs.Step.{lineRefusal, refusal}
-use Rattle.rules.specs.Restart.{sendFrame, takeFrame, recoverFrame}
+-- What the frames of a restart ask, whoever passes them.
+use Prim.Native.Nat.{ℕ, _<_}
+use mathlib.Core.Path.{_≡_, refl, _∙_}
+use mathlib.Core.Bool.{true, false}
+use mathlib.Core.List.{List}
+use lib.Dec.{leb, eqb}
+use borrow.Author.Tests.{lt-leb}
+use Rattle.rules.specs.Line.{consoleCount, Line}
+use Rattle.rules.specs.Frame.{Frame, send, take, recover, frameConsole, frameOf, frameRefusal}
+use Rattle.rules.specs.Step.{noStepsLeft, lineRefusal, refusal, effect, accepted, step}
+use Rattle.rules.specs.Restart.{Caller, unnamed, console, consoleOf, sendFrame, takeFrame, recoverFrame}
+use Rattle.rules.proofs.theorem.Accepted.{step-accepted}
 
-module _ (l : Line) (x : ℕ) where
-  pub recover-asks : refusal l (recoverFrame x) ≡ lineRefusal l (recover x)
-  unfolding refusal
-  recover-asks = ap (λ (y : ℕ). lineRefusal l (recover y)) (zero-add x)
+-- A well-formed frame of console c that asks f.
+pub record Formed (frame : List ℕ) (c : ℕ) (f : Frame) : Type 0 where
+  pub formed : frameRefusal frame ≡ 0
+  pub from : frameConsole frame ≡ c
+  pub asks : frameOf frame ≡ f
 
-  pub send-asks : refusal l (sendFrame x) ≡ lineRefusal l (send x)
-  unfolding refusal
-  send-asks = ap (λ (y : ℕ). lineRefusal l (send y)) (zero-add x)
+console-there : (c : ℕ) → c < consoleCount → _≡_ {A = ℕ} (elim (leb consoleCount c) [ true ↦ 25 | false ↦ 0 ]) 0
+console-there c h = rw (lt-leb consoleCount c h)
 
-  pub take-asks : refusal l (takeFrame x) ≡ lineRefusal l (take x)
-  unfolding refusal
-  take-asks = ap (λ (y : ℕ). lineRefusal l (take y)) (zero-add x)
+pub recover-formed : (w : Caller) → consoleOf w < consoleCount → (x : ℕ) → Formed (recoverFrame w x) (consoleOf w) (recover x)
+unfolding frameRefusal frameConsole frameOf
+recover-formed unnamed h x = record { formed = refl; from = refl; asks = refl }
+recover-formed (console c) h x = record { formed = console-there c h; from = refl; asks = refl }
 
-pub recover-is : (x : ℕ) → frameOf (recoverFrame x) ≡ recover x
-unfolding frameOf
-recover-is x = ap recover (zero-add x)
+pub send-formed : (w : Caller) → consoleOf w < consoleCount → (x : ℕ) → Formed (sendFrame w x) (consoleOf w) (send x)
+unfolding frameRefusal frameConsole frameOf
+send-formed unnamed h x = record { formed = refl; from = refl; asks = refl }
+send-formed (console c) h x = record { formed = console-there c h; from = refl; asks = refl }
 
-pub send-is : (x : ℕ) → frameOf (sendFrame x) ≡ send x
-unfolding frameOf
-send-is x = ap send (zero-add x)
+pub take-formed : (w : Caller) → consoleOf w < consoleCount → (x : ℕ) → Formed (takeFrame w x) (consoleOf w) (take x)
+unfolding frameRefusal frameConsole frameOf
+take-formed unnamed h x = record { formed = refl; from = refl; asks = refl }
+take-formed (console c) h x = record { formed = console-there c h; from = refl; asks = refl }
 
-pub take-is : (x : ℕ) → frameOf (takeFrame x) ≡ take x
-unfolding frameOf
-take-is x = ap take (zero-add x)
+-- Such a frame gets as far as its caller's count.
+pub formed-refusal : (l : Line) {frame : List ℕ} {c : ℕ} {f : Frame} → Formed frame c f → refusal l frame ≡ (elim (noStepsLeft l c) [ true ↦ 12 | false ↦ lineRefusal l f ])
+unfolding refusal
+formed-refusal l g = λ i. elim (eqb (g .formed i) 0) [ true ↦ elim (noStepsLeft l (g .from i)) [ true ↦ 12 | false ↦ lineRefusal l (g .asks i) ] | false ↦ g .formed i ]
+
+pub formed-line : (l : Line) {frame : List ℕ} {c : ℕ} {f : Frame} → Formed frame c f → refusal l frame ≡ 0 → step l frame .line ≡ accepted c l (effect l f)
+formed-line l {frame} g z = step-accepted l frame z .1 ∙ λ i. accepted (g .from i) l (effect l (g .asks i))

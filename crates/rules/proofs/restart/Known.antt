@@ -22,7 +22,7 @@ use Rattle.rules.proofs.invariant.Inv.{Inv}
 use Rattle.rules.proofs.invariant.Limits.{Steady}
 use Rattle.rules.proofs.steps.LoadInv.{start-steady, load-inv}
 use Rattle.rules.proofs.theorem.Accepted.{step-refused}
-use Rattle.rules.proofs.theorem.PlanKept.{step-plan}
+use Rattle.rules.proofs.theorem.Unmoved.{step-plan}
 use Rattle.rules.proofs.theorem.StepInv.{step-inv}
 use Rattle.rules.proofs.theorem.SteadyKept.{step-steady}
 

@@ -5,13 +5,15 @@ use mathlib.Core.Logic.{_≢_, inl, inr}
 use mathlib.Core.List.{List}
 use mathlib.Core.Option.{some}
 use Rattle.plan.specs.Plan.{channelAt}
-use Rattle.rules.specs.Line.{stepLimit, replay, Line, nodeAt}
+use Rattle.placing.specs.Table.{greatest}
+use Rattle.rules.specs.Line.{acceptedSteps, replay, Line, nodeAt}
 use Rattle.rules.specs.Frame.{Frame, feed, send, take, crash, recover, frameOf}
 use Rattle.rules.specs.Recover.{recovered}
 use Rattle.rules.specs.Step.{takenLane, takenReplaying, effect, refusal}
 use Rattle.rules.proofs.lists.Options.{none-some}
+use Rattle.rules.proofs.line.Consoles.{counts-left}
 use Rattle.rules.proofs.ending.ReplayTakeInv.{Again, again}
-use Rattle.rules.proofs.theorem.Accepted.{CanTake, may-take, CanRecover, may-recover, Unplaced, unplaced, line-unplaced}
+use Rattle.rules.proofs.theorem.Accepted.{CanTake, may-take, CanRecover, may-recover, Unplaced, unplaced}
 use Rattle.rules.proofs.theorem.StepInv.{up-or-replay, sender-gives, taken-is, again-is}
 use Rattle.rules.proofs.theorem.SteadyKept.{again-fair}
 use Rattle.rules.proofs.restart.Known.{Known}
@@ -32,7 +34,7 @@ module _ (l : Line) (known : Known l) where
   again-here b can replays =
       again l ghost cut base fed receipts crashes inv b (can .here) (can .message) (can .rest) (can .first) (sender-gives l ghost cut base fed receipts crashes inv b (can .message) (can .rest) (can .here) (can .first)) replays (can .below-goal replays)
 
-  take-again : (b : ℕ) (can : CanTake l b) → nodeAt l (channelAt (l .plan) b .receiver) .status ≡ replay → l .steps < stepLimit → (k : Line) × (effect l (take b) ≡ some k)
+  take-again : (b : ℕ) (can : CanTake l b) → nodeAt l (channelAt (l .plan) b .receiver) .status ≡ replay → acceptedSteps l < greatest → (k : Line) × (effect l (take b) ≡ some k)
   take-again b can replays left =
       let n = channelAt (l .plan) b .receiver in
       let r = takenReplaying b (can .message) (takenLane b (can .message) (can .rest) l) in
@@ -41,20 +43,20 @@ module _ (l : Line) (known : Known l) where
       let (k, e) = goes-on r ghost cut base fed _ crashes (a .kept) n (a .status) limits (rw (a .steps) left) (rw (a .plan) (rows n (inv .ordered .inside b (can .here)))) in
       (k, again-is l ghost cut base fed receipts crashes inv b can replays ∙ e)
 
-  pub take-goes : (b : ℕ) → CanTake l b → l .steps < stepLimit → (k : Line) × (effect l (take b) ≡ some k)
+  pub take-goes : (b : ℕ) → CanTake l b → acceptedSteps l < greatest → (k : Line) × (effect l (take b) ≡ some k)
   take-goes b can left =
       elim (up-or-replay (nodeAt l (channelAt (l .plan) b .receiver) .status) (can .receiver)) [
         | inl alive ↦ (_, taken-is l ghost cut base fed receipts crashes inv b can alive)
         | inr replays ↦ take-again b can replays left
       ]
 
-  never-unplaced : (f : Frame) → Unplaced l f → ⊥
+  never-unplaced : {c : ℕ} (f : Frame) → Unplaced l c f → ⊥
   unfolding effect
   never-unplaced (feed n r) u = none-some (sym (u .nowhere))
   never-unplaced (send b) u = none-some (sym (u .nowhere))
-  never-unplaced (take b) u = none-some (sym (u .nowhere) ∙ take-goes b (may-take l b (u .is-there) (u .right-status) (u .something) (u .row-open)) (u .steps-left) .1)
+  never-unplaced (take b) u = none-some (sym (u .nowhere) ∙ take-goes b (may-take l b (u .is-there) (u .right-status) (u .something) (u .row-open)) (counts-left (steady .limits .counts) (u .console) (u .steps-left)) .1)
   never-unplaced (crash n) u = none-some (sym (u .nowhere))
   never-unplaced (recover n) u = none-some (sym (u .nowhere) ∙ recover-goes n (may-recover l n (u .is-there) (u .right-node) (u .right-status)))
 
   pub placed : (f : List ℕ) → refusal l f ≢ 24
-  placed f e = never-unplaced (frameOf f) (unplaced l (frameOf f) (line-unplaced l f e))
+  placed f e = never-unplaced (frameOf f) (unplaced l f e)

@@ -74,7 +74,7 @@ module _ (m : Message) (taken mark : ℕ) (log : List Message) (i : In m log) (n
       one false l = omega arith
 
 -- A replay in another line with the same plan.
-module _ (l : Line) (steps : ℕ) (nodes : List Node) (lanes : List Lane) (n : ℕ) (targets : nodeAt (moved l steps nodes lanes) n .targets ≡ nodeAt l n .targets) where
+module _ (l : Line) (steps : List ℕ) (nodes : List Node) (lanes : List Lane) (n : ℕ) (targets : nodeAt (moved l steps nodes lanes) n .targets ≡ nodeAt l n .targets) where
   abbrev k : Line
   k = moved l steps nodes lanes
 

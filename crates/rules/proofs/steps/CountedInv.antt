@@ -1,9 +1,9 @@
 -- One more step counted keeps the invariant.
-use Prim.Native.Nat.{ℕ, suc}
+use Prim.Native.Nat.{ℕ}
 use mathlib.Core.Path.{refl}
 use mathlib.Core.List.{List}
 use native.Mathlib.Omega.{arith}
-use Rattle.rules.specs.Line.{Line, counted}
+use Rattle.rules.specs.Line.{Line, oneMore, counted}
 use Rattle.rules.specs.Plain.{Act, Receipt}
 use Rattle.rules.proofs.histories.Ghost.{Ghost}
 use Rattle.rules.proofs.invariant.Inv.{Inv}
@@ -11,10 +11,10 @@ use Rattle.rules.proofs.invariant.InvLaws.{marked-took}
 use Rattle.rules.proofs.invariant.Stays.{marks-stay, nodes-stay, events-stay, channel-stays, ends-stay, replays-stay}
 use Rattle.rules.proofs.invariant.Rooms.{room-stays}
 
-pub counted-inv : {l : Line} {g : Ghost} {cut base : ℕ → ℕ} {fed : List Act} {receipts : List Receipt} {crashes : List ℕ} → Inv l g cut base fed receipts crashes → Inv (counted l) g cut base fed receipts crashes
+pub counted-inv : (c : ℕ) {l : Line} {g : Ghost} {cut base : ℕ → ℕ} {fed : List Act} {receipts : List Receipt} {crashes : List ℕ} → Inv l g cut base fed receipts crashes → Inv (counted c l) g cut base fed receipts crashes
 unfolding counted
-counted-inv {l} {g} {cut} {base} {fed} {receipts} {crashes} inv =
-    let steps = suc (l .steps) in
+counted-inv c {l} {g} {cut} {base} {fed} {receipts} {crashes} inv =
+    let steps = oneMore c (l .steps) in
     let nodes = l .nodes in
     let lanes = l .lanes in
     record {

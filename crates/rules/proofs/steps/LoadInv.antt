@@ -17,6 +17,7 @@ use Rattle.rules.proofs.histories.Witness.{no-more, none}
 use Rattle.rules.proofs.histories.Ghost.{Ghost, takesMessage, put, got, logPut}
 use Rattle.rules.proofs.invariant.Inv.{Inv, Ordered, Shape, Marks, Nodes, timeOf, Channels, Ends}
 use Rattle.rules.proofs.invariant.InvLaws.{up-not-replay}
+use Rattle.rules.proofs.line.Consoles.{start-counts}
 use Rattle.rules.proofs.invariant.Limits.{Steady}
 use Rattle.rules.proofs.steps.PlanOrder.{ordered-plan}
 
@@ -121,9 +122,11 @@ module _ (p : Plan) where
       }
 
   pub start-steady : Steady 0 (initialLine p)
+  unfolding initialLine
   start-steady =
       record {
         limits = record {
+          counts = start-counts;
           logs = λ n. rw (node-fresh n) (omega arith);
           times = λ n. omega (arith, ap (λ (x : Node). x .time) (node-fresh n));
           entries = λ b h. (let (heard, lane) = lane-fresh b in omega (arith, ap (λ (x : Lane). x .taken) lane));

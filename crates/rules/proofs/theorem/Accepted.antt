@@ -6,12 +6,13 @@ use mathlib.Core.Bool.{Bool, true, false, _&&_, true≢false}
 use mathlib.Core.List.{List, [], _∷_}
 use mathlib.Core.Option.{none, some}
 use native.Mathlib.Omega.{arith}
+use lib.Dec.{eqb}
 use borrow.Author.Tests.{leb-false, eq-eqb, ne-eqb, not-false}
 use Rattle.basics.specs.Bools.{neither-true}
 use Rattle.plan.specs.Plan.{nodeCount, channelCount, channelAt, isSource, isSink, entering, leaving}
 use Rattle.rules.specs.Lists.{anyOf}
-use Rattle.rules.specs.Line.{stepLimit, Message, Entry, Status, up, down, replay, Line, nodeAt, laneAt, isDown, isReplay}
-use Rattle.rules.specs.Frame.{Frame, feed, send, take, crash, recover, frameOf, badFrameLength, badFrameVersion, badKind}
+use Rattle.rules.specs.Line.{stepLimit, consoleCount, stepsFrom, Message, Entry, Status, up, down, replay, Line, nodeAt, laneAt, isDown, isReplay}
+use Rattle.rules.specs.Frame.{Frame, feed, send, take, crash, recover, frameConsole, frameOf, badFrameLength, badFrameVersion, badKind, badConsole}
 use Rattle.rules.specs.Recover.{rowGoal, rowComplete}
 use Rattle.rules.specs.Step.{isNothing, noStepsLeft, noSuch, wrongNode, nodeDown, endDown, wrongStatus, neighbourCrashed, besideCrashed, badRecord, sendable, nothingThere, queueFull, rowDone, noSpace, effect, noPlacing, lineRefusal, refusal, accepted, step}
 use Rattle.rules.proofs.lists.ListLaws.{some-first}
@@ -21,7 +22,7 @@ use Rattle.rules.proofs.invariant.Inv.{Enters, Leaves}
 use Rattle.rules.proofs.line.Joins.{in-entering, in-leaving}
 
 -- The first refusal of some that applies, else another number.
-abbrev firstOf : List (Bool × ℕ) → ℕ → ℕ
+abbrev pub firstOf : List (Bool × ℕ) → ℕ → ℕ
 firstOf [] n = n
 firstOf ((t, k) ∷ ts) n = elim t [ true ↦ suc k | false ↦ firstOf ts n ]
 
@@ -30,7 +31,7 @@ NoneOf [] = Unit
 NoneOf ((t, k) ∷ ts) = (t ≡ false) × NoneOf ts
 
 -- No refusal of some is a number.
-abbrev NoneIs : ℕ → List (Bool × ℕ) → Type 0
+abbrev pub NoneIs : ℕ → List (Bool × ℕ) → Type 0
 NoneIs v [] = Unit
 NoneIs v ((t, k) ∷ ts) = (suc k ≢ v) × NoneIs v ts
 
@@ -46,9 +47,37 @@ none-of ts n e = only-last 0 ts n (never-zero ts) e
     never-zero [] = tt
     never-zero ((t, k) ∷ ts) = (λ z. omega arith, never-zero ts)
 
--- A frame that is not refused: no number from 12 on applies, and it leads to a line.
-pub record Passed (l : Line) (f : Frame) : Type 0 where
-  pub steps-left : l .steps < stepLimit
+-- The refusals in their order, before the line's own.
+pub refusal-first : (l : Line) (f : List ℕ) → refusal l f ≡ firstOf ((badFrameLength f, 8) ∷ (badFrameVersion f, 9) ∷ (badKind f, 10) ∷ (badConsole f, 24) ∷ (noStepsLeft l (frameConsole f), 11) ∷ []) (lineRefusal l (frameOf f))
+unfolding refusal
+refusal-first l f = go (badFrameLength f) (badFrameVersion f) (badKind f) (badConsole f)
+  where
+    go : (a b c d : Bool)
+        → (let n : ℕ = elim a [ true ↦ 9 | false ↦ elim b [ true ↦ 10 | false ↦ elim c [ true ↦ 11 | false ↦ elim d [ true ↦ 25 | false ↦ 0 ] ] ] ] in
+        elim (eqb n 0) [ true ↦ elim (noStepsLeft l (frameConsole f)) [ true ↦ 12 | false ↦ lineRefusal l (frameOf f) ] | false ↦ n ])
+        ≡ firstOf ((a, 8) ∷ (b, 9) ∷ (c, 10) ∷ (d, 24) ∷ (noStepsLeft l (frameConsole f), 11) ∷ []) (lineRefusal l (frameOf f))
+    go true b c d = refl
+    go false true c d = refl
+    go false false true d = refl
+    go false false false true = refl
+    go false false false false = refl
+
+-- A frame that gets as far as the line: it is well formed, and its console has steps left.
+pub record Heard (l : Line) (f : List ℕ) (number : ℕ) : Type 0 where
+  pub console : frameConsole f < consoleCount
+  pub steps-left : stepsFrom l (frameConsole f) < stepLimit
+  pub answer : lineRefusal l (frameOf f) ≡ number
+
+pub heard : (l : Line) (f : List ℕ) (number : ℕ) → NoneIs number ((badFrameLength f, 8) ∷ (badFrameVersion f, 9) ∷ (badKind f, 10) ∷ (badConsole f, 24) ∷ (noStepsLeft l (frameConsole f), 11) ∷ []) → refusal l f ≡ number → Heard l f number
+unfolding badConsole noStepsLeft
+heard l f number apart e =
+    let ((_, (_, (_, (console, (steps, _))))), last) = only-last number ((badFrameLength f, 8) ∷ (badFrameVersion f, 9) ∷ (badKind f, 10) ∷ (badConsole f, 24) ∷ (noStepsLeft l (frameConsole f), 11) ∷ []) (lineRefusal l (frameOf f)) apart (sym (refusal-first l f) ∙ e) in
+    record { console = leb-false consoleCount (frameConsole f) console; steps-left = leb-false stepLimit (stepsFrom l (frameConsole f)) steps; answer = last }
+
+-- A frame of console c that is not refused: steps are left, no number from 13 on applies, and it leads to a line.
+pub record Passed (l : Line) (c : ℕ) (f : Frame) : Type 0 where
+  pub console : c < consoleCount
+  pub steps-left : stepsFrom l c < stepLimit
   pub is-there : noSuch l f ≡ false
   pub right-node : wrongNode l f ≡ false
   pub right-status : wrongStatus l f ≡ false
@@ -61,16 +90,19 @@ pub record Passed (l : Line) (f : Frame) : Type 0 where
   pub next : Line
   pub leads : effect l f ≡ some next
 
-pub passed : (l : Line) (f : Frame) → lineRefusal l f ≡ 0 → Passed l f
-unfolding lineRefusal noStepsLeft noPlacing
-passed l f e =
+pub passed : (l : Line) (frame : List ℕ) → refusal l frame ≡ 0 → Passed l (frameConsole frame) (frameOf frame)
+unfolding lineRefusal noPlacing
+passed l frame e =
+    let f = frameOf frame in
+    let h = heard l frame 0 (λ z. omega arith, (λ z. omega arith, (λ z. omega arith, (λ z. omega arith, (λ z. omega arith, tt))))) e in
     let tests : List (Bool × ℕ) =
-    (noStepsLeft l, 11) ∷ (noSuch l f, 12) ∷ (wrongNode l f, 13) ∷ (wrongStatus l f, 14) ∷ (besideCrashed l f, 15) ∷ (badRecord f, 16) ∷ (nothingThere l f, 17) ∷ (queueFull l f, 18) ∷ (rowDone l f, 19) ∷ (noSpace l f, 20)
+    (noSuch l f, 12) ∷ (wrongNode l f, 13) ∷ (wrongStatus l f, 14) ∷ (besideCrashed l f, 15) ∷ (badRecord f, 16) ∷ (nothingThere l f, 17) ∷ (queueFull l f, 18) ∷ (rowDone l f, 19) ∷ (noSpace l f, 20)
     ∷ (noPlacing l f, 23) ∷ [] in
-    let (steps, (number, (node, (status, (beside, (good, (offer, (room, (row, (space, (placed, last))))))))))) = none-of tests 0 e .0 in
+    let (number, (node, (status, (beside, (good, (offer, (room, (row, (space, (placed, last)))))))))) = none-of tests 0 (h .answer) .0 in
     let (k, q) = something-there (effect l f) placed in
     record {
-      steps-left = leb-false stepLimit (l .steps) steps;
+      console = h .console;
+      steps-left = h .steps-left;
       is-there = number;
       right-node = node;
       right-status = status;
@@ -84,9 +116,10 @@ passed l f e =
       leads = q;
     }
 
--- A frame that gets as far as 24: no number from 12 to 21 applies, and it leads nowhere.
-pub record Unplaced (l : Line) (f : Frame) : Type 0 where
-  pub steps-left : l .steps < stepLimit
+-- A frame of console c that gets as far as 24: steps are left, no number from 13 to 21 applies, and it leads nowhere.
+pub record Unplaced (l : Line) (c : ℕ) (f : Frame) : Type 0 where
+  pub console : c < consoleCount
+  pub steps-left : stepsFrom l c < stepLimit
   pub is-there : noSuch l f ≡ false
   pub right-node : wrongNode l f ≡ false
   pub right-status : wrongStatus l f ≡ false
@@ -94,16 +127,19 @@ pub record Unplaced (l : Line) (f : Frame) : Type 0 where
   pub row-open : rowDone l f ≡ false
   pub nowhere : effect l f ≡ none
 
-pub unplaced : (l : Line) (f : Frame) → lineRefusal l f ≡ 24 → Unplaced l f
-unfolding lineRefusal noStepsLeft noPlacing
-unplaced l f e =
+pub unplaced : (l : Line) (frame : List ℕ) → refusal l frame ≡ 24 → Unplaced l (frameConsole frame) (frameOf frame)
+unfolding lineRefusal noPlacing
+unplaced l frame e =
+    let f = frameOf frame in
+    let h = heard l frame 24 (λ z. omega arith, (λ z. omega arith, (λ z. omega arith, (λ z. omega arith, (λ z. omega arith, tt))))) e in
     let tests : List (Bool × ℕ) =
-    (noStepsLeft l, 11) ∷ (noSuch l f, 12) ∷ (wrongNode l f, 13) ∷ (wrongStatus l f, 14) ∷ (besideCrashed l f, 15) ∷ (badRecord f, 16) ∷ (nothingThere l f, 17) ∷ (queueFull l f, 18) ∷ (rowDone l f, 19) ∷ (noSpace l f, 20) ∷ [] in
+    (noSuch l f, 12) ∷ (wrongNode l f, 13) ∷ (wrongStatus l f, 14) ∷ (besideCrashed l f, 15) ∷ (badRecord f, 16) ∷ (nothingThere l f, 17) ∷ (queueFull l f, 18) ∷ (rowDone l f, 19) ∷ (noSpace l f, 20) ∷ [] in
     let apart : NoneIs 24 tests =
-    (λ z. omega arith, (λ z. omega arith, (λ z. omega arith, (λ z. omega arith, (λ z. omega arith, (λ z. omega arith, (λ z. omega arith, (λ z. omega arith, (λ z. omega arith, (λ z. omega arith, tt)))))))))) in
-    let ((steps, (number, (node, (status, (beside, (good, (offer, (room, (row, (space, _)))))))))), last) = only-last 24 tests (elim (noPlacing l f) [ true ↦ 24 | false ↦ 0 ]) apart e in
+    (λ z. omega arith, (λ z. omega arith, (λ z. omega arith, (λ z. omega arith, (λ z. omega arith, (λ z. omega arith, (λ z. omega arith, (λ z. omega arith, (λ z. omega arith, tt))))))))) in
+    let ((number, (node, (status, (beside, (good, (offer, (room, (row, (space, _))))))))), last) = only-last 24 tests (elim (noPlacing l f) [ true ↦ 24 | false ↦ 0 ]) apart (h .answer) in
     record {
-      steps-left = leb-false stepLimit (l .steps) steps;
+      console = h .console;
+      steps-left = h .steps-left;
       is-there = number;
       right-node = node;
       right-status = status;
@@ -112,8 +148,8 @@ unplaced l f e =
       nowhere = nowhere (noPlacing l f) refl last;
     }
   where
-    nowhere : (t : Bool) → isNothing (effect l f) ≡ t → _≡_ {A = ℕ} (elim t [ true ↦ 24 | false ↦ 0 ]) 24 → effect l f ≡ none
-    nowhere true q z = nothing-none (effect l f) q
+    nowhere : (t : Bool) → isNothing (effect l (frameOf frame)) ≡ t → _≡_ {A = ℕ} (elim t [ true ↦ 24 | false ↦ 0 ]) 24 → effect l (frameOf frame) ≡ none
+    nowhere true q z = nothing-none (effect l (frameOf frame)) q
     nowhere false q z = let no : ⊥ = omega arith in absurd no
 
 not-down : (s : Status) → isDown s ≡ false → s ≢ down
@@ -135,8 +171,8 @@ pub record CanFeed (l : Line) (n : ℕ) : Type 0 where
   pub here : n < nodeCount (l .plan)
   pub source : isSource (l .plan) n ≡ true
 
-pub can-feed : {l : Line} {n : ℕ} {r : List ℕ} → Passed l (feed n r) → CanFeed l n
-can-feed {l} {n} p = record { here = leb-false (nodeCount (l .plan)) n (p .is-there); source = not-false (isSource (l .plan) n) (p .right-node) }
+pub can-feed : {l : Line} {c n : ℕ} {r : List ℕ} → Passed l c (feed n r) → CanFeed l n
+can-feed {l} {c} {n} p = record { here = leb-false (nodeCount (l .plan)) n (p .is-there); source = not-false (isSource (l .plan) n) (p .right-node) }
 
 pub record CanSend (l : Line) (b : ℕ) : Type 0 where
   pub here : b < channelCount (l .plan)
@@ -145,8 +181,8 @@ pub record CanSend (l : Line) (b : ℕ) : Type 0 where
   pub entry : Entry
   pub first : sendable l b ≡ some entry
 
-pub can-send : {l : Line} {b : ℕ} → Passed l (send b) → CanSend l b
-can-send {l} {b} p =
+pub can-send : {l : Line} {c b : ℕ} → Passed l c (send b) → CanSend l b
+can-send {l} {c} {b} p =
     let (s, r) = ends-apart l b (p .right-status) in
     let (e, q) = something-there (sendable l b) (p .something) in
     record { here = leb-false (channelCount (l .plan)) b (p .is-there); sender = s; receiver = r; entry = e; first = q }
@@ -173,8 +209,8 @@ may-take l b is-there right-status something row-open =
     let (m, rest, q) = some-first (laneAt l b .queue) something in
     record { here = leb-false (channelCount (l .plan)) b is-there; sender = s; receiver = r; message = m; rest = rest; first = q; below-goal = row-below l b row-open }
 
-pub can-take : {l : Line} {b : ℕ} → Passed l (take b) → CanTake l b
-can-take {l} {b} p = may-take l b (p .is-there) (p .right-status) (p .something) (p .row-open)
+pub can-take : {l : Line} {c b : ℕ} → Passed l c (take b) → CanTake l b
+can-take {l} {c} {b} p = may-take l b (p .is-there) (p .right-status) (p .something) (p .row-open)
 
 pub record CanCrash (l : Line) (n : ℕ) : Type 0 where
   pub here : n < nodeCount (l .plan)
@@ -193,8 +229,8 @@ neighbours-apart l n e =
     let (a, b) = neither-true (anyOf parent (entering (l .plan) n)) (anyOf child (leaving (l .plan) n)) e in
     (λ c h. none-any parent a (in-entering (l .plan) n c (h .0) (h .1)), λ c h. none-any child b (in-leaving (l .plan) n c (h .0) (h .1)))
 
-pub can-crash : {l : Line} {n : ℕ} → Passed l (crash n) → CanCrash l n
-can-crash {l} {n} p =
+pub can-crash : {l : Line} {c n : ℕ} → Passed l c (crash n) → CanCrash l n
+can-crash {l} {c} {n} p =
     let (source, sink) = neither-true (isSource (l .plan) n) (isSink (l .plan) n) (p .right-node) in
     let (parents, children) = neighbours-apart l n (p .apart) in
     record {
@@ -217,20 +253,12 @@ may-recover l n is-there right-node right-status =
     let (source, sink) = neither-true (isSource (l .plan) n) (isSink (l .plan) n) right-node in
     record { here = leb-false (nodeCount (l .plan)) n is-there; no-source = source; no-sink = sink; stopped = is-down (nodeAt l n .status) (not-false (nodeDown l n) right-status) }
 
-pub can-recover : {l : Line} {n : ℕ} → Passed l (recover n) → CanRecover l n
-can-recover {l} {n} p = may-recover l n (p .is-there) (p .right-node) (p .right-status)
+pub can-recover : {l : Line} {c n : ℕ} → Passed l c (recover n) → CanRecover l n
+can-recover {l} {c} {n} p = may-recover l n (p .is-there) (p .right-node) (p .right-status)
 
 -- A step's answer: with number 0 the effect and one more step, else the line as it was.
 module _ (l : Line) (f : List ℕ) where
-  pub line-passed : refusal l f ≡ 0 → lineRefusal l (frameOf f) ≡ 0
-  unfolding refusal
-  line-passed e = none-of ((badFrameLength f, 8) ∷ (badFrameVersion f, 9) ∷ (badKind f, 10) ∷ []) (lineRefusal l (frameOf f)) e .1
-
-  pub line-unplaced : refusal l f ≡ 24 → lineRefusal l (frameOf f) ≡ 24
-  unfolding refusal
-  line-unplaced e = only-last 24 ((badFrameLength f, 8) ∷ (badFrameVersion f, 9) ∷ (badKind f, 10) ∷ []) (lineRefusal l (frameOf f)) (λ z. omega arith, (λ z. omega arith, (λ z. omega arith, tt))) e .1
-
-  pub step-accepted : refusal l f ≡ 0 → (step l f .number ≡ 0) × (step l f .line ≡ accepted l (effect l (frameOf f)))
+  pub step-accepted : refusal l f ≡ 0 → (step l f .number ≡ 0) × (step l f .line ≡ accepted (frameConsole f) l (effect l (frameOf f)))
   unfolding step
   step-accepted e = rw (eq-eqb (refusal l f) 0 e, step) (refl, refl)
 

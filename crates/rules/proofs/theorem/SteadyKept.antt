@@ -14,8 +14,8 @@ use Rattle.plan.specs.declared.Record.{Record}
 use Rattle.plan.specs.Record.{recordLayout}
 use Rattle.plan.specs.Plan.{channelAt, channelCount, entering}
 use Rattle.rules.specs.Lists.{allOf, joined, isEmpty}
-use Rattle.rules.specs.Line.{logLimit, heldLimit, fed, made, Origin, Message, Entry, Held, Status, up, replay, Node, Lane, Line, nodeAt, laneAt, withNode, withLane, freshLane, parents, isReplay, senderOf}
-use Rattle.rules.specs.Frame.{Frame, feed, send, take, crash, recover, frameOf}
+use Rattle.rules.specs.Line.{logLimit, heldLimit, fed, made, Origin, Message, Entry, Held, Status, up, replay, Node, Lane, Line, nodeAt, laneAt, acceptedSteps, withNode, withLane, freshLane, parents, isReplay, senderOf}
+use Rattle.rules.specs.Frame.{Frame, feed, send, take, crash, recover, frameConsole, frameOf}
 use Rattle.rules.specs.Clock.{logged, sentOn, takenFrom, raiseHeard}
 use Rattle.rules.specs.Recover.{highOf, targetsOf, conflict, rowsComplete, recovered, statusOf}
 use Rattle.rules.specs.Replay.{passedOn, isHeld, heldByRow, itemsByRow, placing, nodePlaced, holding, replayEnd, endedIfComplete}
@@ -38,11 +38,12 @@ use Rattle.rules.proofs.undamaged.Crashed.{crashedAfter, crashed-is, cr
 use Rattle.rules.proofs.steps.CrashInv as CrashInv
 use Rattle.rules.proofs.ending.RecoverInv as RecoverInv
 use Rattle.rules.proofs.theorem.StepInv.{up-or-replay, sender-gives, taken-is, again-is}
-use Rattle.rules.proofs.theorem.Accepted.{Passed, passed, line-passed, step-accepted, can-feed, can-send, CanTake, can-take, can-crash, CanRecover, can-recover}
+use Rattle.rules.proofs.theorem.Unmoved.{effect-steps}
+use Rattle.rules.proofs.theorem.Accepted.{Passed, passed, step-accepted, can-feed, can-send, CanTake, can-take, can-crash, CanRecover, can-recover}
 
 -- The same with a step to spare.
 limits-later : {l : Line} → Limits 0 l → Limits 1 l
-limits-later s = record { logs = s .logs; times = λ n. omega (arith, s .times n); entries = λ b h. omega (arith, s .entries b h) }
+limits-later s = record { counts = s .counts; logs = s .logs; times = λ n. omega (arith, s .times n); entries = λ b h. omega (arith, s .entries b h) }
 
 -- A replay that may end: the other replays have an open row.
 module _ (n : ℕ) (l : Line) (inside : n < length (l .nodes)) (s : Limits 1 l) (others : (m : ℕ) → m ≢ n → OpenAt l m) where
@@ -95,14 +96,14 @@ module _ (l : Line) (s : Steady 0 l) (n : ℕ) (inside : n < length (l .nodes)) 
       }
 
 module _ (l : Line) (g : Ghost) (cut base : ℕ → ℕ) (acts : List Act) (receipts : List Receipt) (crashes : List ℕ) (inv : Inv l g cut base acts receipts crashes) (s : Steady 0 l) where
-  feed-steady : (n : ℕ) (r : List ℕ) → Passed l (feed n r) → (k : Line) → effect l (feed n r) ≡ some k → Steady 1 k
+  feed-steady : (n : ℕ) (r : List ℕ) → {c : ℕ} → Passed l c (feed n r) → (k : Line) → effect l (feed n r) ≡ some k → Steady 1 k
   unfolding effect fedLine
   feed-steady n r p k e =
       let can = can-feed p in
       subst (Steady 1) (some-same e)
       (log-steady l s n (rw (inv .shape .nodes-long) (can .here)) (source-up (inv .marks) n (can .source)) (leb-false logLimit (length (nodeAt l n .log)) (p .space)) (madeBy l n (recordLayout .read r)) fed fed)
 
-  send-steady : (b : ℕ) → Passed l (send b) → (k : Line) → effect l (send b) ≡ some k → Steady 1 k
+  send-steady : (b : ℕ) → {c : ℕ} → Passed l c (send b) → (k : Line) → effect l (send b) ≡ some k → Steady 1 k
   unfolding effect withLane sentOn
   send-steady b p k e =
       let can = can-send p in
@@ -115,7 +116,7 @@ module _ (l : Line) (g : Ghost) (cut base : ℕ → ℕ) (acts : List Act) (rece
       let limits = s .limits in
       subst (Steady 1) (ap (λ (o : Option Entry). sentLine b o l) (sym (can .first)) ∙ some-same e)
       (record {
-        limits = record { logs = limits .logs; times = λ n. omega (arith, limits .times n); entries = λ c h. omega (arith, limits .entries c h, same c) };
+        limits = record { counts = limits .counts; logs = limits .logs; times = λ n. omega (arith, limits .times n); entries = λ c h. omega (arith, limits .entries c h, same c) };
         open-rows = λ m. open-stays l (l .steps) (l .nodes) (withLane b x l .lanes) m refl refl (λ c h. same c) (s .open-rows m);
       })
 
@@ -139,17 +140,17 @@ module _ (l : Line) (g : Ghost) (cut base : ℕ → ℕ) (acts : List Act) (rece
         let sent = c .sender-up (sender-gives l g cut base acts receipts crashes inv b m (can .rest) (can .here) (can .first)) in
         sender-taken m (can .rest) [] (can .receiver) (c .rises) (can .first) refl (sender-cut (sent .taken-within) sent) .0 .taken-within
 
-    beside-entries : (c : ℕ) → c < channelCount (l .plan) → laneAt beside c .taken ≤ l .steps + 0
+    beside-entries : (c : ℕ) → c < channelCount (l .plan) → laneAt beside c .taken ≤ acceptedSteps l + 0
     beside-entries c h =
         elim (ℕ-discrete c b) [
-          | yes q ↦ subst (λ (y : ℕ). laneAt beside y .taken ≤ l .steps + 0) (sym q)
+          | yes q ↦ subst (λ (y : ℕ). laneAt beside y .taken ≤ acceptedSteps l + 0) (sym q)
               (omega (arith, ap (λ (y : Lane). y .taken) (lane-there b lane l (rw (inv .shape .lanes-long) (can .here))), message-within, s .limits .times (channelAt (l .plan) b .sender), s .limits .entries b (can .here)))
           | no d ↦ omega (arith, ap (λ (y : Lane). y .taken) (lane-else b lane l c d), s .limits .entries c h)
         ]
 
     beside-limits : Limits 0 beside
     unfolding withLane
-    beside-limits = record { logs = s .limits .logs; times = s .limits .times; entries = beside-entries }
+    beside-limits = record { counts = s .limits .counts; logs = s .limits .logs; times = s .limits .times; entries = beside-entries }
 
     beside-open : (k : ℕ) → k ≢ n → OpenAt beside k
     unfolding withLane
@@ -159,7 +160,7 @@ module _ (l : Line) (g : Ghost) (cut base : ℕ → ℕ) (acts : List Act) (rece
     inside : n < length (l .nodes)
     inside = rw (inv .shape .nodes-long) (inv .ordered .inside b (can .here))
 
-    take-up-steady : Passed l (take b) → isUp l n → (k : Line) → effect l (take b) ≡ some k → Steady 1 k
+    take-up-steady : {c : ℕ} → Passed l c (take b) → isUp l n → (k : Line) → effect l (take b) ≡ some k → Steady 1 k
     unfolding takenLane takenUp takenFrom withLane takeLacks
     take-up-steady p alive k e =
         let steady : Steady 0 beside = record { limits = beside-limits; open-rows = λ k. elim (ℕ-discrete k n) [ yes q ↦ λ z. absurd (up-not-replay (sym alive ∙ ap (λ (y : ℕ). nodeAt l y .status) (sym q) ∙ z)) | no d ↦ beside-open k d ] } in
@@ -195,7 +196,7 @@ module _ (l : Line) (g : Ghost) (cut base : ℕ → ℕ) (acts : List Act) (rece
         let (limits, others, long) = again-fair in
         ended-steady n (takenReplaying b m (takenLane b m (can .rest) l)) long limits others k (sym (again-is l g cut base acts receipts crashes inv b can again) ∙ e)
 
-  take-steady : (b : ℕ) → Passed l (take b) → (k : Line) → effect l (take b) ≡ some k → Steady 1 k
+  take-steady : (b : ℕ) → {c : ℕ} → Passed l c (take b) → (k : Line) → effect l (take b) ≡ some k → Steady 1 k
   take-steady b p k e =
       let can = can-take p in
       elim (up-or-replay (nodeAt l (channelAt (l .plan) b .receiver) .status) (can .receiver)) [
@@ -203,7 +204,7 @@ module _ (l : Line) (g : Ghost) (cut base : ℕ → ℕ) (acts : List Act) (rece
         | inr again ↦ take-again-steady b can again k e
       ]
 
-  crash-steady : (n : ℕ) → Passed l (crash n) → (k : Line) → effect l (crash n) ≡ some k → Steady 1 k
+  crash-steady : (n : ℕ) → {c : ℕ} → Passed l c (crash n) → (k : Line) → effect l (crash n) ≡ some k → Steady 1 k
   unfolding effect freshLane
   crash-steady n p k e =
       let can = can-crash p in
@@ -211,7 +212,7 @@ module _ (l : Line) (g : Ghost) (cut base : ℕ → ℕ) (acts : List Act) (rece
       let now = crashed-node l n (inv .ordered) (inv .shape) (can .here) in
       let other = crashed-else l n (inv .ordered) (inv .shape) in
       let steps = l .steps in
-      let entries : (c : ℕ) → c < channelCount (l .plan) → laneAt x c .taken ≤ l .steps + 1 =
+      let entries : (c : ℕ) → c < channelCount (l .plan) → laneAt x c .taken ≤ acceptedSteps l + 1 =
       λ c h. at-ends (l .plan) n c h (λ i. omega (arith, ap (λ (y : Lane). y .taken) (crashed-enters l n (inv .ordered) (inv .shape) c i)))
       (λ i. omega (arith, ap (λ (y : Lane). y .taken) (crashed-leaves l n (inv .ordered) (inv .shape) c i), s .limits .entries c h))
       (λ d q. omega (arith, ap (λ (y : Lane). y .taken) (crashed-beside l n (inv .ordered) (inv .shape) c d q), s .limits .entries c h)) in
@@ -228,7 +229,7 @@ module _ (l : Line) (g : Ghost) (cut base : ℕ → ℕ) (acts : List Act) (rece
         ];
       })
 
-  recover-steady : (n : ℕ) → Passed l (recover n) → (k : Line) → effect l (recover n) ≡ some k → Steady 1 k
+  recover-steady : (n : ℕ) → {c : ℕ} → Passed l c (recover n) → (k : Line) → effect l (recover n) ≡ some k → Steady 1 k
   unfolding effect recoveredLine freshLane
   recover-steady n p k e = go (conflict (targetsOf l n)) (isEmpty (targetsOf l n)) refl e
     where
@@ -247,7 +248,7 @@ module _ (l : Line) (g : Ghost) (cut base : ℕ → ℕ) (acts : List Act) (rece
       marked : nodeAt l n .crashed ≡ true
       marked = marked-unless-up (inv .marks) n (λ z. up-not-down (sym z ∙ can .stopped))
 
-      entries : (c : ℕ) → c < channelCount (l .plan) → laneAt (restoredLine l n) c .taken ≤ l .steps + 1
+      entries : (c : ℕ) → c < channelCount (l .plan) → laneAt (restoredLine l n) c .taken ≤ acceptedSteps l + 1
       entries c h =
           at-ends (l .plan) n c h
           (λ i. omega (
@@ -285,7 +286,7 @@ module _ (l : Line) (g : Ghost) (cut base : ℕ → ℕ) (acts : List Act) (rece
           long : n < length (recovered n l .nodes)
           long = rw (recovered-is l n (inv .ordered) (inv .shape), restored-shape l n (inv .ordered) (inv .shape) .nodes-long) (can .here)
 
-  pub effect-steady : (f : Frame) → Passed l f → (k : Line) → effect l f ≡ some k → Steady 1 k
+  pub effect-steady : {c : ℕ} (f : Frame) → Passed l c f → (k : Line) → effect l f ≡ some k → Steady 1 k
   effect-steady (feed n r) p k e = feed-steady n r p k e
   effect-steady (send b) p k e = send-steady b p k e
   effect-steady (take b) p k e = take-steady b p k e
@@ -294,5 +295,5 @@ module _ (l : Line) (g : Ghost) (cut base : ℕ → ℕ) (acts : List Act) (rece
 
   pub step-steady : (f : List ℕ) → refusal l f ≡ 0 → Steady 0 (step l f .line)
   step-steady f e =
-      let p = passed l (frameOf f) (line-passed l f e) in
-      subst (Steady 0) (sym (step-accepted l f e .1 ∙ ap (accepted l) (p .leads))) (counted-steady (effect-steady (frameOf f) p (p .next) (p .leads)))
+      let p = passed l f e in
+      subst (Steady 0) (sym (step-accepted l f e .1 ∙ ap (accepted (frameConsole f) l) (p .leads))) (counted-steady (frameConsole f) (p .console) (rw (effect-steps l (frameOf f) (p .leads)) (p .steps-left)) (effect-steady (frameOf f) p (p .next) (p .leads)))

@@ -10,7 +10,7 @@ use Rattle.basics.specs.Update.{changed}
 use Rattle.plan.specs.Record.{recordLayout}
 use Rattle.plan.specs.Plan.{channelAt, channelCount}
 use Rattle.rules.specs.Line.{logLimit, Message, Entry, Status, up, down, replay, Line, nodeAt, laneAt, parents, isReplay, senderOf, receiverOf}
-use Rattle.rules.specs.Frame.{Frame, feed, send, take, crash, recover, frameOf}
+use Rattle.rules.specs.Frame.{Frame, feed, send, take, crash, recover, frameConsole, frameOf}
 use Rattle.rules.specs.Clock.{nextToSend, raiseHeard}
 use Rattle.rules.specs.Replay.{endedIfComplete}
 use Rattle.rules.specs.Step.{sendable, replaying, fedLine, sentLine, takenUp, takenLane, takenReplaying, takenFirst, takenLine, recoveredLine, effect, refusal, accepted, step}
@@ -28,7 +28,7 @@ use Rattle.rules.proofs.steps.CrashInv.{crash-inv}
 use Rattle.rules.proofs.ending.ReplayTakeInv.{replay-take-inv}
 use Rattle.rules.proofs.ending.RecoverInv.{recover-inv}
 use Rattle.rules.proofs.steps.CountedInv.{counted-inv}
-use Rattle.rules.proofs.theorem.Accepted.{Passed, passed, CanFeed, can-feed, CanSend, can-send, CanTake, can-take, CanCrash, can-crash, can-recover, line-passed, step-accepted}
+use Rattle.rules.proofs.theorem.Accepted.{Passed, passed, CanFeed, can-feed, CanSend, can-send, CanTake, can-take, CanCrash, can-crash, can-recover, step-accepted}
 
 -- The invariant holds with some history.
 abbrev pub Kept : Line → List Act → List Receipt → List ℕ → Type 0
@@ -134,7 +134,7 @@ module _ (l : Line) (g : Ghost) (cut base : ℕ → ℕ) (fed : List Act) (recei
     | inr q ↦ take-again-step l g cut base fed receipts crashes inv b can q k e
   ]
 
-  effect-inv : (f : Frame) → Passed l f → (k : Line) → effect l f ≡ some k → Kept k (fed ++ feedOf f) (receipts ++ receiptOf l f) (crashes ++ crashOf f)
+  effect-inv : {c : ℕ} (f : Frame) → Passed l c f → (k : Line) → effect l f ≡ some k → Kept k (fed ++ feedOf f) (receipts ++ receiptOf l f) (crashes ++ crashOf f)
   effect-inv (feed n r) p k e = kept-same refl refl (nil-right receipts) (nil-right crashes) (_, _, _, feed-step l g cut base fed receipts crashes inv n r (can-feed p) k e)
   effect-inv (send b) p k e = kept-same refl (nil-right fed) (nil-right receipts) (nil-right crashes) (_, _, _, send-step l g cut base fed receipts crashes inv b (can-send p) k e)
   effect-inv (take b) p k e = kept-same refl (nil-right fed) refl (nil-right crashes) (take-step b (can-take p) k e)
@@ -145,6 +145,6 @@ module _ (l : Line) (g : Ghost) (cut base : ℕ → ℕ) (fed : List Act) (recei
 
 pub step-inv : Steps
 step-inv l g cut base fed receipts crashes inv logs f e =
-    let p = passed l (frameOf f) (line-passed l f e) in
+    let p = passed l f e in
     let (g′, cut′, base′, inv′) = effect-inv l g cut base fed receipts crashes inv logs (frameOf f) p (p .next) (p .leads) in
-    kept-same (step-accepted l f e .1 ∙ ap (accepted l) (p .leads)) refl refl refl (g′, cut′, base′, counted-inv inv′)
+    kept-same (step-accepted l f e .1 ∙ ap (accepted (frameConsole f) l) (p .leads)) refl refl refl (g′, cut′, base′, counted-inv (frameConsole f) inv′)

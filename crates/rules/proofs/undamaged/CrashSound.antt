@@ -8,7 +8,7 @@ use mathlib.Core.Option.{some}
 use native.Mathlib.Omega.{arith}
 use native.Mathlib.Decide.{ℕ-discrete}
 use Rattle.plan.specs.Plan.{Plan, nodeCount, channelAt}
-use Rattle.rules.specs.Line.{Origin, fed, made, up, replay, Node, Lane, Line, nodeAt, laneAt, parents, freshLane, counted}
+use Rattle.rules.specs.Line.{Origin, fed, made, up, replay, Node, Lane, Line, nodeAt, laneAt, parents, freshLane, counted, acceptedSteps}
 use Rattle.rules.specs.Frame.{crash}
 use Rattle.rules.specs.Recover.{triples}
 use Rattle.rules.specs.Damaged.{pastHeard, workedOn}
@@ -42,7 +42,7 @@ module _ (l : Line) (sound : Sound l) (n : ℕ) (can : CanCrash l n) where
   ordered : Ordered (l .plan)
   ordered = ordered-fit (l .plan) (s .plan-fits)
 
-  emptied-fits : NodeFits (l .plan) (l .steps) n emptied
+  emptied-fits : NodeFits (l .plan) (acceptedSteps l) n emptied
   emptied-fits =
       record {
         log-few = omega arith;
@@ -81,7 +81,7 @@ module _ (l : Line) (sound : Sound l) (n : ℕ) (can : CanCrash l n) where
       let lane = (crashed-enters l n ordered (s .shape)) c h in
       let beside : channelAt (l .plan) c .sender ≢ n = λ q. omega (arith, ordered .forward c (h .0), h .1) in
       record {
-        fits = rw lane (fresh-fits (l .plan) (l .steps) c 0 (omega arith));
+        fits = rw lane (fresh-fits (l .plan) (acceptedSteps l) c 0 (omega arith));
         flows = λ e. rw lane (fresh-flows (l .plan) (channelAt (l .plan) c) 0);
         apart = λ e. absurd (true≢false (sym e ∙ ap (λ (x : Node). x .crashed) ((crashed-else l n ordered (s .shape)) (channelAt (l .plan) c .sender) beside) ∙ can .parents c h));
         stopped = λ e. (ap (λ (x : Lane). x .mark) lane, ap (λ (x : Lane). x .queue) lane);
@@ -89,7 +89,7 @@ module _ (l : Line) (sound : Sound l) (n : ℕ) (can : CanCrash l n) where
         silent = λ e. ap (λ (x : Lane). x .queue) lane;
       }
 
-  left-fits : (c : ℕ) → LaneFits (l .plan) (l .steps) c (laneAt l c) → LaneFits (l .plan) (l .steps) c (cleared (laneAt l c))
+  left-fits : (c : ℕ) → LaneFits (l .plan) (acceptedSteps l) c (laneAt l c) → LaneFits (l .plan) (acceptedSteps l) c (cleared (laneAt l c))
   left-fits c f = record { heard-long = f .heard-long; few = omega arith; messages = λ m i. absurd (in-none i); mark = omega arith; taken = f .taken; heard = f .heard }
 
   channel-leaves : (c : ℕ) → Leaves (l .plan) n c → ChannelSound (crashedAfter l n) c
@@ -124,19 +124,19 @@ module _ (l : Line) (sound : Sound l) (n : ℕ) (can : CanCrash l n) where
 
     replays-on : Replays (crashedAfter l n) m
     replays-on =
-        let same : l .steps ≤ l .steps = omega arith in
+        let same : acceptedSteps l ≤ acceptedSteps l = omega arith in
         let node = (crashed-else l n ordered (s .shape)) m other in
         replays-stay l (l .steps) ((crashedAfter l n) .nodes) ((crashedAfter l n) .lanes) same m (λ c j. ap (λ (x : Lane). x .taken) ((crashed-beside l n ordered (s .shape)) c (child-other c j) (λ q. other (sym (j .1) ∙ q))))
         (λ c j. ap (λ (x : Node). triples m (x .log)) ((crashed-else l n ordered (s .shape)) (channelAt (l .plan) c .receiver) (child-other c j))) (ap (λ (x : Node). x .time) node) (ap (λ (x : Node). x .targets) node) (sound .replays m h was)
 
   crashed-sound : Sound (crashedAfter l n)
   crashed-sound =
-      let same : l .steps ≤ l .steps = omega arith in
+      let same : acceptedSteps l ≤ acceptedSteps l = omega arith in
       record {
         standing = record {
           plan-fits = s .plan-fits;
           shape = crashed-shape l n ordered (s .shape);
-          steps = s .steps;
+          counts = s .counts;
           nodes = λ m h. elim (ℕ-discrete m n) [
             | yes q ↦ subst (NodeSound (crashedAfter l n)) (sym q) node-crashed
             | no d ↦ node-stays l (l .steps) ((crashedAfter l n) .nodes) ((crashedAfter l n) .lanes) same m ((crashed-else l n ordered (s .shape)) m d) (covers-on m d) (s .nodes m h)
@@ -150,8 +150,8 @@ module _ (l : Line) (sound : Sound l) (n : ℕ) (can : CanCrash l n) where
         replays = replays-on;
       }
 
-pub crash-sound : (l : Line) → Sound l → (n : ℕ) → Passed l (crash n) → (k : Line) → effect l (crash n) ≡ some k → Sound (counted k)
+pub crash-sound : (l : Line) → Sound l → (n : ℕ) {who : ℕ} → Passed l who (crash n) → (k : Line) → effect l (crash n) ≡ some k → Sound (counted who k)
 unfolding effect
-crash-sound l sound n p k e =
+crash-sound l sound n {who} p k e =
     let can = can-crash p in
-    subst (λ (x : Line). Sound (counted x)) (sym (crashed-is l n (ordered l sound n can) (sound .standing .shape)) ∙ some-same e) (counted-sound (crashedAfter l n) (p .steps-left) (crashed-sound l sound n can))
+    subst (λ (x : Line). Sound (counted who x)) (sym (crashed-is l n (ordered l sound n can) (sound .standing .shape)) ∙ some-same e) (counted-sound (crashedAfter l n) (p .console) (p .steps-left) (crashed-sound l sound n can))

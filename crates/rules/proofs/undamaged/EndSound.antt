@@ -11,7 +11,7 @@ use lib.ListN.{length-set}
 use lib.Dec.{eqb}
 use Rattle.plan.specs.Plan.{nodeCount, channelAt, entering, leaving}
 use Rattle.rules.specs.Lists.{allOf, joined}
-use Rattle.rules.specs.Line.{Entry, Held, up, replay, Node, Line, nodeAt, laneAt, withNode, isDown}
+use Rattle.rules.specs.Line.{Entry, Held, up, replay, Node, Line, nodeAt, laneAt, withNode, isDown, acceptedSteps}
 use Rattle.rules.specs.Recover.{childTimes, highOf, triples, rowsComplete}
 use Rattle.rules.specs.Replay.{heldByRow, itemsByRow, isHeld, entryAt, placedLog, placing, nodePlaced, replayEnd, endedIfComplete}
 use Rattle.rules.specs.Damaged.{workedOn}
@@ -29,7 +29,7 @@ use Rattle.rules.proofs.undamaged.PlacedLog.{placed-from, log-placed}
 use Rattle.rules.proofs.undamaged.CrashSound.{stopped-marked}
 
 -- High is no time past the steps.
-pub high-within : (l : Line) → Standing l → (n : ℕ) → highOf l n ≤ l .steps
+pub high-within : (l : Line) → Standing l → (n : ℕ) → highOf l n ≤ acceptedSteps l
 unfolding highOf childTimes
 high-within l s n = elim (greatest-in (childTimes l n)) [
   | inl q ↦ omega arith
@@ -75,13 +75,13 @@ module _ (l : Line) (s : Standing l) (n : ℕ) (inside : n < nodeCount (l .plan)
     only-log : {e : Entry} → In e (log ++ []) → In e log
     only-log i = elim (append-in log i) [ inl j ↦ j | inr j ↦ absurd (in-none j) ]
 
-    placed-entry : (e : Entry) → In e log → EntryFits (l .plan) (l .steps) n e
+    placed-entry : (e : Entry) → In e log → EntryFits (l .plan) (acceptedSteps l) n e
     placed-entry e i =
         let y = placed-from (joined rows) columns i in
         let f = old .fits .entries (entryAt 0 (y .held)) (worked (y .held) (y .among)) in
-        subst (EntryFits (l .plan) (l .steps) n) (sym (y .entry-is)) (record { limits = f .limits; origin = f .origin; before = f .before })
+        subst (EntryFits (l .plan) (acceptedSteps l) n) (sym (y .entry-is)) (record { limits = f .limits; origin = f .origin; before = f .before })
 
-    placed-fits : NodeFits (l .plan) (l .steps) n placed
+    placed-fits : NodeFits (l .plan) (acceptedSteps l) n placed
     unfolding nodePlaced
     placed-fits =
         let f = old .fits in
@@ -132,7 +132,7 @@ module _ (l : Line) (s : Standing l) (n : ℕ) (inside : n < nodeCount (l .plan)
     unfolding withNode nodePlaced
     node-ended =
         record {
-          fits = subst (NodeFits (l .plan) (l .steps) n) (sym node-now) placed-fits;
+          fits = subst (NodeFits (l .plan) (acceptedSteps l) n) (sym node-now) placed-fits;
           clock = λ e i b h.
               (let y = placed-from (joined rows) columns (only-log (subst (λ (z : Node). In e (workedOn z)) node-now i)) in
               subst (λ (d : Entry). Covers (l .plan) b (laneAt l b) (d .origin) (d .before)) (sym (y .entry-is)) (old .clock (entryAt 0 (y .held)) (worked (y .held) (y .among)) b h));
@@ -152,7 +152,7 @@ module _ (l : Line) (s : Standing l) (n : ℕ) (inside : n < nodeCount (l .plan)
       replays-on : Replays after m
       unfolding withNode
       replays-on =
-          let same : l .steps ≤ l .steps = omega arith in
+          let same : acceptedSteps l ≤ acceptedSteps l = omega arith in
           let node = node-other m other in
           replays-stay l (l .steps) (after .nodes) (l .lanes) same m (λ c j. refl) (λ c j. ap (λ (y : Node). triples m (y .log)) (node-other (channelAt (l .plan) c .receiver) (child-other c j)))
           (ap (λ (y : Node). y .time) node) (ap (λ (y : Node). y .targets) node) (others m h other was)
@@ -160,12 +160,12 @@ module _ (l : Line) (s : Standing l) (n : ℕ) (inside : n < nodeCount (l .plan)
     placed-sound : Sound after
     unfolding withNode
     placed-sound =
-        let same : l .steps ≤ l .steps = omega arith in
+        let same : acceptedSteps l ≤ acceptedSteps l = omega arith in
         record {
           standing = record {
             plan-fits = s .plan-fits;
             shape = record { nodes-long = length-set (l .nodes) n placed ∙ s .shape .nodes-long; lanes-long = s .shape .lanes-long };
-            steps = s .steps;
+            counts = s .counts;
             nodes = λ m h. elim (ℕ-discrete m n) [
               | yes q ↦ subst (NodeSound after) (sym q) node-ended
               | no d ↦ node-stays l (l .steps) (after .nodes) (l .lanes) same m (node-other m d) (λ b j o before c. c) (s .nodes m h)
@@ -199,25 +199,3 @@ module _ (l : Line) (s : Standing l) (n : ℕ) (inside : n < nodeCount (l .plan)
       go : (complete : Bool) → rowsComplete l n ≡ complete → (elim complete [ true ↦ replayEnd n l | false ↦ some l ]) ≡ some k → Sound k
       go true c e = end-sound k e
       go false c e = subst Sound (some-same e) (record { standing = s; replays = λ m h q. elim (ℕ-discrete m n) [ yes z ↦ subst (Replays l) (sym z) (own c) | no d ↦ others m h d q ] })
-
--- The end of a replay counts no step.
-module _ (l : Line) (n : ℕ) where
-  abbrev heldRows : List (List Held)
-  heldRows = heldByRow (nodeAt l n .held) l (entering (l .plan) n)
-
-  end-steps : (k : Line) → replayEnd n l ≡ some k → k .steps ≡ l .steps
-  unfolding replayEnd withNode
-  end-steps k = go (allOf (isHeld (nodeAt l n .held)) (nodeAt l n .targets)) (placing (nodeAt l n .time) (highOf l n) (itemsByRow l n 0 heldRows))
-    where
-      go : (held : Bool) (chosen : Option (List ℕ)) → (elim held [ false ↦ none | true ↦ elim chosen [ none ↦ none | some columns ↦ some (withNode n (nodePlaced l n (joined heldRows) columns) l) ] ]) ≡ some k → k .steps ≡ l .steps
-      go false chosen e = none-some e
-      go true none e = none-some e
-      go true (some columns) e = ap (λ (y : Line). y .steps) (sym (some-same e))
-
-  pub ended-steps : (k : Line) → endedIfComplete n l ≡ some k → k .steps ≡ l .steps
-  unfolding endedIfComplete
-  ended-steps k = go (rowsComplete l n)
-    where
-      go : (complete : Bool) → (elim complete [ true ↦ replayEnd n l | false ↦ some l ]) ≡ some k → k .steps ≡ l .steps
-      go true e = end-steps k e
-      go false e = ap (λ (y : Line). y .steps) (sym (some-same e))

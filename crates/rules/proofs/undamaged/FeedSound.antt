@@ -10,39 +10,43 @@ use borrow.Author.Tests.{leb-false, not-false}
 use Rattle.plan.specs.Lawful.{Bytes}
 use Rattle.plan.specs.Record.{recordLayout, recordFits}
 use Rattle.plan.specs.Plan.{nodeCount, channelAt, isSource}
-use Rattle.rules.specs.Line.{logLimit, fed, up, Line, nodeAt, withNode, counted}
+use Rattle.rules.specs.Line.{logLimit, acceptedSteps, fed, up, Line, nodeAt, withNode, oneMore, counted}
 use Rattle.rules.specs.Frame.{feed}
 use Rattle.rules.specs.Step.{madeBy, fedLine, effect}
 use Rattle.rules.proofs.theorem.Accepted.{Passed, can-feed}
 use Rattle.rules.proofs.invariant.InvLaws.{if-marked}
 use Rattle.rules.proofs.lists.Options.{some-same}
+use Rattle.rules.proofs.line.Consoles.{more-fit, counts-rise}
 use Rattle.rules.proofs.undamaged.Standing.{EntryFits, Sound}
 use Rattle.rules.proofs.undamaged.SoundStays.{channel-stays}
 use Rattle.rules.proofs.undamaged.RecordsWithin.{read-within, made-within}
 use Rattle.rules.proofs.undamaged.LogSound.{after, status-same, mark-same, log-sound}
 
-module _ (l : Line) (sound : Sound l) (n : ℕ) (r : List ℕ) (bytes : Bytes r) (p : Passed l (feed n r)) where
+module _ (l : Line) (sound : Sound l) (n : ℕ) (r : List ℕ) (bytes : Bytes r) {who : ℕ} (p : Passed l who (feed n r)) where
   source-up : n < nodeCount (l .plan) → isSource (l .plan) n ≡ true → nodeAt l n .status ≡ up
   source-up inside source =
       let f = sound .standing .nodes n inside .fits in
       f .unmarked (if-marked (nodeAt l n .crashed) (λ e. absurd (true≢false (sym source ∙ f .between e .0))) (λ e. e))
 
-  fed-sound : Sound (counted (fedLine n r l))
+  fed-sound : Sound (counted who (fedLine n r l))
   unfolding counted fedLine withNode
   fed-sound =
       let can = can-feed p in
+      let counts = sound .standing .counts in
+      let fits = more-fit counts (p .console) (p .steps-left) in
+      let rise = counts-rise counts (p .console) (p .steps-left) in
       let is-up = source-up (can .here) (can .source) in
       let room : length (nodeAt l n .log) < logLimit = leb-false logLimit (length (nodeAt l n .log)) (p .space) in
       let what = madeBy l n (recordLayout .read r) in
       let limits = made-within (l .plan) (sound .standing .plan-fits) n (recordLayout .read r) (read-within r bytes (not-false (recordFits r) (p .record-good))) in
-      let new : EntryFits (l .plan) (suc (l .steps)) n (record { what = what; time = suc (nodeAt l n .time); origin = fed; before = fed }) = record { limits = limits; origin = can .source; before = refl } in
-      let now = after l sound (p .steps-left) n (can .here) is-up room what fed fed new (l .lanes) in
-      let status = status-same l sound (p .steps-left) n (can .here) is-up room what fed fed new (l .lanes) in
-      let mark = mark-same l sound (p .steps-left) n (can .here) is-up room what fed fed new (l .lanes) in
-      log-sound l sound (p .steps-left) n (can .here) is-up room what fed fed new (l .lanes) refl (λ b h o before c. c) (λ b h. tt)
-      (λ b h. (let s = channelAt (l .plan) b .sender in let t = channelAt (l .plan) b .receiver in channel-stays l (suc (l .steps)) (now .nodes) (l .lanes) (omega arith) b (status s) (status t) (mark s) (mark t) refl (sound .standing .channels b h)))
+      let new : EntryFits (l .plan) (suc (acceptedSteps l)) n (record { what = what; time = suc (nodeAt l n .time); origin = fed; before = fed }) = record { limits = limits; origin = can .source; before = refl } in
+      let now = after l sound fits rise n (can .here) is-up room what fed fed new (l .lanes) in
+      let status = status-same l sound fits rise n (can .here) is-up room what fed fed new (l .lanes) in
+      let mark = mark-same l sound fits rise n (can .here) is-up room what fed fed new (l .lanes) in
+      log-sound l sound fits rise n (can .here) is-up room what fed fed new (l .lanes) refl (λ b h o before c. c) (λ b h. tt)
+      (λ b h. (let s = channelAt (l .plan) b .sender in let t = channelAt (l .plan) b .receiver in channel-stays l (oneMore who (l .steps)) (now .nodes) (l .lanes) (omega (arith, rise)) b (status s) (status t) (mark s) (mark t) refl (sound .standing .channels b h)))
       (λ m e c h. refl) (λ m e. refl)
 
-  pub feed-sound : (k : Line) → effect l (feed n r) ≡ some k → Sound (counted k)
+  pub feed-sound : (k : Line) → effect l (feed n r) ≡ some k → Sound (counted who k)
   unfolding effect
-  feed-sound k e = subst (λ (x : Line). Sound (counted x)) (some-same e) fed-sound
+  feed-sound k e = subst (λ (x : Line). Sound (counted who x)) (some-same e) fed-sound

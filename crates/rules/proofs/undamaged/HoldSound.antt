@@ -12,7 +12,7 @@ use lib.Dec.{leb, eqb}
 use borrow.Author.Tests.{leb-false, eqb-true}
 use Rattle.plan.specs.Plan.{channelAt}
 use Rattle.rules.specs.Lists.{keepOne}
-use Rattle.rules.specs.Line.{logLimit, heldLimit, Message, Entry, Held, Status, replay, Node, Line, nodeAt, laneAt, receiverOf, withNode, withLane, counted, isReplay}
+use Rattle.rules.specs.Line.{logLimit, heldLimit, Message, Entry, Held, Status, replay, Node, Line, nodeAt, laneAt, receiverOf, withNode, withLane, counted, isReplay, acceptedSteps}
 use Rattle.rules.specs.Frame.{take}
 use Rattle.rules.specs.Recover.{triples}
 use Rattle.rules.specs.Replay.{passedOn, holding, entryAt, endedIfComplete}
@@ -29,7 +29,8 @@ use Rattle.rules.proofs.undamaged.TestLaws.{unless}
 use Rattle.rules.proofs.undamaged.Standing.{heldTime, heldFrom, EntryFits, Empties, NodeFits, Covers, NodeSound, Standing, Sound}
 use Rattle.rules.proofs.undamaged.SoundStays.{node-stays, replays-stay, counted-sound}
 use Rattle.rules.proofs.undamaged.TakeSound.{now, lanes, inside, next, taken-entry, raised, own, entries, channels}
-use Rattle.rules.proofs.undamaged.EndSound.{ended-sound, ended-steps}
+use Rattle.rules.proofs.undamaged.EndSound.{ended-sound}
+use Rattle.rules.proofs.theorem.Unmoved.{ended-steps}
 
 -- One more at the end, or none.
 more-in : {A : Type 0} (t : Bool) (x : A) (xs : List A) {y : A} → In y (xs ++ keepOne t x []) → In y xs ⊎ ((y ≡ x) × (t ≡ true))
@@ -39,7 +40,7 @@ more-in t x xs {y} i = elim (append-in xs i) [ inl j ↦ inl j | inr j ↦ one t
     one true j = elim (in-first j) [ inl q ↦ inr (q, refl) | inr z ↦ absurd (in-none z) ]
     one false j = absurd (in-none j)
 
-module _ (l : Line) (sound : Sound l) (b : ℕ) (p : Passed l (take b)) (can : CanTake l b) (again : nodeAt l (channelAt (l .plan) b .receiver) .status ≡ replay) where
+module _ (l : Line) (sound : Sound l) (b : ℕ) {who : ℕ} (p : Passed l who (take b)) (can : CanTake l b) (again : nodeAt l (channelAt (l .plan) b .receiver) .status ≡ replay) where
   abbrev s : Standing l
   s = sound .standing
 
@@ -93,14 +94,14 @@ module _ (l : Line) (sound : Sound l) (b : ℕ) (p : Passed l (take b)) (can : C
         ])
   ]
 
-  held-fits : NodeFits (l .plan) (l .steps) n heldNode
+  held-fits : NodeFits (l .plan) (acceptedSteps l) n heldNode
   held-fits =
       let f = old .fits in
       record {
         log-few = f .log-few;
         held-few = few goes room;
         targets-few = f .targets-few;
-        entries = λ e i. elim (worked i) [ inl j ↦ f .entries e j | inr q ↦ subst (EntryFits (l .plan) (l .steps) n) (sym q) (taken-entry l sound b p can (l .steps) (omega arith) 0) ];
+        entries = λ e i. elim (worked i) [ inl j ↦ f .entries e j | inr q ↦ subst (EntryFits (l .plan) (acceptedSteps l) n) (sym q) (taken-entry l sound b p can (acceptedSteps l) (omega arith) 0) ];
         targets = f .targets;
         time = f .time;
         rises = f .rises;
@@ -148,7 +149,7 @@ module _ (l : Line) (sound : Sound l) (b : ℕ) (p : Passed l (take b)) (can : C
     node-holds : NodeSound after n
     node-holds =
         record {
-          fits = subst (NodeFits (l .plan) (l .steps) n) (sym node-now) held-fits;
+          fits = subst (NodeFits (l .plan) (acceptedSteps l) n) (sym node-now) held-fits;
           clock = λ e i c j. elim (worked (subst (λ (y : Node). In e (workedOn y)) node-now i)) [
             | inl k ↦ raised l sound b p can (l .steps) nodes c (j .0) (e .origin) (e .before) (old .clock e k c j)
             | inr q ↦ subst (λ (d : Entry). Covers (l .plan) c (laneAt after c) (d .origin) (d .before)) (sym q) (own l sound b p can (l .steps) nodes c j)
@@ -158,12 +159,12 @@ module _ (l : Line) (sound : Sound l) (b : ℕ) (p : Passed l (take b)) (can : C
 
     holds-sound : Sound after
     holds-sound =
-        let same : l .steps ≤ l .steps = omega arith in
+        let same : acceptedSteps l ≤ acceptedSteps l = omega arith in
         record {
           standing = record {
             plan-fits = s .plan-fits;
             shape = record { nodes-long = long ∙ s .shape .nodes-long; lanes-long = length-set (l .lanes) b (now l sound b p can) ∙ s .shape .lanes-long };
-            steps = s .steps;
+            counts = s .counts;
             nodes = λ j i. elim (ℕ-discrete j n) [
               | yes q ↦ subst (NodeSound after) (sym q) node-holds
               | no d ↦ node-stays l (l .steps) nodes (lanes l sound b p can) same j (node-other j d) (λ c k. raised l sound b p can (l .steps) nodes c (k .0)) (s .nodes j i)
@@ -176,16 +177,16 @@ module _ (l : Line) (sound : Sound l) (b : ℕ) (p : Passed l (take b)) (can : C
               (same-part (λ (y : Node). y .time) refl j) (same-part (λ (y : Node). y .targets) refl j) (sound .replays j i was));
         }
 
-    goes-on : (k : Line) → endedIfComplete n after ≡ some k → Sound (counted k)
+    goes-on : (k : Line) → endedIfComplete n after ≡ some k → Sound (counted who k)
     goes-on k e =
         let f = holds-sound in
         let still = status n ∙ again in
-        counted-sound k (rw (ended-steps after n k e) (p .steps-left)) (ended-sound after (f .standing) n (inside l sound b p can) still (λ j i d. f .replays j i) (λ _. f .replays n (inside l sound b p can) still) k e)
+        counted-sound k (p .console) (rw (ended-steps after n e) (p .steps-left)) (ended-sound after (f .standing) n (inside l sound b p can) still (λ j i d. f .replays j i) (λ _. f .replays n (inside l sound b p can) still) k e)
 
   abbrev left : Line
   left = takenReplaying b (can .message) (takenLane b (can .message) (can .rest) l)
 
-  from-held : goes ≡ true → (k : Line) → endedIfComplete n left ≡ some k → Sound (counted k)
+  from-held : goes ≡ true → (k : Line) → endedIfComplete n left ≡ some k → Sound (counted who k)
   unfolding takenReplaying takenLane withLane withNode holding
   from-held t k e =
       goes-on (set (l .nodes) n (holding h x)) (length-set (l .nodes) n (holding h x))
@@ -195,7 +196,7 @@ module _ (l : Line) (sound : Sound l) (b : ℕ) (p : Passed l (take b)) (can : C
       held : left ≡ moved l (l .steps) (set (l .nodes) n (holding h x)) (lanes l sound b p can)
       held = rw (t, takenReplaying)
 
-  from-dropped : goes ≡ false → (k : Line) → endedIfComplete n left ≡ some k → Sound (counted k)
+  from-dropped : goes ≡ false → (k : Line) → endedIfComplete n left ≡ some k → Sound (counted who k)
   unfolding takenReplaying takenLane withLane
   from-dropped t k e =
       goes-on (l .nodes) refl
@@ -215,9 +216,9 @@ module _ (l : Line) (sound : Sound l) (b : ℕ) (p : Passed l (take b)) (can : C
       first : (rest : List Message) → replaying l (receiverOf l b) ≡ true → takenFirst b (m ∷ rest) l ≡ endedIfComplete (receiverOf l b) (takenReplaying b m (takenLane b m rest l))
       first rest e = rw (e, takenFirst)
 
-  pub take-replaying-sound : (k : Line) → effect l (take b) ≡ some k → Sound (counted k)
+  pub take-replaying-sound : (k : Line) → effect l (take b) ≡ some k → Sound (counted who k)
   take-replaying-sound k e = go goes refl
     where
-      go : (t : Bool) → goes ≡ t → Sound (counted k)
+      go : (t : Bool) → goes ≡ t → Sound (counted who k)
       go true t = from-held t k (sym taken-is ∙ e)
       go false t = from-dropped t k (sym taken-is ∙ e)

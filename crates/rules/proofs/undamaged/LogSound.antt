@@ -8,7 +8,8 @@ use native.Mathlib.Decide.{ℕ-discrete}
 use lib.ListN.{length, length-append, set, length-set}
 use Rattle.plan.specs.declared.Record.{Record}
 use Rattle.plan.specs.Plan.{Plan, nodeCount, channelCount, channelAt}
-use Rattle.rules.specs.Line.{logLimit, stepLimit, Origin, Entry, Status, up, replay, Node, Lane, Line, nodeAt, laneAt, withNode}
+use Rattle.rules.specs.Line.{logLimit, acceptedSteps, Origin, Entry, Status, up, replay, Node, Lane, Line, nodeAt, laneAt, withNode}
+use Rattle.rules.specs.Lists.{sumOf}
 use Rattle.rules.specs.Recover.{triple, triples}
 use Rattle.rules.specs.Replay.{entryAt}
 use Rattle.rules.specs.Clock.{logged}
@@ -16,6 +17,7 @@ use Rattle.rules.specs.Damaged.{workedOn}
 use Rattle.rules.proofs.lists.Rising.{rises-snoc, within-snoc, within-higher}
 use Rattle.rules.proofs.lists.Members.{In, in-none, in-first, in-left, in-right, append-in}
 use Rattle.rules.proofs.line.LineLaws.{node-there, node-else}
+use Rattle.rules.proofs.line.Consoles.{CountsFit}
 use Rattle.rules.proofs.invariant.Stays.{moved}
 use Rattle.rules.proofs.invariant.Inv.{Enters, Leaves}
 use Rattle.rules.proofs.invariant.InvLaws.{up-not-replay}
@@ -57,13 +59,14 @@ module _ (p : Plan) (steps n : ℕ) (x : Node) (f : NodeFits p steps n x) (is-up
         empties = subst (λ (s : Status). Empties s (logged what origin before x)) (sym is-up) (subst (λ (s : Status). Empties s x) is-up (f .empties));
       }
 
-module _ (l : Line) (sound : Sound l) (counts : l .steps < stepLimit) (n : ℕ) (inside : n < nodeCount (l .plan)) (is-up : nodeAt l n .status ≡ up) (room : length (nodeAt l n .log) < logLimit)
-    (what : Record) (origin before : Origin) (new : EntryFits (l .plan) (suc (l .steps)) n (record { what = what; time = suc (nodeAt l n .time); origin = origin; before = before })) (lanes : List Lane) where
+-- The counts afterwards are any that are one step more.
+module _ (l : Line) (sound : Sound l) {counts : List ℕ} (counts-fit : CountsFit counts) (rise : sumOf counts ≡ suc (acceptedSteps l)) (n : ℕ) (inside : n < nodeCount (l .plan)) (is-up : nodeAt l n .status ≡ up) (room : length (nodeAt l n .log) < logLimit)
+    (what : Record) (origin before : Origin) (new : EntryFits (l .plan) (suc (acceptedSteps l)) n (record { what = what; time = suc (nodeAt l n .time); origin = origin; before = before })) (lanes : List Lane) where
   abbrev s : Standing l
   s = sound .standing
 
   abbrev pub after : Line
-  after = moved l (suc (l .steps)) (set (l .nodes) n (logged what origin before (nodeAt l n))) lanes
+  after = moved l counts (set (l .nodes) n (logged what origin before (nodeAt l n))) lanes
 
   there : n < length (l .nodes)
   there = rw (s .shape .nodes-long) inside
@@ -105,7 +108,7 @@ module _ (l : Line) (sound : Sound l) (counts : l .steps < stepLimit) (n : ℕ) 
     node-logs =
         let f = s .nodes n inside in
         record {
-          fits = subst (NodeFits (l .plan) (suc (l .steps)) n) (sym node-now) (logged-fits (l .plan) (l .steps) n (nodeAt l n) (f .fits) is-up room what origin before new);
+          fits = subst (NodeFits (l .plan) (sumOf counts) n) (sym node-now) (rw rise (logged-fits (l .plan) (acceptedSteps l) n (nodeAt l n) (f .fits) is-up room what origin before new));
           clock = λ e i b h. elim (worked-more (nodeAt l n) (record { what = what; time = suc (nodeAt l n .time); origin = origin; before = before }) (subst (λ (x : Node). In e (workedOn x)) node-now i)) [
             | inl q ↦ subst (λ (d : Entry). Covers (l .plan) b (laneAt after b) (d .origin) (d .before)) (sym q) (own b h)
             | inr j ↦ raised b (h .0) (e .origin) (e .before) (f .clock e j b h)
@@ -116,21 +119,21 @@ module _ (l : Line) (sound : Sound l) (counts : l .steps < stepLimit) (n : ℕ) 
     pub log-sound : Sound after
     unfolding logged
     log-sound =
-        let later : l .steps ≤ suc (l .steps) = omega arith in
+        let later : acceptedSteps l ≤ sumOf counts = omega (arith, rise) in
         record {
           standing = record {
             plan-fits = s .plan-fits;
             shape = record { nodes-long = length-set (l .nodes) n (logged what origin before (nodeAt l n)) ∙ s .shape .nodes-long; lanes-long = long ∙ s .shape .lanes-long };
-            steps = counts;
+            counts = counts-fit;
             nodes = λ m h. elim (ℕ-discrete m n) [
               | yes q ↦ subst (NodeSound after) (sym q) node-logs
-              | no d ↦ node-stays l (suc (l .steps)) (after .nodes) lanes later m (node-other m d) (λ b j. raised b (j .0)) (s .nodes m h)
+              | no d ↦ node-stays l counts (after .nodes) lanes later m (node-other m d) (λ b j. raised b (j .0)) (s .nodes m h)
             ];
             channels = channels;
           };
           replays = λ m h e.
               (let old : nodeAt l m .status ≡ replay = sym (status-same m) ∙ e in
               let d : m ≢ n = λ q. up-not-replay (sym is-up ∙ ap (λ (z : ℕ). nodeAt l z .status) (sym q) ∙ old) in
-              replays-stay l (suc (l .steps)) (after .nodes) lanes later m (entries m old) (λ c _. triples-stay m (others m old) (channelAt (l .plan) c .receiver))
+              replays-stay l counts (after .nodes) lanes later m (entries m old) (λ c _. triples-stay m (others m old) (channelAt (l .plan) c .receiver))
               (ap (λ (x : Node). x .time) (node-other m d)) (ap (λ (x : Node). x .targets) (node-other m d)) (sound .replays m h old));
         }

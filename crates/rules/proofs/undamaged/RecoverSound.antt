@@ -12,7 +12,7 @@ use lib.Dec.{leb, eqb}
 use borrow.Author.Tests.{ltb-false}
 use Rattle.plan.specs.Plan.{nodeCount, channelAt}
 use Rattle.rules.specs.Lists.{keep, isEmpty}
-use Rattle.rules.specs.Line.{targetLimit, Origin, made, Target, Status, up, down, replay, Node, Lane, Line, nodeAt, laneAt, freshLane, counted, isDown}
+use Rattle.rules.specs.Line.{targetLimit, Origin, made, Target, Status, up, down, replay, Node, Lane, Line, nodeAt, laneAt, freshLane, counted, isDown, acceptedSteps}
 use Rattle.rules.specs.Frame.{recover}
 use Rattle.rules.specs.Recover.{childTriples, lowOf, restored, targetsOf, conflict, rowsComplete, recovered, statusOf, triples}
 use Rattle.rules.specs.Replay.{endedIfComplete}
@@ -32,7 +32,8 @@ use Rattle.rules.proofs.undamaged.StartSound.{fresh-fits, fresh-flows}
 use Rattle.rules.proofs.undamaged.Undamaged.{ordered-fit}
 use Rattle.rules.proofs.undamaged.Restored.{restoredNode, restoredLine, recovered-is, restored-node, restored-else, restored-shape, restored-enters, restored-leaves, restored-beside, restored-complete}
 use Rattle.rules.proofs.undamaged.CrashSound.{covers-like, stopped-marked}
-use Rattle.rules.proofs.undamaged.EndSound.{high-within, marked-apart, ended-sound, ended-steps}
+use Rattle.rules.proofs.undamaged.EndSound.{high-within, marked-apart, ended-sound}
+use Rattle.rules.proofs.theorem.Unmoved.{effect-steps}
 
 status-not-down : (ts : List Target) → statusOf ts ≢ down
 status-not-down [] e = up-not-down e
@@ -52,16 +53,16 @@ module _ (l : Line) (s : Standing l) (n : ℕ) where
   ordered = ordered-fit (l .plan) (s .plan-fits)
 
   -- A triple names a parent, and its times are not past the steps.
-  triple-fits : (u : Target) → In u (childTriples l n) → TargetFits (l .plan) (l .steps) n u
+  triple-fits : (u : Target) → In u (childTriples l n) → TargetFits (l .plan) (acceptedSteps l) n u
   triple-fits u i =
       let p = l .plan in
       let t = triples-at-in l n u i in
       let f = s .nodes (channelAt p (t .channel) .receiver) (ordered .inside (t .channel) (t .on-plan)) .fits .entries (t .entry) (in-left _ (t .is-logged)) in
-      let made-from : OriginFits p (l .steps) (channelAt p (t .channel) .receiver) (made n (u .time)) = subst (OriginFits p (l .steps) (channelAt p (t .channel) .receiver)) (t .origin-is) (f .origin) in
-      let from : BeforeFits p (l .steps) (made n (u .time)) (made (u .parent) (u .parentTime)) = rw (t .origin-is, t .before-is) at (f .before) in
+      let made-from : OriginFits p (acceptedSteps l) (channelAt p (t .channel) .receiver) (made n (u .time)) = subst (OriginFits p (acceptedSteps l) (channelAt p (t .channel) .receiver)) (t .origin-is) (f .origin) in
+      let from : BeforeFits p (acceptedSteps l) (made n (u .time)) (made (u .parent) (u .parentTime)) = rw (t .origin-is, t .before-is) at (f .before) in
       record { parent = from .0; time = made-from .3; parent-time = from .3 }
 
-  pub restored-within : (a : ℕ) → restored l n a ≤ l .steps
+  pub restored-within : (a : ℕ) → restored l n a ≤ acceptedSteps l
   unfolding restored
   restored-within a =
       let chosen : Target → Bool = λ t. eqb (t .parent) a && leb (t .time) (lowOf l n) in
@@ -93,7 +94,7 @@ module _ (l : Line) (s : Standing l) (n : ℕ) where
     status-now : nodeAt r n .status ≡ statusOf (targetsOf l n)
     status-now = ap (λ (x : Node). x .status) node-now
 
-    restored-fits : NodeFits (l .plan) (l .steps) n (restoredNode l n)
+    restored-fits : NodeFits (l .plan) (acceptedSteps l) n (restoredNode l n)
     restored-fits =
         record {
           log-few = omega arith;
@@ -112,7 +113,7 @@ module _ (l : Line) (s : Standing l) (n : ℕ) where
 
     node-restored : NodeSound r n
     node-restored = record {
-      fits = subst (NodeFits (l .plan) (l .steps) n) (sym node-now) restored-fits;
+      fits = subst (NodeFits (l .plan) (acceptedSteps l) n) (sym node-now) restored-fits;
       clock = λ e i b h. absurd (in-none (subst (λ (x : Node). In e (workedOn x)) node-now i));
       rows = λ b h. subst (λ (x : Node). Rises heldTime 0 (heldFrom (channelAt (l .plan) b .sender) (x .held))) (sym node-now) none;
     }
@@ -149,7 +150,7 @@ module _ (l : Line) (s : Standing l) (n : ℕ) where
           let lane = restored-enters l n ordered (s .shape) c h in
           let running : endDown r c ≡ false = rw (parent-up, own-status) (not-down (statusOf (targetsOf l n)) (status-not-down (targetsOf l n))) in
           record {
-            fits = subst (LaneFits (l .plan) (l .steps) c) (sym lane) (fresh-fits (l .plan) (l .steps) c (restored l n parent) (restored-within parent));
+            fits = subst (LaneFits (l .plan) (acceptedSteps l) c) (sym lane) (fresh-fits (l .plan) (acceptedSteps l) c (restored l n parent) (restored-within parent));
             flows = λ e. subst Flows (sym lane) (fresh-flows (l .plan) (channelAt (l .plan) c) (restored l n parent));
             apart = λ e. absurd (true≢false (sym e ∙ ap (λ (x : Node). x .crashed) (node-other parent parent-other) ∙ parent-unmarked));
             stopped = λ e. absurd (true≢false (sym e ∙ running));
@@ -177,7 +178,7 @@ module _ (l : Line) (s : Standing l) (n : ℕ) where
       lane-is : laneAt r c ≡ record { mark = laneAt l c .taken; taken = laneAt l c .taken; heard = laneAt l c .heard; queue = [] }
       lane-is = restored-leaves l n ordered (s .shape) c h ∙ (λ i. record { mark = laneAt l c .taken; taken = laneAt l c .taken; heard = laneAt l c .heard; queue = queue-none i })
 
-      left-fits : LaneFits (l .plan) (l .steps) c (record { mark = laneAt l c .taken; taken = laneAt l c .taken; heard = laneAt l c .heard; queue = [] })
+      left-fits : LaneFits (l .plan) (acceptedSteps l) c (record { mark = laneAt l c .taken; taken = laneAt l c .taken; heard = laneAt l c .heard; queue = [] })
       left-fits = let f = s .channels c (h .0) .fits in record { heard-long = f .heard-long; few = omega arith; messages = λ m i. absurd (in-none i); mark = f .taken; taken = f .taken; heard = f .heard }
 
       channel-leaves : ChannelSound r c
@@ -185,7 +186,7 @@ module _ (l : Line) (s : Standing l) (n : ℕ) where
           let from-status : nodeAt r (channelAt (l .plan) c .sender) .status ≡ statusOf (targetsOf l n) = ap (λ (x : ℕ). nodeAt r x .status) (h .1) ∙ status-now in
           let running : endDown r c ≡ false = rw (from-status, child-up, not-down (statusOf (targetsOf l n)) (status-not-down (targetsOf l n))) in
           record {
-            fits = subst (LaneFits (l .plan) (l .steps) c) (sym lane-is) left-fits;
+            fits = subst (LaneFits (l .plan) (acceptedSteps l) c) (sym lane-is) left-fits;
             flows = λ e. subst Flows (sym lane-is) (record { marked = omega arith; rises = none; within = none-in });
             apart = λ e. ap (λ (x : Node). x .crashed) (node-other child child-other) ∙ child-unmarked;
             stopped = λ e. absurd (true≢false (sym e ∙ running));
@@ -201,11 +202,11 @@ module _ (l : Line) (s : Standing l) (n : ℕ) where
 
     restored-standing : Standing r
     restored-standing =
-        let same : l .steps ≤ l .steps = omega arith in
+        let same : acceptedSteps l ≤ acceptedSteps l = omega arith in
         record {
           plan-fits = s .plan-fits;
           shape = restored-shape l n ordered (s .shape);
-          steps = s .steps;
+          counts = s .counts;
           nodes = λ m h. elim (ℕ-discrete m n) [
             | yes q ↦ subst (NodeSound r) (sym q) node-restored
             | no d ↦ node-stays l (l .steps) (r .nodes) (r .lanes) same m (node-other m d) (covers-on m d) (s .nodes m h)
@@ -221,7 +222,7 @@ module _ (l : Line) (s : Standing l) (n : ℕ) where
     -- Another node that replays is not joined to this one.
     replays-other : ((m : ℕ) → m < nodeCount (l .plan) → nodeAt l m .status ≡ replay → Replays l m) → (m : ℕ) → m < nodeCount (l .plan) → m ≢ n → nodeAt r m .status ≡ replay → Replays r m
     replays-other replays m h d e =
-        let same : l .steps ≤ l .steps = omega arith in
+        let same : acceptedSteps l ≤ acceptedSteps l = omega arith in
         let node = node-other m d in
         let was : nodeAt l m .status ≡ replay = sym (ap (λ (x : Node). x .status) node) ∙ e in
         let apart = marked-apart l s m n (stopped-marked l s m h (λ q. up-not-replay (sym q ∙ was))) marked in
@@ -230,7 +231,7 @@ module _ (l : Line) (s : Standing l) (n : ℕ) where
 
     replays-own : conflict (targetsOf l n) ≡ false → isEmpty (targetsOf l n) ≡ false → rowsComplete r n ≡ false → Replays r n
     replays-own agreed there waiting =
-        let same : l .steps ≤ l .steps = omega arith in
+        let same : acceptedSteps l ≤ acceptedSteps l = omega arith in
         let lows = low-kept l (l .steps) (r .nodes) (r .lanes) same n taken-kept log-kept in
         let found = targets-kept l (l .steps) (r .nodes) (r .lanes) same n taken-kept log-kept in
         record {
@@ -242,7 +243,7 @@ module _ (l : Line) (s : Standing l) (n : ℕ) where
           open-row = rows-kept l (l .steps) (r .nodes) (r .lanes) same n taken-kept log-kept ∙ sym (restored-complete l n ordered (s .shape) (can .here)) ∙ ap (λ (k : Line). rowsComplete k n) (recovered-is l n ordered (s .shape)) ∙ waiting;
         }
 
-    recovered-sound : ((m : ℕ) → m < nodeCount (l .plan) → nodeAt l m .status ≡ replay → Replays l m) → (k : Line) → recoveredLine n l ≡ some k → Sound k × (k .steps ≡ l .steps)
+    recovered-sound : ((m : ℕ) → m < nodeCount (l .plan) → nodeAt l m .status ≡ replay → Replays l m) → (k : Line) → recoveredLine n l ≡ some k → Sound k
     unfolding recoveredLine
     recovered-sound replays k = go (conflict (targetsOf l n)) (isEmpty (targetsOf l n)) refl refl
       where
@@ -263,15 +264,15 @@ module _ (l : Line) (s : Standing l) (n : ℕ) where
             empty-up (t ∷ ts) x y = true≢false (sym x)
 
         go : (clash empty : Bool) → conflict (targetsOf l n) ≡ clash → isEmpty (targetsOf l n) ≡ empty
-            → (elim clash [ true ↦ none | false ↦ elim empty [ true ↦ some (recovered n l) | false ↦ endedIfComplete n (recovered n l) ] ]) ≡ some k → Sound k × (k .steps ≡ l .steps)
+            → (elim clash [ true ↦ none | false ↦ elim empty [ true ↦ some (recovered n l) | false ↦ endedIfComplete n (recovered n l) ] ]) ≡ some k → Sound k
         go true empty c e q = none-some q
-        go false true c e q = let same = sym is ∙ some-same q in (subst Sound same (record { standing = restored-standing; replays = without e }), ap (λ (x : Line). x .steps) (sym same))
+        go false true c e q = let same = sym is ∙ some-same q in subst Sound same (record { standing = restored-standing; replays = without e })
         go false false c e q =
             let ends : endedIfComplete n r ≡ some k = ap (endedIfComplete n) (sym is) ∙ q in
-            (ended-sound r restored-standing n (can .here) (status-now ∙ status-replays (targetsOf l n) e) others (replays-own c e) k ends, ended-steps r n k ends)
+            ended-sound r restored-standing n (can .here) (status-now ∙ status-replays (targetsOf l n) e) others (replays-own c e) k ends
 
-pub recover-sound : (l : Line) → Sound l → (n : ℕ) → Passed l (recover n) → (k : Line) → effect l (recover n) ≡ some k → Sound (counted k)
+pub recover-sound : (l : Line) → Sound l → (n : ℕ) {who : ℕ} → Passed l who (recover n) → (k : Line) → effect l (recover n) ≡ some k → Sound (counted who k)
 unfolding effect
-recover-sound l sound n p k e =
-    let (after, steps) = recovered-sound l (sound .standing) n (can-recover p) (ltb-false targetLimit (length (targetsOf l n)) (p .space)) (sound .replays) k e in
-    counted-sound k (rw steps (p .steps-left)) after
+recover-sound l sound n {who} p k e =
+    let after = recovered-sound l (sound .standing) n (can-recover p) (ltb-false targetLimit (length (targetsOf l n)) (p .space)) (sound .replays) k e in
+    counted-sound k (p .console) (rw (effect-steps l (recover n) e) (p .steps-left)) after

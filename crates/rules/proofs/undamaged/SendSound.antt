@@ -14,7 +14,7 @@ use Rattle.basics.specs.Bools.{both-true}
 use Rattle.plan.specs.declared.Channel.{Channel}
 use Rattle.plan.specs.Channel.{takes}
 use Rattle.plan.specs.Plan.{nodeCount, channelAt}
-use Rattle.rules.specs.Line.{queueLimit, Origin, fed, made, Entry, Status, replay, Lane, Line, nodeAt, laneAt, withLane, counted}
+use Rattle.rules.specs.Line.{queueLimit, Origin, fed, made, Entry, Status, replay, Lane, Line, nodeAt, laneAt, withLane, counted, acceptedSteps}
 use Rattle.rules.specs.Frame.{send}
 use Rattle.rules.specs.Clock.{messageOf, nextToSend, sentOn}
 use Rattle.rules.specs.Step.{sendable, sentLine, effect}
@@ -40,7 +40,7 @@ next-in c mark (d ∷ log) e q = one (ltb mark (d .time) && takes c (d .what)) r
         (subst (λ (x : Entry). In x (d ∷ log)) same here, subst (λ (x : Entry). mark < x .time) same late)
     one false t z ih = let (i, h) = ih z in (there i, h)
 
-module _ (l : Line) (sound : Sound l) (b : ℕ) (p : Passed l (send b)) where
+module _ (l : Line) (sound : Sound l) (b : ℕ) {who : ℕ} (p : Passed l who (send b)) where
   abbrev s : Standing l
   s = sound .standing
 
@@ -72,14 +72,14 @@ module _ (l : Line) (sound : Sound l) (b : ℕ) (p : Passed l (send b)) where
   flow : Flows (laneAt l b)
   flow = old .flows (p .right-status)
 
-  sent-message : MessageFits (l .plan) (l .steps) n (messageOf e)
+  sent-message : MessageFits (l .plan) (acceptedSteps l) n (messageOf e)
   sent-message =
       let f = s .nodes n inside .fits in
       let g = f .entries e (in-left _ (is-next .0)) in
       let late = within-in entryTime (f .within) (is-next .0) in
       record { limits = g .limits; origin = g .origin; later = omega (arith, is-next .1); within = omega (arith, f .time) }
 
-  sent-fits : LaneFits (l .plan) (l .steps) b (sentOn e was)
+  sent-fits : LaneFits (l .plan) (acceptedSteps l) b (sentOn e was)
   unfolding sentOn
   sent-fits =
       let f = old .fits in
@@ -89,7 +89,7 @@ module _ (l : Line) (sound : Sound l) (b : ℕ) (p : Passed l (send b)) where
         few = omega (arith, length-append (was .queue) (messageOf e ∷ []));
         messages = λ m i. elim (append-in (was .queue) i) [
           | inl j ↦ f .messages m j
-          | inr j ↦ elim (in-first j) [ inl q ↦ subst (MessageFits (l .plan) (l .steps) n) (sym q) sent-message | inr z ↦ absurd (in-none z) ]
+          | inr j ↦ elim (in-first j) [ inl q ↦ subst (MessageFits (l .plan) (acceptedSteps l) n) (sym q) sent-message | inr z ↦ absurd (in-none z) ]
         ];
         mark = sent-message .within;
         taken = f .taken;
@@ -153,12 +153,12 @@ module _ (l : Line) (sound : Sound l) (b : ℕ) (p : Passed l (send b)) where
   sent-sound : Sound after
   unfolding withLane
   sent-sound =
-      let same : l .steps ≤ l .steps = omega arith in
+      let same : acceptedSteps l ≤ acceptedSteps l = omega arith in
       record {
         standing = record {
           plan-fits = s .plan-fits;
           shape = record { nodes-long = s .shape .nodes-long; lanes-long = lanes-long b (sentOn e was) l ∙ s .shape .lanes-long };
-          steps = s .steps;
+          counts = s .counts;
           nodes = λ m h. node-stays l (l .steps) (l .nodes) (after .lanes) same m refl (λ c j. covers-same c) (s .nodes m h);
           channels = λ c h. elim (ℕ-discrete c b) [
             | yes q ↦ subst (ChannelSound after) (sym q) sent-channel
@@ -168,7 +168,7 @@ module _ (l : Line) (sound : Sound l) (b : ℕ) (p : Passed l (send b)) where
         replays = λ m h q. replays-stay l (l .steps) (l .nodes) (after .lanes) same m (λ c j. taken-same c) (λ c j. refl) refl refl (sound .replays m h q);
       }
 
-  pub send-sound : (k : Line) → effect l (send b) ≡ some k → Sound (counted k)
+  pub send-sound : (k : Line) → effect l (send b) ≡ some k → Sound (counted who k)
   unfolding effect withLane
   send-sound k q =
-      subst (λ (x : Line). Sound (counted x)) (ap (λ (o : Option Entry). sentLine b o l) (sym (can .first)) ∙ some-same q) (counted-sound after (p .steps-left) sent-sound)
+      subst (λ (x : Line). Sound (counted who x)) (ap (λ (o : Option Entry). sentLine b o l) (sym (can .first)) ∙ some-same q) (counted-sound after (p .console) (p .steps-left) sent-sound)

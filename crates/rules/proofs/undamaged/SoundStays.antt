@@ -1,18 +1,19 @@
 -- What is sound stays sound where a change does not reach, and as the steps go on.
-use Prim.Native.Nat.{ℕ, suc, _<_, _≤_}
+use Prim.Native.Nat.{ℕ, _<_, _≤_}
 use mathlib.Core.Path.{_≡_, refl, sym, ap, subst, _∙_}
 use mathlib.Core.Bool.{_||_}
 use mathlib.Core.List.{List, _∷_}
 use native.Mathlib.Omega.{arith}
 use lib.Dec.{leb}
 use Rattle.plan.specs.Plan.{Plan, channelAt, entering}
-use Rattle.rules.specs.Lists.{isEmpty}
-use Rattle.rules.specs.Line.{stepLimit, Origin, fed, made, Message, Entry, Target, down, replay, Node, Lane, Line, nodeAt, laneAt, counted, isDown}
+use Rattle.rules.specs.Lists.{isEmpty, sumOf}
+use Rattle.rules.specs.Line.{stepLimit, consoleCount, stepsFrom, acceptedSteps, Origin, fed, made, Message, Entry, Target, down, replay, Node, Lane, Line, nodeAt, laneAt, oneMore, counted, isDown}
 use Rattle.rules.specs.Recover.{triples, targetsOf, lowOf, restored, conflict, rowGoal, childTriples}
 use Rattle.rules.specs.Step.{endDown}
 use Rattle.rules.specs.Damaged.{workedOn}
 use Rattle.rules.proofs.lists.Rising.{Rises}
 use Rattle.rules.proofs.lists.Members.{In}
+use Rattle.rules.proofs.line.Consoles.{more-fit, counts-rise}
 use Rattle.rules.proofs.invariant.Stays.{moved}
 use Rattle.rules.proofs.invariant.Inv.{Enters, Leaves}
 use Rattle.rules.proofs.ending.Targets.{low-same, triples-same, targets-same, restored-same}
@@ -66,7 +67,7 @@ module _ (p : Plan) {steps more : ℕ} (h : steps ≤ more) where
         heard = λ t i. omega (arith, f .heard t i);
       }
 
-module _ (l : Line) (steps : ℕ) (nodes : List Node) (lanes : List Lane) (h : l .steps ≤ steps) where
+module _ (l : Line) (steps : List ℕ) (nodes : List Node) (lanes : List Lane) (h : acceptedSteps l ≤ sumOf steps) where
   abbrev k : Line
   k = moved l steps nodes lanes
 
@@ -74,7 +75,7 @@ module _ (l : Line) (steps : ℕ) (nodes : List Node) (lanes : List Lane) (h : l
   pub node-stays : (n : ℕ) → nodeAt k n ≡ nodeAt l n → ((b : ℕ) → Enters (l .plan) n b → (o before : Origin) → Covers (l .plan) b (laneAt l b) o before → Covers (l .plan) b (laneAt k b) o before) → NodeSound l n → NodeSound k n
   node-stays n same raised f =
       record {
-        fits = subst (NodeFits (l .plan) steps n) (sym same) (node-later (l .plan) h n (nodeAt l n) (f .fits));
+        fits = subst (NodeFits (l .plan) (sumOf steps) n) (sym same) (node-later (l .plan) h n (nodeAt l n) (f .fits));
         clock = λ e i b j. raised b j (e .origin) (e .before) (f .clock e (subst (λ (x : Node). In e (workedOn x)) same i) b j);
         rows = λ b j. subst (λ (x : Node). Rises heldTime 0 (heldFrom (channelAt (l .plan) b .sender) (x .held))) (sym same) (f .rows b j);
       }
@@ -85,7 +86,7 @@ module _ (l : Line) (steps : ℕ) (nodes : List Node) (lanes : List Lane) (h : l
       → laneAt k b ≡ laneAt l b → ChannelSound l b → ChannelSound k b
   channel-like b ends goes replays from to lane f =
       record {
-        fits = subst (LaneFits (l .plan) steps b) (sym lane) (lane-later (l .plan) h b (laneAt l b) (f .fits));
+        fits = subst (LaneFits (l .plan) (sumOf steps) b) (sym lane) (lane-later (l .plan) h b (laneAt l b) (f .fits));
         flows = λ e. subst Flows (sym lane) (f .flows (sym ends ∙ e));
         apart = λ e. to ∙ f .apart (sym from ∙ e);
         stopped = λ e. (let (a, c) = f .stopped (sym ends ∙ e) in (ap (λ (s : Lane). s .mark) lane ∙ a, ap (λ (s : Lane). s .queue) lane ∙ c));
@@ -132,18 +133,18 @@ module _ (l : Line) (steps : ℕ) (nodes : List Node) (lanes : List Lane) (h : l
           open-row = rows-kept ∙ f .open-row;
         }
 
--- One more step counted.
-pub counted-sound : (l : Line) → l .steps < stepLimit → Sound l → Sound (counted l)
+-- One more step counted, of a console that has steps left.
+pub counted-sound : (l : Line) {c : ℕ} → c < consoleCount → stepsFrom l c < stepLimit → Sound l → Sound (counted c l)
 unfolding counted
-counted-sound l h f =
+counted-sound l {c} inside left f =
     let s = f .standing in
-    let steps = suc (l .steps) in
-    let later : l .steps ≤ suc (l .steps) = omega arith in
+    let steps = oneMore c (l .steps) in
+    let later : acceptedSteps l ≤ sumOf (oneMore c (l .steps)) = omega (arith, counts-rise (s .counts) inside left) in
     record {
       standing = record {
         plan-fits = s .plan-fits;
         shape = record { nodes-long = s .shape .nodes-long; lanes-long = s .shape .lanes-long };
-        steps = h;
+        counts = more-fit (s .counts) inside left;
         nodes = λ n i. node-stays l steps (l .nodes) (l .lanes) later n refl (λ b j o before c. c) (s .nodes n i);
         channels = λ b i. channel-stays l steps (l .nodes) (l .lanes) later b refl refl refl refl refl (s .channels b i);
       };

@@ -8,13 +8,14 @@ use lib.Dec.{leb, eqb}
 use Rattle.plan.specs.Plan.{Plan, nodeCount, channelCount, channelAt, entering, isSource, isSink}
 use Rattle.plan.specs.Check.{planFits}
 use Rattle.rules.specs.Lists.{isEmpty, keep, allOf}
-use Rattle.rules.specs.Line.{logLimit, queueLimit, heldLimit, targetLimit, stepLimit, Origin, fed, made, Message, Entry, Held, Target, Status, up, down, replay, Node, Lane, Line, nodeAt, laneAt, parents, senderOf, receiverOf}
+use Rattle.rules.specs.Line.{logLimit, queueLimit, heldLimit, targetLimit, acceptedSteps, Origin, fed, made, Message, Entry, Held, Target, Status, up, down, replay, Node, Lane, Line, nodeAt, laneAt, parents, senderOf, receiverOf}
 use Rattle.rules.specs.Recover.{lowOf, targetsOf, restored, conflict, rowGoal}
 use Rattle.rules.specs.Replay.{passedOn}
 use Rattle.rules.specs.Step.{endDown}
 use Rattle.rules.specs.Damaged.{workedOn, recordPastLimits, isParent, isFed, pastHeard}
 use Rattle.rules.proofs.lists.Rising.{Rises, Within}
 use Rattle.rules.proofs.lists.Members.{In}
+use Rattle.rules.proofs.line.Consoles.{CountsFit}
 use Rattle.rules.proofs.invariant.Inv.{timeOf, Shape, Enters}
 
 abbrev pub entryTime : Entry → ℕ
@@ -80,7 +81,7 @@ heldFrom s hs = keep (λ (h : Held). eqb (h .sender) s) hs
 
 -- A node with its clock and its rows.
 pub record NodeSound (l : Line) (n : ℕ) : Type 0 where
-  pub fits : NodeFits (l .plan) (l .steps) n (nodeAt l n)
+  pub fits : NodeFits (l .plan) (acceptedSteps l) n (nodeAt l n)
   pub clock : (e : Entry) → In e (workedOn (nodeAt l n)) → (b : ℕ) → Enters (l .plan) n b → Covers (l .plan) b (laneAt l b) (e .origin) (e .before)
   pub rows : (b : ℕ) → Enters (l .plan) n b → Rises heldTime 0 (heldFrom (channelAt (l .plan) b .sender) (nodeAt l n .held))
 
@@ -100,7 +101,7 @@ pub record Flows (s : Lane) : Type 0 where
 
 -- A channel with its ends.
 pub record ChannelSound (l : Line) (b : ℕ) : Type 0 where
-  pub fits : LaneFits (l .plan) (l .steps) b (laneAt l b)
+  pub fits : LaneFits (l .plan) (acceptedSteps l) b (laneAt l b)
   pub flows : endDown l b ≡ false → Flows (laneAt l b)
   pub apart : nodeAt l (senderOf l b) .crashed ≡ true → nodeAt l (receiverOf l b) .crashed ≡ false
   pub stopped : endDown l b ≡ true → (laneAt l b .mark ≡ 0) × (laneAt l b .queue ≡ [])
@@ -111,7 +112,7 @@ pub record ChannelSound (l : Line) (b : ℕ) : Type 0 where
 pub record Standing (l : Line) : Type 0 where
   pub plan-fits : planFits (l .plan) ≡ true
   pub shape : Shape l
-  pub steps : l .steps ≤ stepLimit
+  pub counts : CountsFit (l .steps)
   pub nodes : (n : ℕ) → n < nodeCount (l .plan) → NodeSound l n
   pub channels : (b : ℕ) → b < channelCount (l .plan) → ChannelSound l b
 

@@ -17,6 +17,7 @@ use Rattle.rules.proofs.lists.ListLaws.{map-at}
 use Rattle.rules.proofs.lists.Rising.{none, none-in}
 use Rattle.rules.proofs.lists.Members.{In, in-none, in-first}
 use Rattle.rules.proofs.invariant.InvLaws.{up-not-replay}
+use Rattle.rules.proofs.line.Consoles.{start-counts}
 use Rattle.rules.proofs.undamaged.Standing.{NodeFits, NodeSound, LaneFits, Flows, ChannelSound, Sound}
 use Rattle.rules.proofs.undamaged.Undamaged.{ordered-fit, sound-undamaged}
 
@@ -105,7 +106,7 @@ module _ (p : Plan) (fits : planFits p ≡ true) where
     standing = record {
       plan-fits = fits;
       shape = record { nodes-long = length-replicate (nodeCount p) freshNode; lanes-long = length-map (p .channels) (λ (c : Channel). freshLane p c 0) };
-      steps = omega arith;
+      counts = start-counts;
       nodes = start-node;
       channels = start-channel;
     };

@@ -1,20 +1,20 @@
 -- No step damages a line: each accepted frame keeps it sound, and a refused one leaves it as it was.
-use Prim.Native.Nat.{ℕ}
+use Prim.Native.Nat.{ℕ, _+_}
 use mathlib.Core.Path.{_≡_, refl, sym, ap, subst, _∙_}
 use mathlib.Core.Bool.{Bool, true, false, cond}
 use mathlib.Core.List.{List}
 use mathlib.Core.Option.{some}
 use native.Mathlib.Decide.{ℕ-discrete}
-use lib.ListN.{drop}
+use lib.ListN.{getD, drop}
 use lib.Dec.{eqb}
 use Rattle.plan.specs.Lawful.{Bytes}
 use Rattle.plan.proofs.BytesLaws.{bytes-drop}
 use Rattle.plan.specs.Plan.{channelAt}
 use Rattle.rules.specs.Line.{Status, up, down, replay, Line, nodeAt, counted}
-use Rattle.rules.specs.Frame.{Frame, feed, send, take, crash, recover, frameNumber, frameOfKind, frameOf}
+use Rattle.rules.specs.Frame.{Frame, feed, send, take, crash, recover, frameKind, consoleBytes, frameConsole, frameOfKind, frameOf}
 use Rattle.rules.specs.Step.{effect, accepted, refusal, step}
 use Rattle.rules.specs.Damaged.{damaged}
-use Rattle.rules.proofs.theorem.Accepted.{Passed, passed, CanTake, can-take, line-passed, step-accepted, step-refused}
+use Rattle.rules.proofs.theorem.Accepted.{Passed, passed, CanTake, can-take, step-accepted, step-refused}
 use Rattle.rules.proofs.undamaged.Standing.{Sound}
 use Rattle.rules.proofs.undamaged.Undamaged.{undamaged-sound, sound-undamaged}
 use Rattle.rules.proofs.undamaged.FeedSound.{feed-sound}
@@ -44,21 +44,21 @@ kind-bytes kind n rest bytes = one (eqb kind 1) (eqb kind 2) (eqb kind 3) (eqb k
 
 frame-bytes : (f : List ℕ) → Bytes f → FedBytes (frameOf f)
 unfolding frameOf
-frame-bytes f bytes = kind-bytes (frameNumber 2 f) (frameNumber 3 f) (drop 5 f) (bytes-drop 5 f bytes)
+frame-bytes f bytes = kind-bytes (frameKind f) (getD f (4 + consoleBytes f) 0) (drop (5 + consoleBytes f) f) (bytes-drop (5 + consoleBytes f) f bytes)
 
 module _ (l : Line) (sound : Sound l) where
-  take-sound : (b : ℕ) → Passed l (take b) → (k : Line) → effect l (take b) ≡ some k → Sound (counted k)
-  take-sound b p k e = go (nodeAt l (channelAt (l .plan) b .receiver) .status) refl
+  take-sound : (b : ℕ) {who : ℕ} → Passed l who (take b) → (k : Line) → effect l (take b) ≡ some k → Sound (counted who k)
+  take-sound b {who} p k e = go (nodeAt l (channelAt (l .plan) b .receiver) .status) refl
     where
       can : CanTake l b
       can = can-take p
 
-      go : (s : Status) → nodeAt l (channelAt (l .plan) b .receiver) .status ≡ s → Sound (counted k)
+      go : (s : Status) → nodeAt l (channelAt (l .plan) b .receiver) .status ≡ s → Sound (counted who k)
       go up q = take-up-sound l sound b p can q k e
       go down q = absurd (can .receiver q)
       go replay q = take-replaying-sound l sound b p can q k e
 
-  pub effect-sound : (f : Frame) → FedBytes f → Passed l f → (k : Line) → effect l f ≡ some k → Sound (counted k)
+  pub effect-sound : {who : ℕ} (f : Frame) → FedBytes f → Passed l who f → (k : Line) → effect l f ≡ some k → Sound (counted who k)
   effect-sound (feed n r) bytes p = feed-sound l sound n r bytes p
   effect-sound (send b) bytes p = send-sound l sound b p
   effect-sound (take b) bytes p = take-sound b p
@@ -69,8 +69,8 @@ pub step-sound : (l : Line) (f : List ℕ) → Bytes f → Sound l → Sound (st
 step-sound l f bytes sound =
     elim (ℕ-discrete (refusal l f) 0) [
       | yes e ↦
-          (let p = passed l (frameOf f) (line-passed l f e) in
-          subst Sound (sym (step-accepted l f e .1 ∙ ap (accepted l) (p .leads))) (effect-sound l sound (frameOf f) (frame-bytes f bytes) p (p .next) (p .leads)))
+          (let p = passed l f e in
+          subst Sound (sym (step-accepted l f e .1 ∙ ap (accepted (frameConsole f) l) (p .leads))) (effect-sound l sound (frameOf f) (frame-bytes f bytes) p (p .next) (p .leads)))
       | no d ↦ subst Sound (sym (step-refused l f d .1)) sound
     ]
 

@@ -11,7 +11,8 @@ use lib.ListN.{length, set, length-set}
 use lib.Dec.{leb, eqb}
 use borrow.Author.Tests.{leb-false, eq-eqb, ne-eqb}
 use Rattle.plan.specs.Plan.{Plan, nodeCount, channelCount, channelAt}
-use Rattle.rules.specs.Line.{logLimit, heldLimit, Origin, fed, made, Message, Status, up, replay, Node, Lane, Line, nodeAt, laneAt, parents, withNode, withLane, counted, isReplay}
+use Rattle.rules.specs.Line.{logLimit, heldLimit, Origin, fed, made, Message, Status, up, replay, Node, Lane, Line, nodeAt, laneAt, parents, withNode, withLane, oneMore, counted, isReplay, acceptedSteps}
+use Rattle.rules.specs.Lists.{sumOf}
 use Rattle.rules.specs.Frame.{take}
 use Rattle.rules.specs.Recover.{triple}
 use Rattle.rules.specs.Clock.{raiseHeard, takenFrom}
@@ -20,6 +21,7 @@ use Rattle.rules.specs.Damaged.{isParent, pastHeard}
 use Rattle.rules.proofs.theorem.StepInv.{first-up}
 use Rattle.rules.proofs.lists.Rising.{Rises, more, Within, within-first}
 use Rattle.rules.proofs.lists.Members.{In, here, there, in-map}
+use Rattle.rules.proofs.line.Consoles.{more-fit, counts-rise}
 use Rattle.rules.proofs.line.LineLaws.{lane-there, lane-else}
 use Rattle.rules.proofs.invariant.Stays.{moved}
 use Rattle.rules.proofs.line.Joins.{in-entering, no-source}
@@ -52,7 +54,7 @@ enters-parent p n b (h, q) =
     let s = channelAt p b .sender in
     any-by (λ (x : ℕ). eqb x s) (in-map (λ (c : ℕ). channelAt p c .sender) (in-entering p n b h q)) (eq-eqb s s refl)
 
-module _ (l : Line) (sound : Sound l) (b : ℕ) (p : Passed l (take b)) (can : CanTake l b) where
+module _ (l : Line) (sound : Sound l) (b : ℕ) {who : ℕ} (p : Passed l who (take b)) (can : CanTake l b) where
   abbrev s : Standing l
   s = sound .standing
 
@@ -96,11 +98,11 @@ module _ (l : Line) (sound : Sound l) (b : ℕ) (p : Passed l (take b)) (can : C
   in-queue : (x : Message) → In x (m ∷ can .rest) → In x (was .queue)
   in-queue x i = subst (λ (q : List Message). In x q) (sym (can .first)) i
 
-  pub taken-message : MessageFits (l .plan) (l .steps) from m
+  pub taken-message : MessageFits (l .plan) (acceptedSteps l) from m
   taken-message = old .fits .messages m (in-queue m here)
 
   -- The channel after the Take.
-  taken-fits : LaneFits (l .plan) (l .steps) b now
+  taken-fits : LaneFits (l .plan) (acceptedSteps l) b now
   unfolding takenFrom
   taken-fits =
       let f = old .fits in
@@ -111,7 +113,7 @@ module _ (l : Line) (sound : Sound l) (b : ℕ) (p : Passed l (take b)) (can : C
         messages = λ x i. f .messages x (in-queue x (there i));
         mark = f .mark;
         taken = omega (arith, f .taken, taken-message .within);
-        heard = raise-within ps (was .heard) (m .origin) (l .steps) (f .heard) (λ t i. fits-times (l .plan) (l .steps) from (m .origin) (taken-message .origin) t i .1);
+        heard = raise-within ps (was .heard) (m .origin) (acceptedSteps l) (f .heard) (λ t i. fits-times (l .plan) (acceptedSteps l) from (m .origin) (taken-message .origin) t i .1);
       }
 
   taken-flows : Flows now
@@ -141,7 +143,7 @@ module _ (l : Line) (sound : Sound l) (b : ℕ) (p : Passed l (take b)) (can : C
   pub not-silent : (k : ℕ) → nodeAt l k .status ≡ replay → from ≢ k
   not-silent k q z = empty-not (sym (old .silent (ap (λ (x : ℕ). nodeAt l x .status) z ∙ q)) ∙ can .first)
 
-  module _ (steps : ℕ) (nodes : List Node) where
+  module _ (steps : List ℕ) (nodes : List Node) where
     abbrev k : Line
     k = moved l steps nodes (set (l .lanes) b (takenFrom (parents (l .plan) (channelAt (l .plan) b .sender)) (can .message) (can .rest) (laneAt l b)))
 
@@ -168,7 +170,7 @@ module _ (l : Line) (sound : Sound l) (b : ℕ) (p : Passed l (take b)) (can : C
     pub entries : (j : ℕ) → nodeAt l j .status ≡ replay → (c : ℕ) → Leaves (l .plan) j c → laneAt k c .taken ≡ laneAt l c .taken
     entries j q c (h, e) = ap (λ (x : Lane). x .taken) (lane-beside c (λ z. not-silent j q (ap (λ (x : ℕ). channelAt (l .plan) x .sender) (sym z) ∙ e)))
 
-    module _ (later : l .steps ≤ steps) (status : (j : ℕ) → nodeAt k j .status ≡ nodeAt l j .status) (mark : (j : ℕ) → nodeAt k j .crashed ≡ nodeAt l j .crashed) where
+    module _ (later : acceptedSteps l ≤ sumOf steps) (status : (j : ℕ) → nodeAt k j .status ≡ nodeAt l j .status) (mark : (j : ℕ) → nodeAt k j .crashed ≡ nodeAt l j .crashed) where
       taken-channel : ChannelSound k b
       taken-channel =
           record {
@@ -187,7 +189,7 @@ module _ (l : Line) (sound : Sound l) (b : ℕ) (p : Passed l (take b)) (can : C
       ]
 
   -- What the receiver makes of the message.
-  pub taken-entry : (steps : ℕ) → l .steps ≤ steps → (t : ℕ) → EntryFits (l .plan) steps n (record { what = madeBy l n (m .what); time = t; origin = made from (m .time); before = m .origin })
+  pub taken-entry : (steps : ℕ) → acceptedSteps l ≤ steps → (t : ℕ) → EntryFits (l .plan) steps n (record { what = madeBy l n (m .what); time = t; origin = made from (m .time); before = m .origin })
   taken-entry steps later t =
       record {
         limits = made-within (l .plan) (s .plan-fits) n (m .what) (taken-message .limits);
@@ -202,21 +204,24 @@ module _ (l : Line) (sound : Sound l) (b : ℕ) (p : Passed l (take b)) (can : C
         leb-false logLimit (length (nodeAt l n .log))
         (sym (ap (λ (x : Status). cond (isReplay x) (toHold l n (firstRecord (was .queue)) && leb heldLimit (length (nodeAt l n .held))) (leb logLimit (length (nodeAt l n .log)))) is-up) ∙ p .space)
 
-    taken-sound : Sound (counted (takenUp b m (takenLane b m (can .rest) l)))
+    taken-sound : Sound (counted who (takenUp b m (takenLane b m (can .rest) l)))
     unfolding counted takenUp takenLane withNode withLane
     taken-sound =
         let what = madeBy l n (m .what) in
-        let new = taken-entry (suc (l .steps)) (omega arith) (suc (nodeAt l n .time)) in
+        let new = taken-entry (suc (acceptedSteps l)) (omega arith) (suc (nodeAt l n .time)) in
+        let counts = sound .standing .counts in
+        let fits = more-fit counts (p .console) (p .steps-left) in
+        let rise = counts-rise counts (p .console) (p .steps-left) in
         let origin : Origin = made from (m .time) in
-        let steps = suc (l .steps) in
-        let nodes = after l sound (p .steps-left) n inside is-up room what origin (m .origin) new lanes .nodes in
-        log-sound l sound (p .steps-left) n inside is-up room what origin (m .origin) new lanes (length-set (l .lanes) b now) (raised steps nodes) (own steps nodes)
-        (channels steps nodes (omega arith) (status-same l sound (p .steps-left) n inside is-up room what origin (m .origin) new lanes) (mark-same l sound (p .steps-left) n inside is-up room what origin (m .origin) new lanes))
+        let steps = oneMore who (l .steps) in
+        let nodes = after l sound fits rise n inside is-up room what origin (m .origin) new lanes .nodes in
+        log-sound l sound fits rise n inside is-up room what origin (m .origin) new lanes (length-set (l .lanes) b now) (raised steps nodes) (own steps nodes)
+        (channels steps nodes (omega (arith, rise)) (status-same l sound fits rise n inside is-up room what origin (m .origin) new lanes) (mark-same l sound fits rise n inside is-up room what origin (m .origin) new lanes))
         (entries steps nodes) (λ j q. triple-else j from (m .time) (m .origin) (not-silent j q))
 
     taken-is : effect l (take b) ≡ some (takenUp b m (takenLane b m (can .rest) l))
     unfolding effect takenLine
     taken-is = ap (λ (q : List Message). takenFirst b q l) (can .first) ∙ first-up b m (can .rest) l (ap isReplay is-up)
 
-    pub take-up-sound : (k : Line) → effect l (take b) ≡ some k → Sound (counted k)
-    take-up-sound k e = subst (λ (x : Line). Sound (counted x)) (some-same (sym taken-is ∙ e)) taken-sound
+    pub take-up-sound : (k : Line) → effect l (take b) ≡ some k → Sound (counted who k)
+    take-up-sound k e = subst (λ (x : Line). Sound (counted who x)) (some-same (sym taken-is ∙ e)) taken-sound

@@ -1,12 +1,12 @@
 -- A line is not damaged exactly if it is sound: each condition of Damaged is the failure of a fact.
-use Prim.Native.Nat.{ℕ, _<_, _≤_}
+use Prim.Native.Nat.{ℕ, zero, suc, _<_, _≤_}
 use mathlib.Core.Path.{_≡_, refl, sym, ap, _∙_}
 use mathlib.Core.Logic.{inl, inr}
 use mathlib.Core.Bool.{Bool, true, false, not, _&&_, _||_, true≢false}
 use mathlib.Core.List.{List, [], _∷_, map}
 use mathlib.Core.Option.{Option, none, some}
 use native.Mathlib.Omega.{arith}
-use lib.ListN.{length}
+use lib.ListN.{length, getD}
 use lib.Dec.{ltb, eqb}
 use borrow.Author.Tests.{ltb-false, le-ltb, eqb-true, eq-eqb, not-false}
 use Rattle.basics.specs.Bools.{both-true, neither-true}
@@ -14,7 +14,7 @@ use Rattle.plan.specs.Plan.{Plan, nodeCount, channelCount, channelAt, entering}
 use Rattle.plan.specs.Check.{planFits}
 use Rattle.plan.proofs.FitsLaws.{fitting}
 use Rattle.rules.specs.Lists.{isEmpty, anyOf}
-use Rattle.rules.specs.Line.{targetLimit, stepLimit, Origin, fed, made, Entry, Held, Target, replay, Node, Line, nodeAt, laneAt, parents, senderOf, nodeNumbers, channelNumbersOf, isReplay}
+use Rattle.rules.specs.Line.{targetLimit, stepLimit, consoleCount, stepsFrom, acceptedSteps, Origin, fed, made, Entry, Held, Target, replay, Node, Line, nodeAt, laneAt, parents, senderOf, nodeNumbers, channelNumbersOf, isReplay}
 use Rattle.rules.specs.Recover.{sameTarget, targetsOf, conflict, recovered, statusOf, rowsComplete}
 use Rattle.rules.specs.Replay.{heldByRow, replayEnd, endedIfComplete}
 use Rattle.rules.specs.Step.{replaying, recoveredLine, recoverGives}
@@ -182,8 +182,8 @@ module _ (l : Line) (n : ℕ) (ordered : Ordered (l .plan)) (shape : Shape l) (i
       let p = l .plan in
       let x = nodeAt l n in
       let (few, (parent, (past, (zeros, (maker, (log, (clock, (rows, (passed, (mark, (end, (again, (holds, _))))))))))))) =
-      all-false (nodePastLimits x) (nodeWrongParent p n x ∷ nodeTimePast (l .steps) x ∷ nodeTimeZero x ∷ nodeMakerWrong p n x ∷ logWrong x ∷ pastClock l n ∷ heldWrong l n ∷ heldNotPassed p n x ∷ markMissing x ∷ markOnEnd p n x ∷ replayWrong l n ∷ nodeHolds x ∷ []) e in
-      (record { fits = node-fits p (l .steps) n x few parent past zeros maker log passed mark end holds; clock = clock-of l n clock; rows = rows-of l n rows }, replaying-right again)
+      all-false (nodePastLimits x) (nodeWrongParent p n x ∷ nodeTimePast (acceptedSteps l) x ∷ nodeTimeZero x ∷ nodeMakerWrong p n x ∷ logWrong x ∷ pastClock l n ∷ heldWrong l n ∷ heldNotPassed p n x ∷ markMissing x ∷ markOnEnd p n x ∷ replayWrong l n ∷ nodeHolds x ∷ []) e in
+      (record { fits = node-fits p (acceptedSteps l) n x few parent past zeros maker log passed mark end holds; clock = clock-of l n clock; rows = rows-of l n rows }, replaying-right again)
 
   sound-node : NodeSound l n → (nodeAt l n .status ≡ replay → Replays l n) → nodeDamaged l n ≡ false
   unfolding nodeDamaged
@@ -191,20 +191,30 @@ module _ (l : Line) (n : ℕ) (ordered : Ordered (l .plan)) (shape : Shape l) (i
       let p = l .plan in
       let x = nodeAt l n in
       rw (
-        few-enough p (l .steps) n x (f .fits),
-        right-parents p (l .steps) n x (f .fits),
-        within-steps p (l .steps) n x (f .fits),
-        above-zero p (l .steps) n x (f .fits),
-        right-makers p (l .steps) n x (f .fits),
-        log-right p (l .steps) n x (f .fits),
+        few-enough p (acceptedSteps l) n x (f .fits),
+        right-parents p (acceptedSteps l) n x (f .fits),
+        within-steps p (acceptedSteps l) n x (f .fits),
+        above-zero p (acceptedSteps l) n x (f .fits),
+        right-makers p (acceptedSteps l) n x (f .fits),
+        log-right p (acceptedSteps l) n x (f .fits),
         of-clock l n (f .clock),
         of-rows l n (f .rows),
-        held-passed p (l .steps) n x (f .fits),
-        mark-there p (l .steps) n x (f .fits),
-        end-bare p (l .steps) n x (f .fits),
+        held-passed p (acceptedSteps l) n x (f .fits),
+        mark-there p (acceptedSteps l) n x (f .fits),
+        end-bare p (acceptedSteps l) n x (f .fits),
         right-replaying again,
-        holds-none p (l .steps) n x (f .fits),
+        holds-none p (acceptedSteps l) n x (f .fits),
       )
+
+-- No console's count is above the limit.
+none-above : (counts : List ℕ) → anyOf (ltb stepLimit) counts ≡ false → (c : ℕ) → getD counts c 0 ≤ stepLimit
+none-above [] e c = omega arith
+none-above (k ∷ ks) e zero = ltb-false stepLimit k (neither-true (ltb stepLimit k) (anyOf (ltb stepLimit) ks) e .0)
+none-above (k ∷ ks) e (suc c) = none-above ks (neither-true (ltb stepLimit k) (anyOf (ltb stepLimit) ks) e .1) c
+
+above-none : (counts : List ℕ) → ((c : ℕ) → getD counts c 0 ≤ stepLimit) → anyOf (ltb stepLimit) counts ≡ false
+above-none [] h = refl
+above-none (k ∷ ks) h = rw (le-ltb stepLimit k (h 0)) (above-none ks (λ c. h (suc c)))
 
 -- The line.
 pub ordered-fit : (p : Plan) → planFits p ≡ true → Ordered p
@@ -214,12 +224,14 @@ module _ (l : Line) where
   abbrev wrongLength : ℕ → Bool
   wrongLength b = not (eqb (length (laneAt l b .heard)) (length (parents (l .plan) (senderOf l b))))
 
-  shaped : misshapen l ≡ false → Shape l × ((b : ℕ) → b < channelCount (l .plan) → length (laneAt l b .heard) ≡ length (parents (l .plan) (senderOf l b)))
+  shaped : misshapen l ≡ false → (length (l .steps) ≡ consoleCount) × Shape l × ((b : ℕ) → b < channelCount (l .plan) → length (laneAt l b .heard) ≡ length (parents (l .plan) (senderOf l b)))
   unfolding misshapen
   shaped e =
       let nodes = length (l .nodes) in
       let lanes = length (l .lanes) in
-      let (a, (c, (d, _))) = all-false (not (eqb nodes (nodeCount (l .plan)))) (not (eqb lanes (channelCount (l .plan))) ∷ someChannel l wrongLength ∷ []) e in (
+      let steps = length (l .steps) in
+      let (four, (a, (c, (d, _)))) = all-false (not (eqb steps consoleCount)) (not (eqb nodes (nodeCount (l .plan))) ∷ not (eqb lanes (channelCount (l .plan))) ∷ someChannel l wrongLength ∷ []) e in (
+        eqb-true steps consoleCount (not-false (eqb steps consoleCount) four),
         record { nodes-long = eqb-true nodes (nodeCount (l .plan)) (not-false (eqb nodes (nodeCount (l .plan))) a); lanes-long = eqb-true lanes (channelCount (l .plan)) (not-false (eqb lanes (channelCount (l .plan))) c) },
         λ b h.
             (let heard = length (laneAt l b .heard) in
@@ -227,10 +239,11 @@ module _ (l : Line) where
             eqb-true heard long (not-false (eqb heard long) (none-any wrongLength d (in-up-to 0 (channelCount (l .plan)) b (omega arith) (omega arith))))),
       )
 
-  of-shaped : Shape l → ((b : ℕ) → b < channelCount (l .plan) → length (laneAt l b .heard) ≡ length (parents (l .plan) (senderOf l b))) → misshapen l ≡ false
+  of-shaped : length (l .steps) ≡ consoleCount → Shape l → ((b : ℕ) → b < channelCount (l .plan) → length (laneAt l b .heard) ≡ length (parents (l .plan) (senderOf l b))) → misshapen l ≡ false
   unfolding misshapen
-  of-shaped s f =
+  of-shaped four s f =
       rw (
+        eq-eqb (length (l .steps)) consoleCount four,
         eq-eqb (length (l .nodes)) (nodeCount (l .plan)) (s .nodes-long),
         eq-eqb (length (l .lanes)) (channelCount (l .plan)) (s .lanes-long),
         none-by wrongLength
@@ -246,27 +259,27 @@ module _ (l : Line) where
   unfolding planBroken
   plan-fits e = ap not e
 
-  steps-within : stepsPast l ≡ false → l .steps ≤ stepLimit
+  steps-within : stepsPast l ≡ false → (c : ℕ) → stepsFrom l c ≤ stepLimit
   unfolding stepsPast
-  steps-within e = ltb-false stepLimit (l .steps) e
+  steps-within = none-above (l .steps)
 
-  within-limit : l .steps ≤ stepLimit → stepsPast l ≡ false
+  within-limit : ((c : ℕ) → stepsFrom l c ≤ stepLimit) → stepsPast l ≡ false
   unfolding stepsPast
-  within-limit h = le-ltb stepLimit (l .steps) h
+  within-limit = above-none (l .steps)
 
   pub undamaged-sound : damaged l ≡ false → Sound l
   unfolding damaged
   undamaged-sound e =
       let (plan, (shapes, (steps, (nodes, (channels, _))))) = all-false (planBroken l) (misshapen l ∷ stepsPast l ∷ someNode l (nodeDamaged l) ∷ someChannel l (channelDamaged l) ∷ []) e in
       let fits = fits-plan plan in
-      let (shape, long) = shaped shapes in
+      let (four, shape, long) = shaped shapes in
       let node : (n : ℕ) (h : n < nodeCount (l .plan)) → NodeSound l n × (nodeAt l n .status ≡ replay → Replays l n) =
       λ n h. node-sound l n (ordered-fit (l .plan) fits) shape h (none-any (nodeDamaged l) nodes (in-up-to 0 (nodeCount (l .plan)) n (omega arith) (omega arith))) in
       record {
         standing = record {
           plan-fits = fits;
           shape = shape;
-          steps = steps-within steps;
+          counts = record { four = four; within = steps-within steps };
           nodes = λ n h. node n h .0;
           channels = λ b h. channel-sound l b (long b h) (none-any (channelDamaged l) channels (in-up-to 0 (channelCount (l .plan)) b (omega arith) (omega arith)));
         };
@@ -279,8 +292,8 @@ module _ (l : Line) where
       let s = f .standing in
       rw (
         plan-fits (s .plan-fits),
-        of-shaped (s .shape) (λ b h. s .channels b h .fits .heard-long),
-        within-limit (s .steps),
+        of-shaped (s .counts .four) (s .shape) (λ b h. s .channels b h .fits .heard-long),
+        within-limit (s .counts .within),
         none-by (nodeDamaged l) (nodeNumbers l)
             (λ n i. (let h : n < nodeCount (l .plan) = omega (arith, up-to-in 0 (nodeCount (l .plan)) n i) in sound-node l n (ordered-fit (l .plan) (s .plan-fits)) (s .shape) h (s .nodes n h) (f .replays n h))),
         none-by (channelDamaged l) (channelNumbersOf l) (λ b i. (let h : b < channelCount (l .plan) = omega (arith, up-to-in 0 (channelCount (l .plan)) b i) in sound-channel l b (s .channels b h))),

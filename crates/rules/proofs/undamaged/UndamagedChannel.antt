@@ -11,7 +11,7 @@ use borrow.Author.Tests.{ltb-false, le-ltb, eqb-true, eqb-false, ne-eqb, not-tru
 use Rattle.basics.specs.Bools.{both-true, neither-true}
 use Rattle.plan.specs.Plan.{Plan, channelAt}
 use Rattle.rules.specs.Lists.{isEmpty, anyOf}
-use Rattle.rules.specs.Line.{queueLimit, Message, down, replay, Lane, Line, nodeAt, laneAt, parents, senderOf, receiverOf, isDown, isReplay}
+use Rattle.rules.specs.Line.{queueLimit, Message, down, replay, Lane, Line, nodeAt, laneAt, parents, senderOf, receiverOf, isDown, isReplay, acceptedSteps}
 use Rattle.rules.specs.Step.{endDown, nodeDown, replaying}
 use Rattle.rules.specs.Damaged.{recordPastLimits, channelPastLimits, notParent, channelWrongParent, originTimes, channelNamedTimes, channelOtherTimes, channelTimePast, channelTimeZero, originWrong, channelMakerWrong, rises, risesTo, queueWrong, marksJoined, channelHolds, channelDamaged}
 use Rattle.rules.proofs.theorem.Accepted.{is-down}
@@ -169,20 +169,20 @@ module _ (l : Line) (b : ℕ) where
   channel-sound long e =
       let p = l .plan in
       let (few, (parent, (past, (zeros, (maker, (flow, (joins, (hold, _)))))))) =
-      all-false (channelPastLimits lane) (channelWrongParent p b lane ∷ channelTimePast (l .steps) lane ∷ channelTimeZero lane ∷ channelMakerWrong p b lane ∷ queueWrong l b ∷ marksJoined l b ∷ channelHolds l b ∷ []) e in
+      all-false (channelPastLimits lane) (channelWrongParent p b lane ∷ channelTimePast (acceptedSteps l) lane ∷ channelTimeZero lane ∷ channelMakerWrong p b lane ∷ queueWrong l b ∷ marksJoined l b ∷ channelHolds l b ∷ []) e in
       let (stop, clear, quiet) = rests-of hold in
-      record { fits = lane-fits p (l .steps) b lane long few parent past zeros maker; flows = flows-of flow; apart = apart-of joins; stopped = stop; cleared = clear; silent = quiet }
+      record { fits = lane-fits p (acceptedSteps l) b lane long few parent past zeros maker; flows = flows-of flow; apart = apart-of joins; stopped = stop; cleared = clear; silent = quiet }
 
   pub sound-channel : ChannelSound l b → channelDamaged l b ≡ false
   unfolding channelDamaged
   sound-channel f =
       let p = l .plan in
       rw (
-        messages-few p (l .steps) b lane (f .fits),
-        parents-right p (l .steps) b lane (f .fits),
-        lane-within p (l .steps) b lane (f .fits),
-        lane-nonzero p (l .steps) b lane (f .fits),
-        makers-right p (l .steps) b lane (f .fits),
+        messages-few p (acceptedSteps l) b lane (f .fits),
+        parents-right p (acceptedSteps l) b lane (f .fits),
+        lane-within p (acceptedSteps l) b lane (f .fits),
+        lane-nonzero p (acceptedSteps l) b lane (f .fits),
+        makers-right p (acceptedSteps l) b lane (f .fits),
         of-flows (f .flows),
         of-apart (f .apart),
         of-rests (f .stopped, f .cleared, f .silent),
