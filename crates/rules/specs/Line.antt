@@ -6,7 +6,8 @@ use lib.ListN.{length, getD, set, replicate}
 use Rattle.plan.specs.declared.Record.{Record}
 use Rattle.plan.specs.declared.Channel.{Channel}
 use Rattle.plan.specs.Plan.{Plan, nodeCount, channelCount, channelAt, entering}
-use Rattle.rules.specs.Lists.{upTo, sumOf}
+use Rattle.plan.specs.Layout.{sumOf}
+use Rattle.rules.specs.Lists.{upTo}
 
 -- "64 log entries a node, 8 messages on a belt, 64 held records a node, 64 targets a node, 1,000,000 accepted steps". Of the steps 2026-01 says: "Each console has its own count to 1,000,000".
 abbrev pub logLimit : ℕ

@@ -1,5 +1,5 @@
 -- Selections and bounds over lists.
-use Prim.Native.Nat.{ℕ, zero, suc, _+_, min, max}
+use Prim.Native.Nat.{ℕ, zero, suc, min, max}
 use mathlib.Core.Bool.{Bool, true, false, _&&_, _||_}
 use mathlib.Core.List.{List, [], _∷_, _++_}
 
@@ -37,10 +37,6 @@ abbrev pub leastOf : List ℕ → ℕ
 leastOf [] = 0
 leastOf (n ∷ []) = n
 leastOf (n ∷ m ∷ ns) = min n (leastOf (m ∷ ns))
-
-abbrev pub sumOf : List ℕ → ℕ
-sumOf [] = 0
-sumOf (n ∷ ns) = n + sumOf ns
 
 -- n numbers from k on.
 abbrev pub upTo : ℕ → ℕ → List ℕ

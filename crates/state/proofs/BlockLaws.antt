@@ -87,21 +87,21 @@ pub queue-sound : Sound queueLayout (UpToFit queueLimit MessageFits)
 unfolding queueLayout
 queue-sound = upTo-sound message-sound countSize queueLimit (lit< tt)
 
-heard-fits : (hs : List ℕ) → length hs ≡ parentLimit → Each TimeFits hs → FieldsFit heardWidths hs
-heard-fits [] e h = let no : ⊥ = omega arith in absurd no
-heard-fits (a ∷ []) e h = let no : ⊥ = omega arith in absurd no
-heard-fits (a ∷ b ∷ []) e h = let no : ⊥ = omega arith in absurd no
-heard-fits (a ∷ b ∷ c ∷ []) e h = let no : ⊥ = omega arith in absurd no
-heard-fits (a ∷ b ∷ c ∷ d ∷ []) e h = h
-heard-fits (a ∷ b ∷ c ∷ d ∷ f ∷ hs) e h = let no : ⊥ = omega arith in absurd no
+pub four-words-fit : (hs : List ℕ) → length hs ≡ parentLimit → Each TimeFits hs → FieldsFit heardWidths hs
+four-words-fit [] e h = let no : ⊥ = omega arith in absurd no
+four-words-fit (a ∷ []) e h = let no : ⊥ = omega arith in absurd no
+four-words-fit (a ∷ b ∷ []) e h = let no : ⊥ = omega arith in absurd no
+four-words-fit (a ∷ b ∷ c ∷ []) e h = let no : ⊥ = omega arith in absurd no
+four-words-fit (a ∷ b ∷ c ∷ d ∷ []) e h = h
+four-words-fit (a ∷ b ∷ c ∷ d ∷ f ∷ hs) e h = let no : ⊥ = omega arith in absurd no
 
-heard-known : (hs : List ℕ) → FieldsFit heardWidths hs → (length hs ≡ parentLimit) × Each TimeFits hs
-heard-known [] h = absurd h
-heard-known (a ∷ []) h = absurd (h .1)
-heard-known (a ∷ b ∷ []) h = absurd (h .1 .1)
-heard-known (a ∷ b ∷ c ∷ []) h = absurd (h .1 .1 .1)
-heard-known (a ∷ b ∷ c ∷ d ∷ []) h = (refl, h)
-heard-known (a ∷ b ∷ c ∷ d ∷ f ∷ hs) h = absurd (h .1 .1 .1 .1)
+pub four-words-known : (hs : List ℕ) → FieldsFit heardWidths hs → (length hs ≡ parentLimit) × Each TimeFits hs
+four-words-known [] h = absurd h
+four-words-known (a ∷ []) h = absurd (h .1)
+four-words-known (a ∷ b ∷ []) h = absurd (h .1 .1)
+four-words-known (a ∷ b ∷ c ∷ []) h = absurd (h .1 .1 .1)
+four-words-known (a ∷ b ∷ c ∷ d ∷ []) h = (refl, h)
+four-words-known (a ∷ b ∷ c ∷ d ∷ f ∷ hs) h = absurd (h .1 .1 .1 .1)
 
 pub lane-parts-sound : Sound laneParts (λ p. FieldsFit laneWidths (p .0) × UpToFit queueLimit MessageFits (p .1))
 unfolding laneParts
@@ -115,10 +115,10 @@ lane-numbers (a ∷ b ∷ ns) h = h
 pub lane-body-sound : Sound (via laneParts laneSeen laneFrom) PaddedFits
 lane-body-sound =
     via-sound lane-parts-sound laneSeen laneFrom
-    (λ x h. ((h .lane .mark, (h .lane .taken, heard-fits (x .heard) (h .four) (h .lane .heard))), h .lane .queue)) (λ x h. refl)
+    (λ x h. ((h .lane .mark, (h .lane .taken, four-words-fit (x .heard) (h .four) (h .lane .heard))), h .lane .queue)) (λ x h. refl)
     (λ p h.
     let ns = lane-numbers (p .0) (h .0) in
-    let hs = heard-known (drop 2 (p .0)) (ns .1 .1) in
+    let hs = four-words-known (drop 2 (p .0)) (ns .1 .1) in
     record { lane = record { mark = ns .0; taken = ns .1 .0; heard = hs .1; queue = h .1 }; four = hs .0 })
 
 pub lane-sound : Sound laneLayout PaddedFits

@@ -3,24 +3,24 @@ use Prim.Native.Nat.{ℕ, zero, suc, _+_, _*_, _-_, _≤_, _<_}
 use mathlib.Core.Path.{_≡_, refl, sym, ap, ap₂, _∙_}
 use mathlib.Core.List.{List, [], _∷_}
 use native.Mathlib.Omega.{arith}
-use lib.Dec.{lit≤}
 use lib.ListN.{length, getD, take, drop}
-use lib.Seq.{drop-drop, take-take}
+use lib.Seq.{drop-drop}
 use Rattle.plan.specs.declared.Channel.{Channel}
-use Rattle.plan.specs.Layout.{Layout, spelled, readSlots, pair, padded}
+use Rattle.plan.specs.Layout.{Layout, spelled, readSlots, pair, padded, readFields}
 use Rattle.plan.specs.Plan.{Plan, planOf, planLayout, planNodes, planChannels, planSize, channelAt, noChannel}
 use Rattle.plan.proofs.LayoutLaws.{length-readSlots, slot-at}
 use Rattle.plan.proofs.PlanLaws.{plan-size, channel-count}
 use Rattle.rules.specs.Line.{Node, Lane, nodeAt, laneAt, freshNode, noLane}
 use Rattle.state.specs.Sound.{Sound}
-use Rattle.state.specs.Sizes.{pageSize, planArea, stepsAt, nodePages, pageAt, laneBlocks, blockSize, blocksAt, blockAt, tailSize}
+use Rattle.state.specs.Sizes.{pageSize, planArea, stepsAt, nodePages, pageAt, laneBlocks, blockSize, blocksAt, blockAt, tailSize, stepsWidths, stepsOfAt, stepsRest}
 use Rattle.state.specs.Node.{nodeLayout}
 use Rattle.state.specs.Lane.{laneLayout, cutHeard, heardCount, cutLanes}
 use Rattle.state.specs.State.{StateParts, planPart, stepsPart, nodesPart, lanesPart, stateParts, lineOf}
-use Rattle.state.proofs.SoundLaws.{slots-sound, pair-sound}
+use Rattle.state.proofs.SoundLaws.{slots-sound, pair-sound, fields-sound}
 use Rattle.state.proofs.BlockLaws.{node-sound, lane-sound}
 use Rattle.state.proofs.LineLaws.{plan-sound, plan-part-sound, steps-part-sound, nodes-part-sound, lanes-part-sound}
 use Rattle.state.proofs.ReadLaws.{padded-read, pair-read}
+use Rattle.state.specs.Right.{wordAt, countsIn}
 
 -- ---- the parts
 
@@ -68,9 +68,9 @@ plan-read-at : (n m : ℕ) (s : List ℕ) → planPart n m .read s ≡ planLayou
 unfolding planPart
 plan-read-at n m s = padded-read (plan-sound n m) (planArea - planSize n m) s
 
-steps-read-at : (s : List ℕ) → stepsPart .read s ≡ spelled 0 (take 4 s)
+steps-read-at : (s : List ℕ) → stepsPart .read s ≡ readFields stepsWidths s
 unfolding stepsPart
-steps-read-at s = ap (spelled 0) (take-take 4 4 s (lit≤ tt))
+steps-read-at s = padded-read (fields-sound stepsWidths) stepsRest s
 
 nodes-read-at : (n : ℕ) (s : List ℕ) → nodesPart n .read s ≡ readSlots nodeLayout n s
 unfolding nodesPart
@@ -124,9 +124,16 @@ module _ (s : List ℕ) where
     parts : stateParts n m .read s ≡ (planPart n m .read s, (stepsPart .read (drop stepsAt s), (nodesPart n .read (drop pageSize s), lanesPart m .read (drop blocksAt s))))
     parts = parts-read n m (few .nodes) (few .channels) s
 
-    pub line-steps : lineOf s .steps ≡ spelled 0 (take 4 (drop stepsAt s))
+    pub line-steps : lineOf s .steps ≡ readFields stepsWidths (drop stepsAt s)
     unfolding lineOf
     line-steps = ap (λ (x : StateParts). x .1 .0) parts ∙ steps-read-at (drop stepsAt s)
+
+    -- Each console's count by its offset.
+    pub line-counts : lineOf s .steps ≡ countsIn s
+    line-counts =
+        line-steps
+        ∙ λ i. wordAt stepsAt s ∷ spelled 0 (take 4 (drop-drop 4 stepsAt s i)) ∷ spelled 0 (take 4 ((ap (drop 4) (drop-drop 4 stepsAt s) ∙ drop-drop 4 (stepsOfAt 1) s) i))
+            ∷ spelled 0 (take 4 ((ap (λ (t : List ℕ). drop 4 (drop 4 t)) (drop-drop 4 stepsAt s) ∙ ap (drop 4) (drop-drop 4 (stepsOfAt 1) s) ∙ drop-drop 4 (stepsOfAt 2) s) i)) ∷ []
 
     pub line-nodes : lineOf s .nodes ≡ readSlots nodeLayout n (drop pageSize s)
     unfolding lineOf

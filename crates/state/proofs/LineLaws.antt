@@ -16,11 +16,11 @@ use Rattle.plan.proofs.PlanLaws.{plan-size, plan-bytes, plan-fits, head-fits, n
 use Rattle.plan.proofs.FitsLaws.{fits-accepted}
 use Rattle.rules.specs.Line.{Line, freshNode, noLane}
 use Rattle.state.specs.Sound.{Sound}
-use Rattle.state.specs.Sizes.{stateSize, planArea, countSize, stepsRest, nodePages, pageSize, laneBlocks, blockSize, tailSize}
+use Rattle.state.specs.Sizes.{stateSize, planArea, stepsWidths, stepsRest, nodePages, pageSize, laneBlocks, blockSize, tailSize}
 use Rattle.state.specs.Lane.{padHeard}
 use Rattle.state.specs.State.{StateParts, lineSeen, lineFrom, planPart, stepsPart, nodesPart, lanesPart, stateParts, stateLayout, lineBytes, lineOf}
-use Rattle.state.specs.Fits.{TimeFits, NodeFits, LaneFits, PaddedFits, LineFits}
-use Rattle.state.proofs.SoundLaws.{sound, number-sound, fields-sound, pair-sound, via-sound, padded-sound, slots-sound}
+use Rattle.state.specs.Fits.{NodeFits, LaneFits, PaddedFits, LineFits}
+use Rattle.state.proofs.SoundLaws.{sound, fields-sound, pair-sound, via-sound, padded-sound, slots-sound}
 use Rattle.state.proofs.BlockLaws.{node-sound, lane-sound}
 use Rattle.state.proofs.ListLaws.{each-known, each-map}
 use Rattle.state.proofs.HeardLaws.{heard-few, pad-fits, cut-pads}
@@ -45,9 +45,9 @@ pub plan-part-sound : (n m : ℕ) → Sound (planPart n m) (λ x. FieldsFit head
 unfolding planPart
 plan-part-sound n m = padded-sound (plan-sound n m) (planArea - planSize n m)
 
-pub steps-part-sound : Sound stepsPart TimeFits
+pub steps-part-sound : Sound stepsPart (FieldsFit stepsWidths)
 unfolding stepsPart
-steps-part-sound = padded-sound (number-sound countSize) stepsRest
+steps-part-sound = padded-sound (fields-sound stepsWidths) stepsRest
 
 pub nodes-part-sound : (n : ℕ) → Sound (nodesPart n) (SlotsFit n NodeFits)
 unfolding nodesPart
@@ -58,7 +58,7 @@ unfolding lanesPart
 lanes-part-sound m = padded-sound (slots-sound lane-sound m) ((laneBlocks - m) * blockSize)
 
 abbrev pub PartsFit : ℕ → ℕ → StateParts → Type 0
-PartsFit n m p = (FieldsFit headWidths (p .0 .0) × BodyFits n m (p .0 .1)) × (TimeFits (p .1 .0) × (SlotsFit n NodeFits (p .1 .1 .0) × SlotsFit m PaddedFits (p .1 .1 .1)))
+PartsFit n m p = (FieldsFit headWidths (p .0 .0) × BodyFits n m (p .0 .1)) × (FieldsFit stepsWidths (p .1 .0) × (SlotsFit n NodeFits (p .1 .1 .0) × SlotsFit m PaddedFits (p .1 .1 .1)))
 
 pub parts-sound : (n m : ℕ) → Sound (stateParts n m) (PartsFit n m)
 unfolding stateParts

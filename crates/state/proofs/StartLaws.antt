@@ -5,14 +5,14 @@ use mathlib.Core.List.{List, [], _∷_, _++_, map, append-assoc}
 use native.Mathlib.Omega.{arith}
 use lib.ListN.{length, take, replicate, length-append, replicate-append-replicate}
 use Rattle.plan.specs.declared.Channel.{Channel}
-use Rattle.plan.specs.Layout.{Layout, number, pair, slots, padded, writeSlots}
+use Rattle.plan.specs.Layout.{Layout, pair, slots, padded, writeSlots, fields}
 use Rattle.plan.specs.Lawful.{Bytes, Zeros}
 use Rattle.plan.specs.Plan.{Plan, nodeCount, channelCount, planLayout, headNumbers, planBytes, planOf, planSize}
 use Rattle.plan.specs.Check.{planRefusal}
 use Rattle.plan.proofs.CheckLaws.{accepted}
 use Rattle.plan.proofs.PlanLaws.{plan-written, node-count, channel-count}
-use Rattle.rules.specs.Line.{Lane, freshNode, freshLane, initialLine, parents}
-use Rattle.state.specs.Sizes.{stateSize, pageSize, blockSize, countSize, planArea, stepsRest, nodePages, laneBlocks, tailSize, parentLimit}
+use Rattle.rules.specs.Line.{Lane, freshNode, freshLane, initialLine, parents, onlyCount}
+use Rattle.state.specs.Sizes.{stateSize, pageSize, blockSize, stepsWidths, stepsSize, planArea, stepsRest, nodePages, laneBlocks, tailSize, parentLimit}
 use Rattle.state.specs.Node.{nodeLayout}
 use Rattle.state.specs.Lane.{laneLayout, withHeard, padHeard}
 use Rattle.state.specs.State.{stepsPart, nodesPart, lanesPart, lineBytes}
@@ -74,9 +74,9 @@ lanes-zero p (c ∷ cs) =
     zeros-append (laneLayout .write (padHeard (freshLane p c 0))) (writeSlots laneLayout (length cs) (map padHeard (map (λ (d : Channel). freshLane p d 0) cs)))
     (rw (fresh-lane p c) (zeros-many blockSize)) (lanes-zero p cs)
 
-steps-zero : Zeros (stepsPart .write 0)
+steps-zero : Zeros (stepsPart .write (onlyCount 0))
 unfolding stepsPart
-steps-zero = padded-zeros (number countSize) stepsRest 0 (zeros-many 4)
+steps-zero = padded-zeros (fields stepsWidths) stepsRest (onlyCount 0) (zeros-many stepsSize)
 
 nodes-part-zero : (n : ℕ) → Zeros (nodesPart n .write (replicate n freshNode))
 unfolding nodesPart
@@ -97,8 +97,8 @@ behind-plan p =
     let m = channelCount p in
     let xs = replicate n freshNode in
     let ls = map padHeard (map (λ (c : Channel). freshLane p c 0) (p .channels)) in
-    zeros-behind (planLayout n m) (pair stepsPart (pair (nodesPart n) (lanesPart m))) (planArea - planSize n m) tailSize (headNumbers p, p) (0, (xs, ls))
-    (pair-zeros stepsPart (pair (nodesPart n) (lanesPart m)) 0 (xs, ls) steps-zero
+    zeros-behind (planLayout n m) (pair stepsPart (pair (nodesPart n) (lanesPart m))) (planArea - planSize n m) tailSize (headNumbers p, p) (onlyCount 0, (xs, ls))
+    (pair-zeros stepsPart (pair (nodesPart n) (lanesPart m)) (onlyCount 0) (xs, ls) steps-zero
     (pair-zeros (nodesPart n) (lanesPart m) xs ls (nodes-part-zero n) (lanes-part-zero p)))
 
 start-long : (p : Plan) → nodeCount p ≤ nodePages → channelCount p ≤ laneBlocks → length (lineBytes (initialLine p)) ≡ stateSize

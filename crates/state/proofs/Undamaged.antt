@@ -11,20 +11,25 @@ use lib.ListN.{length}
 use Rattle.basics.specs.Bools.{both-true, neither-true}
 use Rattle.plan.specs.declared.Record.{Record}
 use Rattle.plan.specs.declared.Channel.{Channel}
-use Rattle.plan.specs.Lawful.{Each}
+use Rattle.plan.specs.Lawful.{Each, FieldsFit}
 use Rattle.plan.specs.Record.{materialFits}
 use Rattle.plan.specs.Plan.{Plan, nodeCount, channelCount, channelAt, entering, numbersFrom, keepIf}
 use Rattle.plan.specs.Check.{planFits}
 use Rattle.plan.specs.Fits.{RecordFits}
 use Rattle.plan.proofs.FitsLaws.{fitting}
 use Rattle.rules.specs.Lists.{anyOf, joined, upTo}
-use Rattle.rules.specs.Line.{logLimit, queueLimit, heldLimit, targetLimit, stepLimit, Origin, fed, made, Message, Entry, Held, Target, Node, Lane, Line, nodeAt, laneAt, senderOf, parents}
+use Rattle.rules.specs.Line.{logLimit, queueLimit, heldLimit, targetLimit, consoleCount, acceptedSteps, Origin, fed, made, Message, Entry, Held, Target, Node, Lane, Line, nodeAt, laneAt, senderOf, parents}
 use Rattle.rules.specs.Replay.{entryAt}
 use Rattle.rules.specs.Damaged.{someNode, someChannel, planBroken, misshapen, stepsPast, workedOn, recordPastLimits, nodePastLimits, channelPastLimits, isParent, notParent, beforeNotParent, nodeWrongParent, channelWrongParent, originTimes, nodeNamedTimes, nodeOtherTimes, channelNamedTimes, channelOtherTimes, nodeTimePast, channelTimePast, nodeTimeZero, channelTimeZero, originWrong, beforeWrong, nodeMakerWrong, channelMakerWrong, logWrong, pastClock, heldWrong, heldNotPassed, queueWrong, markMissing, markOnEnd, marksJoined, replayWrong, nodeHolds, channelHolds, nodeDamaged, channelDamaged, damaged}
 use Rattle.rules.proofs.steps.PlanOrder.{ordered-channels}
 use Rattle.state.specs.Lane.{heardCount}
 use Rattle.state.specs.Fits.{TimeFits, OriginFits, MessageFits, EntryFits, HeldFits, TargetFits, NodeFits, LaneFits, LineFits}
-use Rattle.state.proofs.ListLaws.{each-map, each-imply, each-split, each-joined, each-unmap, each-both, found-each, none-each, none-numbered}
+use Rattle.state.proofs.ListLaws.{each-map, each-imply, each-split, each-joined, each-unmap, each-both, found-each, none-each, none-numbered, each-known}
+use Rattle.placing.specs.Table.{greatest}
+use Rattle.rules.proofs.line.Consoles.{CountsFit, counts-most}
+use Rattle.rules.proofs.undamaged.Undamaged.{undamaged-sound}
+use Rattle.state.specs.Sizes.{stepsWidths}
+use Rattle.state.proofs.BlockLaws.{four-words-fit}
 
 -- ---- parents
 
@@ -53,7 +58,7 @@ module _ (p : Plan) (e : planFits p ≡ true) where
 
   -- ---- what something was made from
 
-  module _ (steps : ℕ) (below : steps ≤ stepLimit) where
+  module _ (steps : ℕ) (below : steps ≤ greatest) where
     abbrev Within : ℕ → Type 0
     Within t = t ≤ steps
 
@@ -193,25 +198,24 @@ first-three false false true d e f g h q = absurd (true≢false q)
 first-three false false false d e f g h q = (refl, (refl, refl))
 
 node-conditions : (l : Line) (n : ℕ) → nodeDamaged l n ≡ false
-    → (nodePastLimits (nodeAt l n) ≡ false) × ((nodeWrongParent (l .plan) n (nodeAt l n) ≡ false) × ((nodeTimePast (l .steps) (nodeAt l n) ≡ false) × (nodeMakerWrong (l .plan) n (nodeAt l n) ≡ false)))
+    → (nodePastLimits (nodeAt l n) ≡ false) × ((nodeWrongParent (l .plan) n (nodeAt l n) ≡ false) × ((nodeTimePast (acceptedSteps l) (nodeAt l n) ≡ false) × (nodeMakerWrong (l .plan) n (nodeAt l n) ≡ false)))
 unfolding nodeDamaged
 node-conditions l n q =
     let x = nodeAt l n in
-    first-five (nodePastLimits x) (nodeWrongParent (l .plan) n x) (nodeTimePast (l .steps) x) (nodeTimeZero x) (nodeMakerWrong (l .plan) n x) (logWrong x) (pastClock l n)
+    first-five (nodePastLimits x) (nodeWrongParent (l .plan) n x) (nodeTimePast (acceptedSteps l) x) (nodeTimeZero x) (nodeMakerWrong (l .plan) n x) (logWrong x) (pastClock l n)
     (heldWrong l n) (heldNotPassed (l .plan) n x) (markMissing x) (markOnEnd (l .plan) n x) (replayWrong l n) (nodeHolds x) q
 
 channel-conditions : (l : Line) (b : ℕ) → channelDamaged l b ≡ false
-    → (channelPastLimits (laneAt l b) ≡ false) × ((channelWrongParent (l .plan) b (laneAt l b) ≡ false) × (channelTimePast (l .steps) (laneAt l b) ≡ false))
+    → (channelPastLimits (laneAt l b) ≡ false) × ((channelWrongParent (l .plan) b (laneAt l b) ≡ false) × (channelTimePast (acceptedSteps l) (laneAt l b) ≡ false))
 unfolding channelDamaged
 channel-conditions l b q =
     let s = laneAt l b in
-    first-three (channelPastLimits s) (channelWrongParent (l .plan) b s) (channelTimePast (l .steps) s) (channelTimeZero s) (channelMakerWrong (l .plan) b s) (queueWrong l b) (marksJoined l b) (channelHolds l b) q
+    first-three (channelPastLimits s) (channelWrongParent (l .plan) b s) (channelTimePast (acceptedSteps l) s) (channelTimeZero s) (channelMakerWrong (l .plan) b s) (queueWrong l b) (marksJoined l b) (channelHolds l b) q
 
 -- What is known of a line that is not damaged.
 record Whole (l : Line) : Type 0 where
   plan : planBroken l ≡ false
   shape : misshapen l ≡ false
-  steps : stepsPast l ≡ false
   node : (n : ℕ) → n < nodeCount (l .plan) → nodeDamaged l n ≡ false
   channel : (b : ℕ) → b < channelCount (l .plan) → channelDamaged l b ≡ false
 
@@ -230,7 +234,6 @@ whole l q =
     record {
       plan = d .0;
       shape = d .1;
-      steps = c .1;
       node = by-number (nodeDamaged l) (nodeCount (l .plan)) (b .1);
       channel = by-number (channelDamaged l) (channelCount (l .plan)) (a .1);
     }
@@ -239,21 +242,23 @@ plan-whole : (l : Line) → planBroken l ≡ false → planFits (l .plan) ≡ tr
 unfolding planBroken
 plan-whole l q = not-false (planFits (l .plan)) q
 
-steps-few : (l : Line) → stepsPast l ≡ false → l .steps ≤ stepLimit
-unfolding stepsPast
-steps-few l q = ltb-false stepLimit (l .steps) q
+-- Each console's count is one that its bytes can spell.
+steps-fit : {ks : List ℕ} → CountsFit ks → FieldsFit stepsWidths ks
+steps-fit {ks} f = four-words-fit ks (f .four) (each-known TimeFits ks 0 (λ c h. omega (arith, f .within c)))
 
 -- A node for each rule, a lane for each channel, an entry heard for each parent of its sender.
 shaped : (l : Line) → misshapen l ≡ false
     → (length (l .nodes) ≡ nodeCount (l .plan)) × ((length (l .lanes) ≡ channelCount (l .plan)) × ((b : ℕ) → b < channelCount (l .plan) → length (laneAt l b .heard) ≡ heardCount (l .plan) (channelAt (l .plan) b)))
 unfolding misshapen heardCount
 shaped l q =
+    let steps : Bool = eqb (length (l .steps)) consoleCount in
     let nodes : Bool = eqb (length (l .nodes)) (nodeCount (l .plan)) in
     let lanes : Bool = eqb (length (l .lanes)) (channelCount (l .plan)) in
     let short : ℕ → Bool = λ b. not (eqb (length (laneAt l b .heard)) (length (parents (l .plan) (senderOf l b)))) in
-    let a = neither-true (not nodes || not lanes) (someChannel l short) q in
-    let b = neither-true (not nodes) (not lanes) (a .0) in (
-      eqb-true (length (l .nodes)) (nodeCount (l .plan)) (not-false nodes (b .0)),
+    let a = neither-true (not steps || not nodes || not lanes) (someChannel l short) q in
+    let b = neither-true (not steps || not nodes) (not lanes) (a .0) in
+    let c = neither-true (not steps) (not nodes) (b .0) in (
+      eqb-true (length (l .nodes)) (nodeCount (l .plan)) (not-false nodes (c .1)),
       (
         eqb-true (length (l .lanes)) (channelCount (l .plan)) (not-false lanes (b .1)),
         λ c h. eqb-true (length (laneAt l c .heard)) (length (parents (l .plan) (senderOf l c))) (not-false _ (by-number short (channelCount (l .plan)) (a .1) c h)),
@@ -264,14 +269,15 @@ pub undamaged-fits : (l : Line) → damaged l ≡ false → LineFits l
 undamaged-fits l q =
     let w = whole l q in
     let fits = plan-whole l (w .plan) in
-    let few = steps-few l (w .steps) in
+    let counts = undamaged-sound l q .standing .counts in
+    let few = counts-most counts in
     let shape = shaped l (w .shape) in
     record {
       plan = fits;
-      steps = omega arith;
+      steps = steps-fit counts;
       nodes = shape .0;
       lanes = shape .1 .0;
-      node = λ n h. let c = node-conditions l n (w .node n h) in node-fits (l .plan) fits (l .steps) few n (nodeAt l n) (c .0) (c .1 .0) (c .1 .1 .0) (c .1 .1 .1);
-      lane = λ b h. let c = channel-conditions l b (w .channel b h) in lane-fits (l .plan) fits (l .steps) few b (laneAt l b) (c .0) (c .1 .0) (c .1 .1);
+      node = λ n h. let c = node-conditions l n (w .node n h) in node-fits (l .plan) fits (acceptedSteps l) few n (nodeAt l n) (c .0) (c .1 .0) (c .1 .1 .0) (c .1 .1 .1);
+      lane = λ b h. let c = channel-conditions l b (w .channel b h) in lane-fits (l .plan) fits (acceptedSteps l) few b (laneAt l b) (c .0) (c .1 .0) (c .1 .1);
       heard = shape .1 .1;
     }

@@ -5,28 +5,27 @@ use mathlib.Core.Logic.{_↔_, Iff·trans, Iff·and, Iff·rfl}
 use mathlib.Core.List.{List, [], _∷_, _++_, map}
 use native.Mathlib.Nat.{suc-mul, add-comm, zero-add}
 use native.Mathlib.Omega.{arith}
-use lib.Dec.{lit≤}
 use lib.ListN.{length, getD, take, drop, replicate}
-use lib.Seq.{drop-drop, take-take, take-all}
+use lib.Seq.{drop-drop, take-all}
 use Rattle.plan.specs.declared.Channel.{Channel}
-use Rattle.plan.specs.Layout.{Layout, bytesOf, spelled, number, pair, slots, padded, writeSlots, readSlots}
+use Rattle.plan.specs.Layout.{Layout, pair, slots, padded, writeSlots, readSlots, fields, readFields, writeFields}
 use Rattle.plan.specs.Lawful.{Bytes}
 use Rattle.plan.specs.Plan.{Plan, planOf, planBytes, planLayout, planNodes, planChannels, planSize, headNumbers, channelAt, noChannel}
-use Rattle.plan.proofs.LayoutLaws.{slots-front}
+use Rattle.plan.proofs.LayoutLaws.{slots-front, fields-front}
 use Rattle.plan.proofs.PlanLaws.{node-count, channel-count}
 use Rattle.rules.specs.Line.{Lane, Line}
 use Rattle.state.specs.Sound.{Sound}
-use Rattle.state.specs.Sizes.{stateSize, pageSize, planArea, stepsAt, countSize, stepsRest, nodePages, pageAt, laneBlocks, blockSize, blocksAt, blockAt, tailAt, tailSize}
+use Rattle.state.specs.Sizes.{stateSize, pageSize, planArea, stepsAt, stepsRest, nodePages, pageAt, laneBlocks, blockSize, blocksAt, blockAt, tailAt, tailSize, stepsWidths, stepsSize}
 use Rattle.state.specs.Node.{nodeLayout}
 use Rattle.state.specs.Lane.{laneLayout, padHeard, cutHeard, heardCount, cutLanes}
 use Rattle.state.specs.State.{StateParts, planPart, stepsPart, nodesPart, lanesPart, stateParts, stateLayout, lineBytes, lineOf}
-use Rattle.state.specs.Right.{ZerosAt, wordAt, NodeRight, LaneRight, StateRight}
-use Rattle.state.proofs.SoundLaws.{number-sound, pair-sound, slots-sound}
+use Rattle.state.specs.Right.{ZerosAt, NodeRight, LaneRight, StateRight}
+use Rattle.state.proofs.SoundLaws.{pair-sound, slots-sound, fields-sound}
 use Rattle.state.proofs.BlockLaws.{node-sound, lane-sound}
 use Rattle.state.proofs.LineLaws.{plan-sound, plan-part-sound, steps-part-sound, nodes-part-sound, lanes-part-sound, state-size}
 use Rattle.state.proofs.InPlace.{Counted, line-plan, line-steps, line-nodes, line-lanes, plan-long, steps-end, nodes-end}
 use Rattle.state.proofs.RightLaws.{append-cut, zeros-same}
-use Rattle.state.proofs.RightAt.{RightAt, part-long, part-first, part-second, number-at, slots-at}
+use Rattle.state.proofs.RightAt.{RightAt, part-long, part-first, part-second, slots-at, fields-at}
 use Rattle.state.proofs.BlockRight.{laneWith, node-right, lane-right}
 
 -- ---- written at an offset
@@ -155,14 +154,16 @@ module _ (s : List ℕ) (long : length s ≡ stateSize) (k : Bytes s) (few : Cou
       Iff·trans (padded-written (plan-sound n m) (headNumbers p, p) 0 s rest fits)
       (Iff·and (λ q. plan-spelled ∙ q, λ q. sym plan-spelled ∙ q) (zeros-moved s (0 + planSize n m) (planSize n m) rest rest (zero-add (planSize n m)) refl))
 
-  steps-part : WrittenAt stepsPart (wordAt stepsAt s) stepsAt s ↔ ZerosAt (stepsAt + countSize) stepsRest s
+  -- The four counts.
+  abbrev counts : List ℕ
+  counts = readFields stepsWidths (drop stepsAt s)
+
+  steps-part : WrittenAt stepsPart counts stepsAt s ↔ ZerosAt (stepsAt + stepsSize) stepsRest s
   unfolding stepsPart
   steps-part =
-      let whole = padded-written (number-sound countSize) (wordAt stepsAt s) stepsAt s stepsRest (omega arith) in
-      let word : WrittenAt (number countSize) (wordAt stepsAt s) stepsAt s =
-      ap (λ (t : List ℕ). bytesOf 4 (spelled 0 t)) (sym (take-take 4 4 (drop stepsAt s) (lit≤ tt))) ∙ number-at countSize stepsAt s (omega arith) k
-      in
-      (λ q. whole .0 q .1, λ z. whole .1 (word, z))
+      let whole = padded-written (fields-sound stepsWidths) counts stepsAt s stepsRest (omega arith) in
+      let words : WrittenAt (fields stepsWidths) counts stepsAt s = ap (writeFields stepsWidths) (sym (fields-front stepsWidths (drop stepsAt s))) ∙ fields-at stepsWidths stepsAt s (omega arith) k in
+      (λ q. whole .0 q .1, λ z. whole .1 (words, z))
 
   nodes-part : WrittenAt (nodesPart n) (readSlots nodeLayout n (drop pageSize s)) pageSize s ↔ (((i : ℕ) → i < n → NodeRight (pageAt i) s) × ZerosAt (pageAt n) (pageSize * (nodePages - n)) s)
   unfolding nodesPart
@@ -201,13 +202,13 @@ module _ (s : List ℕ) (long : length s ≡ stateSize) (k : Bytes s) (few : Cou
   -- ---- the whole
 
   abbrev found : Line
-  found = record { plan = p; steps = wordAt stepsAt s; nodes = readSlots nodeLayout n (drop pageSize s); lanes = cutLanes p (p .channels) (readSlots laneLayout m (drop blocksAt s)) }
+  found = record { plan = p; steps = counts; nodes = readSlots nodeLayout n (drop pageSize s); lanes = cutLanes p (p .channels) (readSlots laneLayout m (drop blocksAt s)) }
 
   line-found : lineOf s ≡ found
   line-found = λ i. record { plan = line-plan s i; steps = line-steps s few i; nodes = line-nodes s few i; lanes = line-lanes s few i }
 
   abbrev seen : StateParts
-  seen = ((headNumbers p, p), (wordAt stepsAt s, (readSlots nodeLayout n (drop pageSize s), lanesOf p (p .channels) m (drop blocksAt s))))
+  seen = ((headNumbers p, p), (counts, (readSlots nodeLayout n (drop pageSize s), lanesOf p (p .channels) m (drop blocksAt s))))
 
   found-bytes : lineBytes found ≡ stateParts n m .write seen
   unfolding lineBytes
@@ -231,12 +232,12 @@ module _ (s : List ℕ) (long : length s ≡ stateSize) (k : Bytes s) (few : Cou
 
   parts-written : WrittenAt (stateParts n m) seen 0 s
       ↔ ((WrittenAt (planPart n m) (headNumbers p, p) 0 s
-      × (WrittenAt stepsPart (wordAt stepsAt s) stepsAt s
+      × (WrittenAt stepsPart counts stepsAt s
       × (WrittenAt (nodesPart n) (readSlots nodeLayout n (drop pageSize s)) pageSize s × WrittenAt (lanesPart m) (lanesOf p (p .channels) m (drop blocksAt s)) blocksAt s)))
       × ZerosAt tailAt tailSize s)
   unfolding stateParts
   parts-written =
-      four-written (plan-part-sound n m) steps-part-sound (nodes-part-sound n) (lanes-part-sound m) (headNumbers p, p) (wordAt stepsAt s) (readSlots nodeLayout n (drop pageSize s)) (lanesOf p (p .channels) m (drop blocksAt s))
+      four-written (plan-part-sound n m) steps-part-sound (nodes-part-sound n) (lanes-part-sound m) (headNumbers p, p) counts (readSlots nodeLayout n (drop pageSize s)) (lanesOf p (p .channels) m (drop blocksAt s))
       tailSize s stepsAt pageSize blocksAt tailAt (plan-long n m (few .nodes) (few .channels)) (steps-end n m (few .nodes) (few .channels)) (nodes-end n m (few .nodes) (few .channels)) lanes-end (omega arith)
 
   -- The canonical form, taken apart.

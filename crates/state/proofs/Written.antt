@@ -7,23 +7,24 @@ use native.Mathlib.Omega.{arith}
 use lib.Dec.{lit<}
 use lib.ListN.{length, getD, take, set, replicate, length-append, length-take, length-set, length-map, List·getD-map, List·getD-append, replicate-append-replicate}
 use lib.Seq.{take-set-lt, set-append-left, getD-take}
-use Rattle.plan.specs.Layout.{bytesOf, writeFields, fields}
+use Rattle.plan.specs.Layout.{bytesOf, writeFields, fields, sumOf}
 use Rattle.plan.specs.Plan.{nodeCount, channelCount, channelAt, headNumbers}
 use Rattle.plan.proofs.NumberLaws.{length-bytesOf}
 use Rattle.plan.proofs.FitsLaws.{fitting}
-use Rattle.rules.specs.Line.{Entry, Held, Target, Message, Status, Node, Lane, Line, nodeAt, laneAt, freshNode, noLane, withNode, withLane}
-use Rattle.state.specs.Sizes.{stepsAt, stepsRest, pageSize, pageAt, nodePages, blockSize, blockAt, laneBlocks, tailSize, statusAt, crashedAt, timeAt, logAt, heldAt, targetsAt, nodeRest, markAt, takenAt, heardAt, parentLimit, queueAt, laneRest}
+use Rattle.rules.specs.Line.{Entry, Held, Target, Message, Status, Node, Lane, Line, nodeAt, laneAt, freshNode, noLane, withNode, withLane, consoleCount, stepsFrom}
+use Rattle.state.specs.Sizes.{stepsAt, stepsRest, pageSize, pageAt, nodePages, blockSize, blockAt, laneBlocks, tailSize, statusAt, crashedAt, timeAt, logAt, heldAt, targetsAt, nodeRest, markAt, takenAt, heardAt, parentLimit, queueAt, laneRest, stepsWidths, stepsOfAt, countSize}
 use Rattle.state.specs.Node.{statusNumber, crashNumber, nodeWidths, nodeHeadNumbers, logLayout, heldListLayout, targetsLayout, nodeLayout}
 use Rattle.state.specs.Lane.{heardWidths, laneWidths, withHeard, padHeard, queueLayout, laneLayout, heardCount}
 use Rattle.state.specs.State.{planPart, stepsPart, nodesPart, lanesPart, lineBytes}
 use Rattle.state.specs.Fits.{TimeFits, NodeFits, LaneFits, LineFits}
 use Rattle.state.specs.Changes.{withStatus, withCrashed, withTime, withLog, withHeld, withTargets, withMark, withTaken, withQueue, nothingHeard}
 use Rattle.state.proofs.SoundLaws.{fields-sound}
-use Rattle.state.proofs.BlockLaws.{log-sound, held-list-sound, node-sound, lane-sound}
+use Rattle.state.proofs.BlockLaws.{log-sound, held-list-sound, node-sound, lane-sound, four-words-known}
 use Rattle.state.proofs.LineLaws.{plan-part-sound, steps-part-sound, nodes-part-sound}
 use Rattle.state.proofs.ListLaws.{take-replicate}
 use Rattle.state.proofs.InPlace.{plan-long, nodes-long}
 use Rattle.state.proofs.Swapped.{Swapped, swap-whole, swap-in, swap-front, swap-behind, swap-at, field-set, slot-set}
+use Rattle.plan.specs.Lawful.{FieldsFit}
 
 -- ---- a node's page
 
@@ -176,7 +177,15 @@ set-keeps P (y ∷ xs) zero x d (suc i) p q = q
 set-keeps P (y ∷ xs) (suc n) x d zero p q = q
 set-keeps P (y ∷ xs) (suc n) x d (suc i) p q = set-keeps (λ (j : ℕ). P (suc j)) xs n x d i p q
 
-abbrev pub withSteps : ℕ → Line → Line
+-- Where a console's count stands among the four, and its width.
+count-place : (c : ℕ) → c < consoleCount → (sumOf (take c stepsWidths) ≡ countSize * c) × (getD stepsWidths c 0 ≡ countSize)
+count-place zero h = (refl, refl)
+count-place (suc zero) h = (refl, refl)
+count-place (suc (suc zero)) h = (refl, refl)
+count-place (suc (suc (suc zero))) h = (refl, refl)
+count-place (suc (suc (suc (suc c)))) h = let no : ⊥ = omega arith in absurd no
+
+abbrev pub withSteps : List ℕ → Line → Line
 withSteps k l = record { plan = l .plan; steps = k; nodes = l .nodes; lanes = l .lanes }
 
 module _ (l : Line) (fits : LineFits l) where
@@ -214,10 +223,17 @@ module _ (l : Line) (fits : LineFits l) where
   noded-long : length noded ≡ nodePages * pageSize
   noded-long = nodes-part-sound n .sized (l .nodes) ∙ nodes-long n m few-nodes few-channels
 
-  pub line-steps-swap : (k : ℕ) → Swapped stepsAt (bytesOf 4 (l .steps)) (bytesOf 4 k) (lineBytes l) (lineBytes (withSteps k l))
+  -- All four counts, and console c's.
+  pub line-steps-swap : (ks : List ℕ) → Swapped stepsAt (writeFields stepsWidths (l .steps)) (writeFields stepsWidths ks) (lineBytes l) (lineBytes (withSteps ks l))
   unfolding lineBytes stepsPart
-  line-steps-swap k =
-      swap-front (swap-behind (swap-front (swap-front (swap-whole (bytesOf 4 (l .steps)) (bytesOf 4 k)) (replicate stepsRest 0)) (noded ++ laned)) planned stepsAt planned-long) (replicate tailSize 0)
+  line-steps-swap ks =
+      swap-front (swap-behind (swap-front (swap-front (swap-whole (writeFields stepsWidths (l .steps)) (writeFields stepsWidths ks)) (replicate stepsRest 0)) (noded ++ laned)) planned stepsAt planned-long) (replicate tailSize 0)
+
+  pub line-count-swap : (c k : ℕ) → c < consoleCount → Swapped (stepsOfAt c) (bytesOf 4 (stepsFrom l c)) (bytesOf 4 k) (lineBytes l) (lineBytes (withSteps (set (l .steps) c k) l))
+  line-count-swap c k h =
+      let one = field-set stepsWidths (l .steps) c k h (omega (arith, four-words-known (l .steps) (fits .steps) .0)) in
+      let (place, width) = count-place c h in
+      swap-at (swap-in (line-steps-swap (set (l .steps) c k)) (rw width at one)) (stepsOfAt c) (ap (λ (a : ℕ). stepsAt + a) place)
 
   pub line-node-swap : (k : ℕ) (x : Node) → k < nodeCount (l .plan) → Swapped (pageAt k) (nodeLayout .write (nodeAt l k)) (nodeLayout .write x) (lineBytes l) (lineBytes (withNode k x l))
   unfolding lineBytes nodesPart withNode
@@ -241,8 +257,8 @@ module _ (l : Line) (fits : LineFits l) where
 
   -- ---- the changed line fits
 
-  pub fits-steps : (k : ℕ) → TimeFits k → LineFits (withSteps k l)
-  fits-steps k h = record { plan = fits .plan; steps = h; nodes = fits .nodes; lanes = fits .lanes; node = fits .node; lane = fits .lane; heard = fits .heard }
+  pub fits-steps : (ks : List ℕ) → FieldsFit stepsWidths ks → LineFits (withSteps ks l)
+  fits-steps ks h = record { plan = fits .plan; steps = h; nodes = fits .nodes; lanes = fits .lanes; node = fits .node; lane = fits .lane; heard = fits .heard }
 
   pub fits-node : (k : ℕ) (x : Node) → NodeFits x → LineFits (withNode k x l)
   unfolding withNode

@@ -6,7 +6,7 @@ use mathlib.Core.List.{List, [], _∷_, _++_}
 use lib.ListN.{take, drop, set, replicate}
 use Rattle.plan.specs.declared.Rule.the-variants.{Keep}
 use Rattle.plan.specs.declared.Record.{Record}
-use Rattle.rules.specs.Line.{fed, made, up, down, replay, Line, freshNode, initialLine}
+use Rattle.rules.specs.Line.{fed, made, up, down, replay, Line, freshNode, initialLine, onlyCount}
 use Rattle.state.specs.Node.{nodeLayout}
 use Rattle.state.specs.State.{lineBytes, lineOf, stateAnswer}
 
@@ -47,7 +47,7 @@ unfoldable pub sent : Line
 unfolding twoNodes
 sent = record {
   plan = twoNodes .plan;
-  steps = 2;
+  steps = onlyCount 2;
   nodes = record { status = up; crashed = false; time = 1; log = record { what = piece; time = 1; origin = fed; before = fed } ∷ []; held = []; targets = [] } ∷ freshNode ∷ [];
   lanes = record { mark = 1; taken = 0; heard = []; queue = record { what = piece; time = 1; origin = fed } ∷ [] } ∷ [];
 }
@@ -56,7 +56,7 @@ unfoldable pub replaying : Line
 unfolding twoNodes
 replaying = record {
   plan = twoNodes .plan;
-  steps = 9;
+  steps = 9 ∷ 258 ∷ 0 ∷ 3 ∷ [];
   nodes =
       freshNode
       ∷ record {
@@ -87,6 +87,11 @@ replaying-read = refl
 pub replaying-page : take 36 (drop 8_192 (lineBytes replaying)) ≡ 2 ∷ 1 ∷ 0 ∷ 0 ∷ 0 ∷ 0 ∷ 0 ∷ 3 ∷ 0 ∷ 0 ∷ 0 ∷ 1 ∷ 0 ∷ 0 ∷ 0 ∷ 7 ∷ 1 ∷ 0 ∷ 0 ∷ 250 ∷ 0 ∷ 0 ∷ 0 ∷ 1 ∷ 1 ∷ 0 ∷ 0 ∷ 0 ∷ 5 ∷ 2 ∷ 0 ∷ 0 ∷ 0 ∷ 6 ∷ 0 ∷ 0 ∷ []
 unfolding lineBytes replaying
 replaying-page = refl
+
+-- Each console's count, and nothing behind them.
+pub replaying-steps : take 20 (drop 512 (lineBytes replaying)) ≡ 0 ∷ 0 ∷ 0 ∷ 9 ∷ 0 ∷ 0 ∷ 1 ∷ 2 ∷ 0 ∷ 0 ∷ 0 ∷ 0 ∷ 0 ∷ 0 ∷ 0 ∷ 3 ∷ 0 ∷ 0 ∷ 0 ∷ 0 ∷ []
+unfolding lineBytes replaying
+replaying-steps = refl
 
 pub replaying-held : take 24 (drop 9_740 (lineBytes replaying)) ≡ 0 ∷ 0 ∷ 0 ∷ 1 ∷ 0 ∷ 0 ∷ 0 ∷ 7 ∷ 1 ∷ 0 ∷ 0 ∷ 250 ∷ 0 ∷ 0 ∷ 0 ∷ 0 ∷ 4 ∷ 1 ∷ 0 ∷ 0 ∷ 0 ∷ 8 ∷ 0 ∷ 0 ∷ []
 unfolding lineBytes replaying

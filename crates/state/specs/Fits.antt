@@ -8,7 +8,7 @@ use Rattle.plan.specs.Plan.{nodeCount, channelCount, channelAt}
 use Rattle.plan.specs.Check.{planFits}
 use Rattle.plan.specs.Fits.{RecordFits}
 use Rattle.rules.specs.Line.{logLimit, queueLimit, heldLimit, targetLimit, Origin, Message, Entry, Held, Target, Node, Lane, Line, nodeAt, laneAt}
-use Rattle.state.specs.Sizes.{parentLimit}
+use Rattle.state.specs.Sizes.{stepsWidths, parentLimit}
 use Rattle.state.specs.Pieces.{originWidths, originNumbers}
 use Rattle.state.specs.Lane.{heardCount}
 
@@ -64,7 +64,7 @@ pub record PaddedFits (x : Lane) : Type 0 where
 -- A node for each rule, a lane for each channel, an entry heard for each parent of its sender.
 pub record LineFits (l : Line) : Type 0 where
   pub plan : planFits (l .plan) ≡ true
-  pub steps : TimeFits (l .steps)
+  pub steps : FieldsFit stepsWidths (l .steps)
   pub nodes : length (l .nodes) ≡ nodeCount (l .plan)
   pub lanes : length (l .lanes) ≡ channelCount (l .plan)
   pub node : (n : ℕ) → n < nodeCount (l .plan) → NodeFits (nodeAt l n)

@@ -1,6 +1,8 @@
 -- Sizes and offsets in the state's bytes, each named once (docs/LAYOUT.md has them as a table).
 use Prim.Native.Nat.{ℕ, _+_, _*_, _-_}
 use mathlib.Core.Path.{_≡_, refl}
+use mathlib.Core.List.{List, [], _∷_}
+use Rattle.plan.specs.Layout.{sumOf}
 
 -- "a lent buffer of 61,440 bytes": fifteen pages.
 abbrev pub stateSize : ℕ
@@ -9,7 +11,7 @@ stateSize = 61_440
 abbrev pub pageSize : ℕ
 pageSize = 4096
 
--- The first page: the plan's own bytes, then the accepted steps, three more counts kept for later, and nothing.
+-- The first page: the plan's own bytes, then the accepted steps of each console, and nothing.
 abbrev pub planArea : ℕ
 planArea = 512
 
@@ -19,8 +21,18 @@ stepsAt = 512
 abbrev pub countSize : ℕ
 countSize = 4
 
+-- Console c's count, and all four.
+abbrev pub stepsOfAt : ℕ → ℕ
+stepsOfAt c = stepsAt + countSize * c
+
+abbrev pub stepsWidths : List ℕ
+stepsWidths = countSize ∷ countSize ∷ countSize ∷ countSize ∷ []
+
+abbrev pub stepsSize : ℕ
+stepsSize = 16
+
 abbrev pub stepsRest : ℕ
-stepsRest = 3580
+stepsRest = 3568
 
 -- A page for each of twelve nodes.
 abbrev pub nodePages : ℕ
@@ -109,7 +121,10 @@ abbrev pub laneRest : ℕ
 laneRest = 132
 
 -- They add up.
-pub head-page : stepsAt + countSize + stepsRest ≡ pageSize
+pub steps-size : sumOf stepsWidths ≡ stepsSize
+steps-size = refl
+
+pub head-page : stepsAt + stepsSize + stepsRest ≡ pageSize
 head-page = refl
 
 pub pages-end : pageAt nodePages ≡ blocksAt

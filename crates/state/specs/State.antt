@@ -4,11 +4,11 @@ use mathlib.Core.Bool.{Bool, true, false, not, _&&_, _||_}
 use mathlib.Core.List.{List, [], _∷_, map}
 use lib.ListN.{length}
 use lib.Dec.{eqb}
-use Rattle.plan.specs.Layout.{Layout, number, via, pair, slots, padded}
+use Rattle.plan.specs.Layout.{Layout, fields, via, pair, slots, padded}
 use Rattle.plan.specs.Plan.{Plan, nodeCount, channelCount, planLayout, planSize, planNodes, planChannels, headNumbers}
 use Rattle.rules.specs.Line.{Node, Lane, Line}
 use Rattle.rules.specs.Damaged.{damaged}
-use Rattle.state.specs.Sizes.{stateSize, pageSize, planArea, countSize, stepsRest, nodePages, laneBlocks, blockSize, tailSize}
+use Rattle.state.specs.Sizes.{stateSize, pageSize, planArea, stepsWidths, stepsRest, nodePages, laneBlocks, blockSize, tailSize}
 use Rattle.state.specs.Node.{nodeLayout}
 use Rattle.state.specs.Lane.{laneLayout, padHeard, cutHeard, heardCount, cutLanes}
 
@@ -17,9 +17,9 @@ unfoldable pub planPart : ℕ → ℕ → Layout (List ℕ × Plan)
 unfolding planLayout planSize padded
 planPart n m = padded (planArea - planSize n m) (planLayout n m)
 
-unfoldable pub stepsPart : Layout ℕ
-unfolding number padded
-stepsPart = padded stepsRest (number countSize)
+unfoldable pub stepsPart : Layout (List ℕ)
+unfolding fields padded
+stepsPart = padded stepsRest (fields stepsWidths)
 
 unfoldable pub nodesPart : ℕ → Layout (List Node)
 unfolding nodeLayout slots padded
@@ -30,7 +30,7 @@ unfolding laneLayout slots padded
 lanesPart m = padded ((laneBlocks - m) * blockSize) (slots m laneLayout)
 
 abbrev pub StateParts : Type 0
-StateParts = (List ℕ × Plan) × (ℕ × (List Node × List Lane))
+StateParts = (List ℕ × Plan) × (List ℕ × (List Node × List Lane))
 
 abbrev pub lineSeen : Line → StateParts
 lineSeen l = ((headNumbers (l .plan), l .plan), (l .steps, (l .nodes, map padHeard (l .lanes))))

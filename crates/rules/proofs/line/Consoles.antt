@@ -8,7 +8,7 @@ use lib.ListN.{length, getD, length-set}
 use lib.Seq.{getD-set-same, getD-set-other}
 use Rattle.basics.specs.Replicate.{replicate-default}
 use Rattle.placing.specs.Table.{greatest}
-use Rattle.rules.specs.Lists.{sumOf}
+use Rattle.plan.specs.Layout.{sumOf}
 use Rattle.rules.specs.Line.{stepLimit, consoleCount, onlyCount, oneMore}
 
 pub record CountsFit (counts : List ℕ) : Type 0 where

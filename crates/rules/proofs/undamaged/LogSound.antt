@@ -9,7 +9,7 @@ use lib.ListN.{length, length-append, set, length-set}
 use Rattle.plan.specs.declared.Record.{Record}
 use Rattle.plan.specs.Plan.{Plan, nodeCount, channelCount, channelAt}
 use Rattle.rules.specs.Line.{logLimit, acceptedSteps, Origin, Entry, Status, up, replay, Node, Lane, Line, nodeAt, laneAt, withNode}
-use Rattle.rules.specs.Lists.{sumOf}
+use Rattle.plan.specs.Layout.{sumOf}
 use Rattle.rules.specs.Recover.{triple, triples}
 use Rattle.rules.specs.Replay.{entryAt}
 use Rattle.rules.specs.Clock.{logged}

@@ -6,7 +6,8 @@ use mathlib.Core.List.{List, _∷_}
 use native.Mathlib.Omega.{arith}
 use lib.Dec.{leb}
 use Rattle.plan.specs.Plan.{Plan, channelAt, entering}
-use Rattle.rules.specs.Lists.{isEmpty, sumOf}
+use Rattle.plan.specs.Layout.{sumOf}
+use Rattle.rules.specs.Lists.{isEmpty}
 use Rattle.rules.specs.Line.{stepLimit, consoleCount, stepsFrom, acceptedSteps, Origin, fed, made, Message, Entry, Target, down, replay, Node, Lane, Line, nodeAt, laneAt, oneMore, counted, isDown}
 use Rattle.rules.specs.Recover.{triples, targetsOf, lowOf, restored, conflict, rowGoal, childTriples}
 use Rattle.rules.specs.Step.{endDown}

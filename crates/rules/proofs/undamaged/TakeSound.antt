@@ -12,7 +12,7 @@ use lib.Dec.{leb, eqb}
 use borrow.Author.Tests.{leb-false, eq-eqb, ne-eqb}
 use Rattle.plan.specs.Plan.{Plan, nodeCount, channelCount, channelAt}
 use Rattle.rules.specs.Line.{logLimit, heldLimit, Origin, fed, made, Message, Status, up, replay, Node, Lane, Line, nodeAt, laneAt, parents, withNode, withLane, oneMore, counted, isReplay, acceptedSteps}
-use Rattle.rules.specs.Lists.{sumOf}
+use Rattle.plan.specs.Layout.{sumOf}
 use Rattle.rules.specs.Frame.{take}
 use Rattle.rules.specs.Recover.{triple}
 use Rattle.rules.specs.Clock.{raiseHeard, takenFrom}
