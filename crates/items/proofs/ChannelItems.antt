@@ -9,7 +9,7 @@ use lib.Dec.{leb, ltb, eqb}
 use borrow.Author.Tests.{leb-true, le-ltb, ne-eqb, not-true, not-false}
 use Rattle.basics.specs.Bools.{both-true, neither-true}
 use Rattle.rules.specs.Lists.{isEmpty, allOf, anyOf}
-use Rattle.rules.specs.Line.{queueLimit, Message, Lane, Line, laneAt, senderOf, receiverOf}
+use Rattle.rules.specs.Line.{queueLimit, Message, Lane, Line, laneAt, senderOf, receiverOf, acceptedSteps}
 use Rattle.rules.specs.Step.{nodeDown, endDown, replaying}
 use Rattle.rules.specs.Damaged.{recordPastLimits, channelPastLimits, notParent, channelWrongParent, originTimes, channelNamedTimes, channelOtherTimes, channelTimePast, channelTimeZero, originWrong, channelMakerWrong, risesTo, queueWrong, marksJoined, channelHolds, channelDamaged}
 use Rattle.rules.proofs.lists.Members.{In, in-none, none-any, all-in}
@@ -87,7 +87,7 @@ module _ (l : Line) (b : ℕ) where
   -- ---- the channel: between its conditions and its items
 
   record Sound : Type 0 where
-    clock : clockRight (l .steps) s ≡ true
+    clock : clockRight (acceptedSteps l) s ≡ true
     count : leb (length (s .queue)) queueLimit ≡ true
     sent : (m : Message) → In m (s .queue) → Sent m
     queue-rises : queueRises ≡ true
@@ -101,7 +101,7 @@ module _ (l : Line) (b : ℕ) where
   right-sound : channelRight l b ≡ true → Sound
   unfolding channelRight queueRight
   right-sound e =
-      let (clock, (queue, (apart, holds))) = all-true (clockRight (l .steps) s) (queueRight l b (s .queue) ∷ not (marksJoined l b) ∷ not (channelHolds l b) ∷ []) e in
+      let (clock, (queue, (apart, holds))) = all-true (clockRight (acceptedSteps l) s) (queueRight l b (s .queue) ∷ not (marksJoined l b) ∷ not (channelHolds l b) ∷ []) e in
       let (count, (messages, queue-rises)) = all-true (leb (length (s .queue)) queueLimit) (allOf (messageRight l b) (s .queue) ∷ queueRises ∷ []) queue in
       record {
         clock = clock;
@@ -117,7 +117,7 @@ module _ (l : Line) (b : ℕ) where
   wrongParent m = notParent (l .plan) (senderOf l b) (m .origin)
 
   abbrev late : Message → Bool
-  late m = anyOf (ltb (l .steps)) (timesIn m)
+  late m = anyOf (ltb (acceptedSteps l)) (timesIn m)
 
   abbrev nought : Message → Bool
   nought m = anyOf (eqb 0) (timesIn m)
@@ -129,22 +129,22 @@ module _ (l : Line) (b : ℕ) where
   pastLimits m = recordPastLimits (m .what)
 
   abbrev others : List Bool
-  others = channelWrongParent (l .plan) b s ∷ channelTimePast (l .steps) s ∷ channelTimeZero s ∷ channelMakerWrong (l .plan) b s ∷ queueWrong l b ∷ marksJoined l b ∷ channelHolds l b ∷ []
+  others = channelWrongParent (l .plan) b s ∷ channelTimePast (acceptedSteps l) s ∷ channelTimeZero s ∷ channelMakerWrong (l .plan) b s ∷ queueWrong l b ∷ marksJoined l b ∷ channelHolds l b ∷ []
 
   clean-sound : channelDamaged l b ≡ false → Sound
   unfolding channelDamaged channelPastLimits channelWrongParent channelMakerWrong
   clean-sound e =
       let (limits, (parents, (past, (noughts, (makers, (queue, (apart, holds))))))) = all-false (channelPastLimits s) others e in
       let (count, records) = neither-true (ltb queueLimit (length (s .queue))) (anyOf pastLimits (s .queue)) limits in
-      let (lates, clock) = neither-true (anyOf late (s .queue)) (not (clockRight (l .steps) s)) (sym (past-is (l .steps) s) ∙ past) in
+      let (lates, clock) = neither-true (anyOf late (s .queue)) (not (clockRight (acceptedSteps l) s)) (sym (past-is (acceptedSteps l) s) ∙ past) in
       record {
-        clock = not-false (clockRight (l .steps) s) clock;
+        clock = not-false (clockRight (acceptedSteps l) s) clock;
         count = not-above (length (s .queue)) queueLimit ∙ ap not count;
         sent = λ m i. record {
           fits = none-any pastLimits records i;
           named = record {
             parent = none-any wrongParent parents i;
-            past = neither-true (ltb (l .steps) (m .time)) (anyOf (ltb (l .steps)) (originTimes (m .origin))) (none-any late lates i) .1;
+            past = neither-true (ltb (acceptedSteps l) (m .time)) (anyOf (ltb (acceptedSteps l)) (originTimes (m .origin))) (none-any late lates i) .1;
             nought = neither-true (eqb 0 (m .time)) (anyOf (eqb 0) (originTimes (m .origin))) (none-any nought (sym (zero-is s) ∙ noughts) i) .1;
             maker = none-any wrongMaker makers i;
           };
@@ -154,19 +154,19 @@ module _ (l : Line) (b : ℕ) where
         holds = holds;
       }
 
-  mark-within : Sound → s .mark ≤ l .steps
+  mark-within : Sound → s .mark ≤ acceptedSteps l
   unfolding clockRight
-  mark-within c = leb-true (s .mark) (l .steps) (all-true (leb (s .mark) (l .steps)) (leb (s .taken) (l .steps) ∷ allOf (λ (t : ℕ). leb t (l .steps)) (s .heard) ∷ []) (c .clock) .0)
+  mark-within c = leb-true (s .mark) (acceptedSteps l) (all-true (leb (s .mark) (acceptedSteps l)) (leb (s .taken) (acceptedSteps l) ∷ allOf (λ (t : ℕ). leb t (acceptedSteps l)) (s .heard) ∷ []) (c .clock) .0)
 
   -- A message's time is within the steps and not 0.
-  sent-when : Sound → (m : Message) → In m (s .queue) → (0 < m .time) × (m .time ≤ l .steps)
+  sent-when : Sound → (m : Message) → In m (s .queue) → (0 < m .time) × (m .time ≤ acceptedSteps l)
   sent-when c m i = one (endDown l b) refl (c .queue-rises)
     where
       no-messages : (q : List Message) → isEmpty q ≡ true → In m q → ⊥
       no-messages [] e j = in-none j
       no-messages (x ∷ q) e j = true≢false (sym e)
 
-      one : (d : Bool) → endDown l b ≡ d → (d || (leb (s .taken) (s .mark) && timesRise (λ (m : Message). m .time) (s .taken) (s .mark) (s .queue))) ≡ true → (0 < m .time) × (m .time ≤ l .steps)
+      one : (d : Bool) → endDown l b ≡ d → (d || (leb (s .taken) (s .mark) && timesRise (λ (m : Message). m .time) (s .taken) (s .mark) (s .queue))) ≡ true → (0 < m .time) × (m .time ≤ acceptedSteps l)
       one true e k = absurd (no-messages (s .queue) (down-empty (c .holds) e) i)
       one false e k =
           let (later, inside) = rise-within (λ (m : Message). m .time) (s .taken) (s .mark) (both-true (leb (s .taken) (s .mark)) (timesRise (λ (m : Message). m .time) (s .taken) (s .mark) (s .queue)) k .1) i in
@@ -175,12 +175,12 @@ module _ (l : Line) (b : ℕ) where
   sound-clean : Sound → channelDamaged l b ≡ false
   unfolding channelDamaged channelPastLimits channelWrongParent channelMakerWrong
   sound-clean c =
-      let when : (m : Message) → In m (s .queue) → (0 < m .time) × (m .time ≤ l .steps) = sent-when c in
-      let lates = each-none late (s .queue) (λ m i. rw (le-ltb (l .steps) (m .time) (when m i .1), c .sent m i .named .past)) in
+      let when : (m : Message) → In m (s .queue) → (0 < m .time) × (m .time ≤ acceptedSteps l) = sent-when c in
+      let lates = each-none late (s .queue) (λ m i. rw (le-ltb (acceptedSteps l) (m .time) (when m i .1), c .sent m i .named .past)) in
       let records = each-none pastLimits (s .queue) (λ m i. c .sent m i .fits) in
       let limits : channelPastLimits s ≡ false = rw (le-ltb queueLimit (length (s .queue)) (leb-true (length (s .queue)) queueLimit (c .count)), records) in
       let parents = each-none wrongParent (s .queue) (λ m i. c .sent m i .named .parent) in
-      let past : channelTimePast (l .steps) s ≡ false = past-is (l .steps) s ∙ rw (lates, c .clock) in
+      let past : channelTimePast (acceptedSteps l) s ≡ false = past-is (acceptedSteps l) s ∙ rw (lates, c .clock) in
       let noughts = zero-is s ∙ each-none nought (s .queue) (λ m i. rw (ne-eqb 0 (m .time) (λ q. omega (arith, when m i)), c .sent m i .named .nought)) in
       let makers = each-none wrongMaker (s .queue) (λ m i. c .sent m i .named .maker) in
       let queue = queue-is ∙ ap not (c .queue-rises) in

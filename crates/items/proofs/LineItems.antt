@@ -5,18 +5,19 @@ use mathlib.Core.Logic.{inl, inr}
 use mathlib.Core.Bool.{Bool, true, false, not, _&&_, _||_, or-true}
 use native.Mathlib.Omega.{arith}
 use lib.ListN.{length}
-use lib.Dec.{leb, eqb}
+use lib.Dec.{leb, eqb, ltb}
 use Rattle.plan.specs.Plan.{nodeCount, channelCount}
 use Rattle.plan.specs.Check.{planFits}
-use Rattle.rules.specs.Lists.{allOf, upTo}
-use Rattle.rules.specs.Line.{stepLimit, Line, laneAt, nodeNumbers, channelNumbersOf, senderOf, parents}
+use Rattle.rules.specs.Lists.{allOf, upTo, anyOf}
+use Rattle.rules.specs.Line.{stepLimit, Line, laneAt, nodeNumbers, channelNumbersOf, senderOf, parents, consoleCount}
 use Rattle.rules.specs.Damaged.{someNode, someChannel, planBroken, misshapen, stepsPast, nodeDamaged, channelDamaged, damaged}
 use Rattle.rules.proofs.lists.Members.{In, in-none, in-first}
-use Rattle.items.specs.Items.{shapeRight, nodeRight, channelRight, lineRight}
+use Rattle.items.specs.Items.{shapeRight, nodeRight, channelRight, lineRight, stepsRight}
 use Rattle.items.proofs.Tests.{above, any-opposite}
 use Rattle.items.proofs.Origins.{Formed, formed}
 use Rattle.items.proofs.NodeItems.{node-items}
 use Rattle.items.proofs.ChannelItems.{channel-items}
+use mathlib.Core.List.{List}
 
 up-to-in : (k n : ℕ) {i : ℕ} → In i (upTo k n) → i < k + n
 up-to-in k zero i = absurd (in-none i)
@@ -25,9 +26,12 @@ up-to-in k (suc n) i = elim (in-first i) [ inl q ↦ omega arith | inr j ↦ ome
 pub shape-items : (l : Line) → misshapen l ≡ not (shapeRight l)
 unfolding misshapen shapeRight
 shape-items l =
-    ap (λ (t : Bool). not nodes || not lanes || t) (any-opposite (λ (b : ℕ). not (heard b)) heard (channelNumbersOf l) (λ b i. refl))
-    ∙ one nodes lanes (allOf heard (channelNumbersOf l))
+    ap (λ (t : Bool). not steps || not nodes || not lanes || t) (any-opposite (λ (b : ℕ). not (heard b)) heard (channelNumbersOf l) (λ b i. refl))
+    ∙ one steps nodes lanes (allOf heard (channelNumbersOf l))
   where
+    steps : Bool
+    steps = eqb (length (l .steps)) consoleCount
+
     nodes : Bool
     nodes = eqb (length (l .nodes)) (nodeCount (l .plan))
 
@@ -37,10 +41,14 @@ shape-items l =
     heard : ℕ → Bool
     heard b = eqb (length (laneAt l b .heard)) (length (parents (l .plan) (senderOf l b)))
 
-    one : (a b c : Bool) → (not a || not b || not c) ≡ not (a && b && c)
-    one true true c = refl
-    one true false c = refl
-    one false b c = refl
+    one : (s a b c : Bool) → (not s || not a || not b || not c) ≡ not (s && a && b && c)
+    one true true true c = refl
+    one true true false c = refl
+    one true false b c = refl
+    one false a b c = refl
+
+steps-items : (counts : List ℕ) → anyOf (ltb stepLimit) counts ≡ not (stepsRight counts)
+steps-items counts = any-opposite (ltb stepLimit) (λ (k : ℕ). leb k stepLimit) counts (λ k i. above k stepLimit)
 
 nodes-items : (l : Line) → Formed l → someNode l (nodeDamaged l) ≡ not (allOf (nodeRight l) (nodeNumbers l))
 nodes-items l line = any-opposite (nodeDamaged l) (nodeRight l) (nodeNumbers l) (λ n i. node-items l line n (omega (arith, up-to-in 0 (nodeCount (l .plan)) i)))
@@ -61,6 +69,6 @@ parts true true true false false broken h = or-true broken
 pub line-items : (l : Line) → damaged l ≡ not (lineRight l)
 unfolding damaged lineRight planBroken stepsPast
 line-items l =
-    rw (shape-items l, above (l .steps) stepLimit, channels-items l)
-    (parts (planFits (l .plan)) (shapeRight l) (leb (l .steps) stepLimit) (allOf (nodeRight l) (nodeNumbers l)) (allOf (channelRight l) (channelNumbersOf l)) (someNode l (nodeDamaged l))
+    rw (shape-items l, steps-items (l .steps), channels-items l)
+    (parts (planFits (l .plan)) (shapeRight l) (stepsRight (l .steps)) (allOf (nodeRight l) (nodeNumbers l)) (allOf (channelRight l) (channelNumbersOf l)) (someNode l (nodeDamaged l))
     (λ fits shape channels. nodes-items l (formed l fits (shape-items l ∙ ap not shape) channels)))

@@ -9,7 +9,7 @@ use borrow.Author.Tests.{leb-true, le-ltb, not-false}
 use Rattle.basics.specs.Bools.{neither-true}
 use Rattle.plan.specs.Plan.{entering}
 use Rattle.rules.specs.Lists.{anyOf, joined}
-use Rattle.rules.specs.Line.{logLimit, heldLimit, targetLimit, Entry, Held, Target, Node, Line, nodeAt}
+use Rattle.rules.specs.Line.{logLimit, heldLimit, targetLimit, Entry, Held, Target, Node, Line, nodeAt, acceptedSteps}
 use Rattle.rules.specs.Replay.{passedOn}
 use Rattle.rules.specs.Damaged.{workedOn, recordPastLimits, nodePastLimits, isParent, notParent, beforeNotParent, nodeWrongParent, originTimes, nodeNamedTimes, nodeOtherTimes, nodeTimePast, nodeTimeZero, originWrong, beforeWrong, nodeMakerWrong, logWrong, pastLane, pastClock, heldWrong, heldNotPassed, markMissing, markOnEnd, replayWrong, nodeHolds, nodeDamaged}
 use Rattle.items.specs.Items.{timesRise, countsRight}
@@ -52,10 +52,10 @@ module _ (l : Line) (n : ℕ) where
     pub records : anyOf pastLimits (workedOn x) ≡ false
     pub inputs : anyOf wrongInput (workedOn x) ≡ false
     pub parents : anyOf wrongTarget (x .targets) ≡ false
-    pub log-past : anyOf (λ (e : Entry). ltb (l .steps) (e .time)) (x .log) ≡ false
-    pub inputs-past : anyOf (inputTimes (ltb (l .steps))) (workedOn x) ≡ false
-    pub time-past : ltb (l .steps) (x .time) ≡ false
-    pub targets-past : anyOf (targetTimes (ltb (l .steps))) (x .targets) ≡ false
+    pub log-past : anyOf (λ (e : Entry). ltb (acceptedSteps l) (e .time)) (x .log) ≡ false
+    pub inputs-past : anyOf (inputTimes (ltb (acceptedSteps l))) (workedOn x) ≡ false
+    pub time-past : ltb (acceptedSteps l) (x .time) ≡ false
+    pub targets-past : anyOf (targetTimes (ltb (acceptedSteps l))) (x .targets) ≡ false
     pub log-nought : anyOf (λ (e : Entry). eqb 0 (e .time)) (x .log) ≡ false
     pub inputs-nought : anyOf (inputTimes (eqb 0)) (workedOn x) ≡ false
     pub makers : anyOf wrongMaker (workedOn x) ≡ false
@@ -110,7 +110,7 @@ module _ (x : Node) where
 module _ (l : Line) (n : ℕ) where
   abbrev others : List Bool
   others =
-      nodeWrongParent (l .plan) n (x l n) ∷ nodeTimePast (l .steps) (x l n) ∷ nodeTimeZero (x l n) ∷ nodeMakerWrong (l .plan) n (x l n) ∷ logWrong (x l n) ∷ pastClock l n
+      nodeWrongParent (l .plan) n (x l n) ∷ nodeTimePast (acceptedSteps l) (x l n) ∷ nodeTimeZero (x l n) ∷ nodeMakerWrong (l .plan) n (x l n) ∷ logWrong (x l n) ∷ pastClock l n
       ∷ heldWrong l n ∷ heldNotPassed (l .plan) n (x l n) ∷ markMissing (x l n) ∷ markOnEnd (l .plan) n (x l n) ∷ replayWrong l n ∷ nodeHolds (x l n) ∷ []
 
   pub node-clear : nodeDamaged l n ≡ false → Clear l n
@@ -121,7 +121,7 @@ module _ (l : Line) (n : ℕ) where
       let (counts, records) = limits-clear y limits in
       let (inputs, targets) = neither-true (anyOf (wrongInput l n) (workedOn y)) (anyOf (wrongTarget l n) (y .targets)) parents in
       let (log-past, (inputs-past, (time-past, targets-past))) =
-      all-false (anyOf (λ (e : Entry). ltb (l .steps) (e .time)) (y .log)) (anyOf (inputTimes (ltb (l .steps))) (workedOn y) ∷ ltb (l .steps) (y .time) ∷ anyOf (targetTimes (ltb (l .steps))) (y .targets) ∷ []) (sym (past-is y (l .steps)) ∙ past) in
+      all-false (anyOf (λ (e : Entry). ltb (acceptedSteps l) (e .time)) (y .log)) (anyOf (inputTimes (ltb (acceptedSteps l))) (workedOn y) ∷ ltb (acceptedSteps l) (y .time) ∷ anyOf (targetTimes (ltb (acceptedSteps l))) (y .targets) ∷ []) (sym (past-is y (acceptedSteps l)) ∙ past) in
       let (log-nought, inputs-nought) = neither-true (anyOf (λ (e : Entry). eqb 0 (e .time)) (y .log)) (anyOf (inputTimes (eqb 0)) (workedOn y)) (sym (zero-is y) ∙ nought) in
       record {
         counts = counts;
@@ -151,7 +151,7 @@ module _ (l : Line) (n : ℕ) where
       let y : Node = nodeAt l n in
       let limits = clear-limits y (c .counts) (c .records) in
       let parents : nodeWrongParent (l .plan) n y ≡ false = rw (c .inputs, c .parents) in
-      let past : nodeTimePast (l .steps) y ≡ false = past-is y (l .steps) ∙ rw (c .log-past, c .inputs-past, c .time-past, c .targets-past) in
+      let past : nodeTimePast (acceptedSteps l) y ≡ false = past-is y (acceptedSteps l) ∙ rw (c .log-past, c .inputs-past, c .time-past, c .targets-past) in
       let nought : nodeTimeZero y ≡ false = zero-is y ∙ rw (c .log-nought, c .inputs-nought) in
       let log = log-is y ∙ ap not (c .log-rises) in
       false-all (nodePastLimits y) others (limits, (parents, (past, (nought, (c .makers, (log, (c .clock, (c .rows, (c .passed, (c .missing, (c .on-end, (c .again, c .holds))))))))))))

@@ -10,7 +10,7 @@ use borrow.Author.Tests.{leb-true, le-ltb, ne-eqb, not-false}
 use Rattle.basics.specs.Bools.{both-true, neither-true}
 use Rattle.plan.specs.Plan.{nodeCount, entering}
 use Rattle.rules.specs.Lists.{allOf, anyOf}
-use Rattle.rules.specs.Line.{made, Entry, Held, Target, Node, Line, nodeAt}
+use Rattle.rules.specs.Line.{made, Entry, Held, Target, Node, Line, nodeAt, acceptedSteps}
 use Rattle.rules.specs.Replay.{entryAt, passedOn}
 use Rattle.rules.specs.Step.{replaying}
 use Rattle.rules.specs.Damaged.{workedOn, recordPastLimits, isParent, notParent, markMissing, markOnEnd, replayWrong, nodeHolds, nodeDamaged}
@@ -51,18 +51,18 @@ module _ (l : Line) (line : Formed l) (n : ℕ) where
       (record { fits = ap not fits; clean = right-clean l line n (made (h .sender) (h .time)) (h .before) origin }, passed)
 
   -- A target's conditions.
-  target-right : (t : Target) → not (isParent (l .plan) n (t .parent)) ≡ false → anyOf (ltb (l .steps)) (t .time ∷ t .parentTime ∷ []) ≡ false → targetRight l n t ≡ true
+  target-right : (t : Target) → not (isParent (l .plan) n (t .parent)) ≡ false → anyOf (ltb (acceptedSteps l)) (t .time ∷ t .parentTime ∷ []) ≡ false → targetRight l n t ≡ true
   unfolding targetRight
   target-right t parent past =
-      let (own, rest) = neither-true (ltb (l .steps) (t .time)) (ltb (l .steps) (t .parentTime) || false) past in
-      let (theirs, _) = neither-true (ltb (l .steps) (t .parentTime)) false rest in
-      rw (not-above (t .time) (l .steps), own, not-above (t .parentTime) (l .steps), theirs) (sym (parent-found (l .plan) n (t .parent)) ∙ not-false (isParent (l .plan) n (t .parent)) parent)
+      let (own, rest) = neither-true (ltb (acceptedSteps l) (t .time)) (ltb (acceptedSteps l) (t .parentTime) || false) past in
+      let (theirs, _) = neither-true (ltb (acceptedSteps l) (t .parentTime)) false rest in
+      rw (not-above (t .time) (acceptedSteps l), own, not-above (t .parentTime) (acceptedSteps l), theirs) (sym (parent-found (l .plan) n (t .parent)) ∙ not-false (isParent (l .plan) n (t .parent)) parent)
 
-  right-target : (t : Target) → targetRight l n t ≡ true → (not (isParent (l .plan) n (t .parent)) ≡ false) × (anyOf (ltb (l .steps)) (t .time ∷ t .parentTime ∷ []) ≡ false)
+  right-target : (t : Target) → targetRight l n t ≡ true → (not (isParent (l .plan) n (t .parent)) ≡ false) × (anyOf (ltb (acceptedSteps l)) (t .time ∷ t .parentTime ∷ []) ≡ false)
   unfolding targetRight
   right-target t r =
-      let (own, (theirs, parent)) = all-true (leb (t .time) (l .steps)) (leb (t .parentTime) (l .steps) ∷ ifFound (fromSender (l .plan) (t .parent) (entering (l .plan) n)) (λ (b : ℕ). true) ∷ []) r in
-      (ap not (parent-found (l .plan) n (t .parent) ∙ parent), rw (le-ltb (l .steps) (t .time) (leb-true (t .time) (l .steps) own), le-ltb (l .steps) (t .parentTime) (leb-true (t .parentTime) (l .steps) theirs)))
+      let (own, (theirs, parent)) = all-true (leb (t .time) (acceptedSteps l)) (leb (t .parentTime) (acceptedSteps l) ∷ ifFound (fromSender (l .plan) (t .parent) (entering (l .plan) n)) (λ (b : ℕ). true) ∷ []) r in
+      (ap not (parent-found (l .plan) n (t .parent) ∙ parent), rw (le-ltb (acceptedSteps l) (t .time) (leb-true (t .time) (acceptedSteps l) own), le-ltb (acceptedSteps l) (t .parentTime) (leb-true (t .parentTime) (acceptedSteps l) theirs)))
 
 -- ---- the node: between its conditions and its items
 
@@ -72,7 +72,7 @@ module _ (l : Line) (line : Formed l) (n : ℕ) (inside : n < nodeCount (l .plan
 
   record Sound : Type 0 where
     counts : countsRight x ≡ true
-    time : leb (x .time) (l .steps) ≡ true
+    time : leb (x .time) (acceptedSteps l) ≡ true
     worked : (e : Entry) → In e (workedOn x) → Worked l n e
     log-rises : timesRise (λ (e : Entry). e .time) 0 (x .time) (x .log) ≡ true
     passed : (h : Held) → In h (x .held) → passedOn (l .plan) n (h .what) ≡ true
@@ -103,7 +103,7 @@ module _ (l : Line) (line : Formed l) (n : ℕ) (inside : n < nodeCount (l .plan
   unfolding nodeRight logRight heldAllRight
   right-sound e =
       let (counts, (time, (log, (held, (targets, (status, replays)))))) =
-      all-true (countsRight x) (leb (x .time) (l .steps) ∷ logRight l n (x .log) ∷ heldAllRight l n (x .held) ∷ allOf (targetRight l n) (x .targets) ∷ statusRight (l .plan) n x ∷ (not (replaying l n) || replayRight l n) ∷ []) e in
+      all-true (countsRight x) (leb (x .time) (acceptedSteps l) ∷ logRight l n (x .log) ∷ heldAllRight l n (x .held) ∷ allOf (targetRight l n) (x .targets) ∷ statusRight (l .plan) n x ∷ (not (replaying l n) || replayRight l n) ∷ []) e in
       let (entries, log-rises) = both-true (allOf (entryRight l n) (x .log)) (timesRise (λ (e : Entry). e .time) 0 (x .time) (x .log)) log in
       let (helds, held-rises) = both-true (allOf (heldRight l n) (x .held)) (heldRise noneHeld (x .held)) held in
       record {
@@ -149,7 +149,7 @@ module _ (l : Line) (line : Formed l) (n : ℕ) (inside : n < nodeCount (l .plan
         fits = none-any pastLimits (c .records) i;
         clean = record {
           parents = none-any (wrongInput l n) (c .inputs) i;
-          past = none-any (inputTimes (ltb (l .steps))) (c .inputs-past) i;
+          past = none-any (inputTimes (ltb (acceptedSteps l))) (c .inputs-past) i;
           nought = none-any (inputTimes (eqb 0)) (c .inputs-nought) i;
           makers = none-any (wrongMaker l n) (c .makers) i;
           clock = none-any (pastEntry l n) (c .clock) i;
@@ -157,19 +157,19 @@ module _ (l : Line) (line : Formed l) (n : ℕ) (inside : n < nodeCount (l .plan
       } in
       record {
         counts = c .counts;
-        time = not-above (x .time) (l .steps) ∙ ap not (c .time-past);
+        time = not-above (x .time) (acceptedSteps l) ∙ ap not (c .time-past);
         worked = worked;
         log-rises = c .log-rises;
         passed = λ h i. not-false (passedOn (l .plan) n (h .what)) (none-any (notPassed l n) (c .passed) i);
         held-rises = not-false (heldRise noneHeld (x .held)) (sym (held-opposite l line n inside (held-parents worked)) ∙ c .rows);
-        targets = λ t i. target-right l line n t (none-any (wrongTarget l n) (c .parents) i) (none-any (targetTimes (ltb (l .steps))) (c .targets-past) i);
+        targets = λ t i. target-right l line n t (none-any (wrongTarget l n) (c .parents) i) (none-any (targetTimes (ltb (acceptedSteps l))) (c .targets-past) i);
         status = not-false (statusRight (l .plan) n x) (sym status-is ∙ rw (c .missing, c .on-end, c .holds));
         replays = not-false (not (replaying l n) || replayRight l n) (sym replays-is ∙ c .again);
       }
 
   sound-clear : Sound → Clear l n
   sound-clear s =
-      let own = leb-true (x .time) (l .steps) (s .time) in
+      let own = leb-true (x .time) (acceptedSteps l) (s .time) in
       let when : (e : Entry) → In e (x .log) → (0 < e .time) × (e .time ≤ x .time) = λ e i. rise-within (λ (e : Entry). e .time) 0 (x .time) (s .log-rises) i in
       let (missing, (on-end, holds)) = all-false (markMissing x) (markOnEnd (l .plan) n x ∷ nodeHolds x ∷ []) (status-is ∙ ap not (s .status)) in
       record {
@@ -177,10 +177,10 @@ module _ (l : Line) (line : Formed l) (n : ℕ) (inside : n < nodeCount (l .plan
         records = each-none pastLimits (workedOn x) (λ e i. s .worked e i .fits);
         inputs = each-none (wrongInput l n) (workedOn x) (λ e i. s .worked e i .clean .parents);
         parents = each-none (wrongTarget l n) (x .targets) (λ t i. right-target l line n t (s .targets t i) .0);
-        log-past = each-none (λ (e : Entry). ltb (l .steps) (e .time)) (x .log) (λ e i. le-ltb (l .steps) (e .time) (omega (arith, when e i)));
-        inputs-past = each-none (inputTimes (ltb (l .steps))) (workedOn x) (λ e i. s .worked e i .clean .past);
-        time-past = le-ltb (l .steps) (x .time) own;
-        targets-past = each-none (targetTimes (ltb (l .steps))) (x .targets) (λ t i. right-target l line n t (s .targets t i) .1);
+        log-past = each-none (λ (e : Entry). ltb (acceptedSteps l) (e .time)) (x .log) (λ e i. le-ltb (acceptedSteps l) (e .time) (omega (arith, when e i)));
+        inputs-past = each-none (inputTimes (ltb (acceptedSteps l))) (workedOn x) (λ e i. s .worked e i .clean .past);
+        time-past = le-ltb (acceptedSteps l) (x .time) own;
+        targets-past = each-none (targetTimes (ltb (acceptedSteps l))) (x .targets) (λ t i. right-target l line n t (s .targets t i) .1);
         log-nought = each-none (λ (e : Entry). eqb 0 (e .time)) (x .log) (λ e i. ne-eqb 0 (e .time) (λ q. omega (arith, when e i)));
         inputs-nought = each-none (inputTimes (eqb 0)) (workedOn x) (λ e i. s .worked e i .clean .nought);
         makers = each-none (wrongMaker l n) (workedOn x) (λ e i. s .worked e i .clean .makers);

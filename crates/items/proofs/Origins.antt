@@ -14,7 +14,7 @@ use Rattle.plan.specs.Check.{planFits}
 use Rattle.plan.proofs.FitsLaws.{fitting}
 use Rattle.rules.proofs.lists.Members.{none-any, all-in, in-up-to}
 use Rattle.rules.specs.Lists.{allOf, anyOf}
-use Rattle.rules.specs.Line.{Origin, fed, made, Line, laneAt, channelNumbersOf, senderOf, parents}
+use Rattle.rules.specs.Line.{Origin, fed, made, Line, laneAt, channelNumbersOf, senderOf, parents, acceptedSteps, consoleCount}
 use Rattle.rules.specs.Damaged.{isParent, notParent, beforeNotParent, originTimes, originWrong, isFed, beforeWrong, pastHeard, pastLane, marksJoined, channelHolds, misshapen}
 use Rattle.rules.proofs.invariant.Inv.{Ordered}
 use Rattle.rules.proofs.steps.PlanOrder.{ordered-channels}
@@ -30,18 +30,18 @@ pub record Formed (l : Line) : Type 0 where
   pub nodes-long : length (l .nodes) ≡ nodeCount (l .plan)
   pub lanes-long : length (l .lanes) ≡ channelCount (l .plan)
   pub heard-long : (b : ℕ) → b < channelCount (l .plan) → length (laneAt l b .heard) ≡ length (parents (l .plan) (senderOf l b))
-  pub taken-within : (b : ℕ) → b < channelCount (l .plan) → laneAt l b .taken ≤ l .steps
-  pub heard-within : (b : ℕ) → b < channelCount (l .plan) → (i : ℕ) → getD (laneAt l b .heard) i 0 ≤ l .steps
+  pub taken-within : (b : ℕ) → b < channelCount (l .plan) → laneAt l b .taken ≤ acceptedSteps l
+  pub heard-within : (b : ℕ) → b < channelCount (l .plan) → (i : ℕ) → getD (laneAt l b .heard) i 0 ≤ acceptedSteps l
 
 -- A clock's entries are within the steps by the channel's own test.
-clock-within : (l : Line) (b : ℕ) → channelRight l b ≡ true → (laneAt l b .taken ≤ l .steps) × ((i : ℕ) → getD (laneAt l b .heard) i 0 ≤ l .steps)
+clock-within : (l : Line) (b : ℕ) → channelRight l b ≡ true → (laneAt l b .taken ≤ acceptedSteps l) × ((i : ℕ) → getD (laneAt l b .heard) i 0 ≤ acceptedSteps l)
 unfolding channelRight clockRight
 clock-within l b e =
     let s = laneAt l b in
-    let within : ℕ → Bool = λ t. leb t (l .steps) in
-    let (clock, _) = all-true (clockRight (l .steps) s) (queueRight l b (s .queue) ∷ not (marksJoined l b) ∷ not (channelHolds l b) ∷ []) e in
+    let within : ℕ → Bool = λ t. leb t (acceptedSteps l) in
+    let (clock, _) = all-true (clockRight (acceptedSteps l) s) (queueRight l b (s .queue) ∷ not (marksJoined l b) ∷ not (channelHolds l b) ∷ []) e in
     let (_, (taken, heard)) = all-true (within (s .mark)) (within (s .taken) ∷ allOf within (s .heard) ∷ []) clock in
-    (leb-true (s .taken) (l .steps) taken, λ i. leb-true (getD (s .heard) i 0) (l .steps) (all-at within (s .heard) i 0 (le-leb 0 (l .steps) (omega arith)) heard))
+    (leb-true (s .taken) (acceptedSteps l) taken, λ i. leb-true (getD (s .heard) i 0) (acceptedSteps l) (all-at within (s .heard) i 0 (le-leb 0 (acceptedSteps l) (omega arith)) heard))
 
 pub formed : (l : Line) → planFits (l .plan) ≡ true → misshapen l ≡ false → allOf (channelRight l) (channelNumbersOf l) ≡ true → Formed l
 unfolding misshapen
@@ -49,8 +49,8 @@ formed l fits shape right =
     let p = l .plan in
     let f = fitting p fits in
     let short : ℕ → Bool = λ b. not (eqb (length (laneAt l b .heard)) (length (parents p (senderOf l b)))) in
-    let clock : (b : ℕ) → b < channelCount p → (laneAt l b .taken ≤ l .steps) × ((i : ℕ) → getD (laneAt l b .heard) i 0 ≤ l .steps) = λ b h. clock-within l b (all-in (channelRight l) right (in-up-to 0 (channelCount p) b (omega arith) (omega arith))) in
-    let (nodes, (lanes, heard)) = all-false (not (eqb (length (l .nodes)) (nodeCount p))) (not (eqb (length (l .lanes)) (channelCount p)) ∷ anyOf short (channelNumbersOf l) ∷ []) shape in
+    let clock : (b : ℕ) → b < channelCount p → (laneAt l b .taken ≤ acceptedSteps l) × ((i : ℕ) → getD (laneAt l b .heard) i 0 ≤ acceptedSteps l) = λ b h. clock-within l b (all-in (channelRight l) right (in-up-to 0 (channelCount p) b (omega arith) (omega arith))) in
+    let (_, (nodes, (lanes, heard))) = all-false (not (eqb (length (l .steps)) consoleCount)) (not (eqb (length (l .nodes)) (nodeCount p)) ∷ not (eqb (length (l .lanes)) (channelCount p)) ∷ anyOf short (channelNumbersOf l) ∷ []) shape in
     record {
       ordered = ordered-channels p (f .channels);
       few = f .nodesMost;
@@ -105,7 +105,7 @@ within-found steps t (some b) f h = one (f b) (h b refl)
 -- The conditions on what node s made something from.
 pub record Named (l : Line) (s : ℕ) (o : Origin) : Type 0 where
   pub parent : notParent (l .plan) s o ≡ false
-  pub past : anyOf (ltb (l .steps)) (originTimes o) ≡ false
+  pub past : anyOf (ltb (acceptedSteps l)) (originTimes o) ≡ false
   pub nought : anyOf (eqb 0) (originTimes o) ≡ false
   pub maker : originWrong (l .plan) s o ≡ false
 
@@ -113,15 +113,15 @@ pub named-right : (l : Line) (s : ℕ) (o : Origin) → Named l s o → namedRig
 unfolding namedRight
 named-right l s fed c = not-false (isSource (l .plan) s) (c .maker)
 named-right l s (made q u) c =
-    rw (time-right (l .steps) u (neither-true (ltb (l .steps) u) false (c .past) .0) (neither-true (eqb 0 u) false (c .nought) .0))
+    rw (time-right (acceptedSteps l) u (neither-true (ltb (acceptedSteps l) u) false (c .past) .0) (neither-true (eqb 0 u) false (c .nought) .0))
     (sym (parent-found (l .plan) s q) ∙ not-false (isParent (l .plan) s q) (c .parent))
 
 pub right-named : (l : Line) (s : ℕ) (o : Origin) → namedRight l s o ≡ true → Named l s o
 unfolding namedRight
 right-named l s fed e = record { parent = refl; past = refl; nought = refl; maker = ap not e }
 right-named l s (made q u) e =
-    let (time, found) = both-true (timeRight (l .steps) u) (ifFound (fromSender (l .plan) q (entering (l .plan) s)) (λ (b : ℕ). true)) e in
-    let (late, some-time) = right-time (l .steps) u time in
+    let (time, found) = both-true (timeRight (acceptedSteps l) u) (ifFound (fromSender (l .plan) q (entering (l .plan) s)) (λ (b : ℕ). true)) e in
+    let (late, some-time) = right-time (acceptedSteps l) u time in
     let parent = parent-found (l .plan) s q ∙ found in
     record { parent = ap not parent; past = rw late; nought = rw some-time; maker = parent-no-source (l .plan) s q parent }
 
@@ -147,8 +147,8 @@ module _ (l : Line) (line : Formed l) (s b : ℕ) (here : b < channelCount (l .p
   unfolding beforeRight namedRight
   before-named fed = rw (heard-fed (parents (l .plan) s) (laneAt l b .heard), and-true (isSource (l .plan) s))
   before-named (made q u) =
-      within-found (l .steps) u (placeFrom (l .plan) q 0 (entering (l .plan) s)) (λ (i : ℕ). leb u (getD (laneAt l b .heard) i 0)) (λ i e k. omega (arith, leb-true u (getD (laneAt l b .heard) i 0) k, line .heard-within b here i))
-      ∙ one (timeRight (l .steps) u) (placeFrom (l .plan) q 0 (entering (l .plan) s)) refl
+      within-found (acceptedSteps l) u (placeFrom (l .plan) q 0 (entering (l .plan) s)) (λ (i : ℕ). leb u (getD (laneAt l b .heard) i 0)) (λ i e k. omega (arith, leb-true u (getD (laneAt l b .heard) i 0) k, line .heard-within b here i))
+      ∙ one (timeRight (acceptedSteps l) u) (placeFrom (l .plan) q 0 (entering (l .plan) s)) refl
     where
       one : (t : Bool) (o : Option ℕ) → placeFrom (l .plan) q 0 (entering (l .plan) s) ≡ o
           → (t && ifFound o (λ (i : ℕ). leb u (getD (laneAt l b .heard) i 0))) ≡ (t && ifFound (fromSender (l .plan) q (entering (l .plan) s)) (λ (c : ℕ). true) && not (pastHeard (parents (l .plan) s) (laneAt l b .heard) (made q u)))
@@ -172,7 +172,7 @@ found-less false o f e = absurd (true≢false (sym e))
 -- The conditions on what node n made something from, and on what that was made from.
 pub record Clean (l : Line) (n : ℕ) (o before : Origin) : Type 0 where
   pub parents : (notParent (l .plan) n o || beforeNotParent (l .plan) o before) ≡ false
-  pub past : anyOf (ltb (l .steps)) (originTimes o ++ originTimes before) ≡ false
+  pub past : anyOf (ltb (acceptedSteps l)) (originTimes o ++ originTimes before) ≡ false
   pub nought : anyOf (eqb 0) (originTimes o ++ originTimes before) ≡ false
   pub makers : (originWrong (l .plan) n o || beforeWrong (l .plan) o before) ≡ false
   pub clock : anyOf (λ (b : ℕ). pastLane l b o before) (entering (l .plan) n) ≡ false
@@ -196,7 +196,7 @@ module _ (l : Line) (line : Formed l) (n : ℕ) where
         let (late, heard) = neither-true (ltb (laneAt l b .taken) t) (pastHeard (parents (l .plan) s) (laneAt l b .heard) before) (sym (clock-at s t before b e) ∙ c .clock) in
         let named = named-right l s before (record {
           parent = neither-true (notParent (l .plan) n (made s t)) (notParent (l .plan) s before) (c .parents) .1;
-          past = neither-true (ltb (l .steps) t) (anyOf (ltb (l .steps)) (originTimes before)) (c .past) .1;
+          past = neither-true (ltb (acceptedSteps l) t) (anyOf (ltb (acceptedSteps l)) (originTimes before)) (c .past) .1;
           nought = neither-true (eqb 0 t) (anyOf (eqb 0) (originTimes before)) (c .nought) .1;
           maker = neither-true (isSource (l .plan) n) (originWrong (l .plan) s before) (c .makers) .1;
         }) in
@@ -210,7 +210,7 @@ module _ (l : Line) (line : Formed l) (n : ℕ) where
         let c = right-named l s before named in
         record {
           parents = rw (a .parent, c .parent);
-          past = rw (neither-true (ltb (l .steps) t) false (a .past) .0, c .past);
+          past = rw (neither-true (ltb (acceptedSteps l) t) false (a .past) .0, c .past);
           nought = rw (neither-true (eqb 0 t) false (a .nought) .0, c .nought);
           makers = rw (a .maker, c .maker);
           clock = clock-at s t before b e ∙ rw (le-ltb (laneAt l b .taken) t (leb-true t (laneAt l b .taken) late), not-true (pastHeard (parents (l .plan) s) (laneAt l b .heard) before) heard);
@@ -219,16 +219,16 @@ module _ (l : Line) (line : Formed l) (n : ℕ) where
   clean-named : (s t : ℕ) (before : Origin) → Clean l n (made s t) before → Named l n (made s t)
   clean-named s t before c = record {
     parent = neither-true (notParent (l .plan) n (made s t)) (notParent (l .plan) s before) (c .parents) .0;
-    past = rw (neither-true (ltb (l .steps) t) (anyOf (ltb (l .steps)) (originTimes before)) (c .past) .0);
+    past = rw (neither-true (ltb (acceptedSteps l) t) (anyOf (ltb (acceptedSteps l)) (originTimes before)) (c .past) .0);
     nought = rw (neither-true (eqb 0 t) (anyOf (eqb 0) (originTimes before)) (c .nought) .0);
     maker = neither-true (isSource (l .plan) n) (originWrong (l .plan) s before) (c .makers) .0;
   }
 
   -- The same test, with the time held against the steps.
-  origin-timed : (s t : ℕ) (before : Origin) → originRight l n (made s t) before ≡ (timeRight (l .steps) t && ifFound (fromSender (l .plan) s (entering (l .plan) n)) (λ (b : ℕ). leb t (laneAt l b .taken) && beforeRight l s b before))
+  origin-timed : (s t : ℕ) (before : Origin) → originRight l n (made s t) before ≡ (timeRight (acceptedSteps l) t && ifFound (fromSender (l .plan) s (entering (l .plan) n)) (λ (b : ℕ). leb t (laneAt l b .taken) && beforeRight l s b before))
   unfolding originRight
   origin-timed s t before =
-      within-found (l .steps) t (fromSender (l .plan) s (entering (l .plan) n)) (λ (b : ℕ). leb t (laneAt l b .taken) && beforeRight l s b before)
+      within-found (acceptedSteps l) t (fromSender (l .plan) s (entering (l .plan) n)) (λ (b : ℕ). leb t (laneAt l b .taken) && beforeRight l s b before)
       (λ b e k.
       (let (i, _) = found-in (l .plan) s (entering (l .plan) n) b e in
       let (late, _) = both-true (leb t (laneAt l b .taken)) (beforeRight l s b before) k in
@@ -241,7 +241,7 @@ module _ (l : Line) (line : Formed l) (n : ℕ) where
       rw (not-false (isSource (l .plan) n) source, not-false (isFed before) none-before)
   clean-right (made s t) before c =
       origin-timed s t before
-      ∙ found-more (timeRight (l .steps) t) (fromSender (l .plan) s (entering (l .plan) n)) (λ (b : ℕ). leb t (laneAt l b .taken) && beforeRight l s b before)
+      ∙ found-more (timeRight (acceptedSteps l) t) (fromSender (l .plan) s (entering (l .plan) n)) (λ (b : ℕ). leb t (laneAt l b .taken) && beforeRight l s b before)
       (named-right l n (made s t) (clean-named s t before c)) (λ b e. clean-on s t before b e c)
 
   pub right-clean : (o before : Origin) → originRight l n o before ≡ true → Clean l n o before
@@ -255,5 +255,5 @@ module _ (l : Line) (line : Formed l) (n : ℕ) where
   }
   right-clean fed (made q u) e = absurd (true≢false (sym (both-true (isSource (l .plan) n) false e .1)))
   right-clean (made s t) before e =
-      let (b, found, on, own) = found-less (timeRight (l .steps) t) (fromSender (l .plan) s (entering (l .plan) n)) (λ (b : ℕ). leb t (laneAt l b .taken) && beforeRight l s b before) (sym (origin-timed s t before) ∙ e) in
+      let (b, found, on, own) = found-less (timeRight (acceptedSteps l) t) (fromSender (l .plan) s (entering (l .plan) n)) (λ (b : ℕ). leb t (laneAt l b .taken) && beforeRight l s b before) (sym (origin-timed s t before) ∙ e) in
       on-clean s t before b found own on

@@ -10,7 +10,7 @@ use Rattle.plan.specs.Record.{materialFits}
 use Rattle.plan.specs.Plan.{Plan, nodeCount, channelCount, channelAt, entering, isSource}
 use Rattle.plan.specs.Check.{planFits}
 use Rattle.rules.specs.Lists.{isEmpty, allOf}
-use Rattle.rules.specs.Line.{logLimit, queueLimit, heldLimit, targetLimit, stepLimit, Origin, fed, made, Message, Entry, Held, Target, Node, Lane, Line, nodeAt, laneAt, nodeNumbers, channelNumbersOf, senderOf, parents, acceptedSteps}
+use Rattle.rules.specs.Line.{logLimit, queueLimit, heldLimit, targetLimit, stepLimit, consoleCount, Origin, fed, made, Message, Entry, Held, Target, Node, Lane, Line, nodeAt, laneAt, nodeNumbers, channelNumbersOf, senderOf, parents, acceptedSteps}
 use Rattle.rules.specs.Recover.{lowOf, restored, targetsOf, conflict, rowGoal}
 use Rattle.rules.specs.Replay.{passedOn}
 use Rattle.rules.specs.Step.{endDown, replaying}
@@ -143,9 +143,13 @@ channelRight l b =
 unfoldable pub shapeRight : Line → Bool
 unfolding parents
 shapeRight l =
-    eqb (length (l .nodes)) (nodeCount (l .plan)) && eqb (length (l .lanes)) (channelCount (l .plan))
+    eqb (length (l .steps)) consoleCount && eqb (length (l .nodes)) (nodeCount (l .plan)) && eqb (length (l .lanes)) (channelCount (l .plan))
     && allOf (λ (b : ℕ). eqb (length (laneAt l b .heard)) (length (parents (l .plan) (senderOf l b)))) (channelNumbersOf l)
+
+-- The steps of each console.
+abbrev pub stepsRight : List ℕ → Bool
+stepsRight counts = allOf (λ (k : ℕ). leb k stepLimit) counts
 
 unfoldable pub lineRight : Line → Bool
 unfolding planFits shapeRight nodeRight channelRight
-lineRight l = planFits (l .plan) && shapeRight l && leb (l .steps) stepLimit && allOf (nodeRight l) (nodeNumbers l) && allOf (channelRight l) (channelNumbersOf l)
+lineRight l = planFits (l .plan) && shapeRight l && stepsRight (l .steps) && allOf (nodeRight l) (nodeNumbers l) && allOf (channelRight l) (channelNumbersOf l)
