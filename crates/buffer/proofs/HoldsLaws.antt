@@ -3,7 +3,7 @@ use Prim.Native.Nat.{ℕ, _+_, _<_}
 use mathlib.Core.Path.{_≡_, refl, sym, ap, subst, _∙_}
 use mathlib.Core.List.{List}
 use native.Mathlib.Omega.{arith}
-use lib.ListN.{length}
+use lib.ListN.{length, set}
 use lib.Seq.{set-set, set-getD}
 use Rattle.basics.specs.Put.{put}
 use Rattle.plan.specs.Layout.{bytesOf}
@@ -11,9 +11,9 @@ use Rattle.plan.specs.Plan.{planOf, planNodes, planChannels, nodeCount, channel
 use Rattle.plan.specs.Check.{planFits}
 use Rattle.plan.proofs.FitsLaws.{fitting}
 use Rattle.plan.proofs.PlanLaws.{node-count, channel-count}
-use Rattle.rules.specs.Line.{logLimit, queueLimit, heldLimit, targetLimit, Node, Lane, Line, freshNode, noLane, nodeAt, laneAt, withNode, withLane}
+use Rattle.rules.specs.Line.{logLimit, queueLimit, heldLimit, targetLimit, Node, Lane, Line, freshNode, noLane, nodeAt, laneAt, withNode, withLane, consoleCount, stepsFrom}
 use Rattle.rules.proofs.line.LineLaws.{node-there, plan-kept, lane-there, plan-same}
-use Rattle.state.specs.Sizes.{countSize, stepsAt, pageAt, logAt, heldAt, targetsAt, blockAt, queueAt}
+use Rattle.state.specs.Sizes.{countSize, pageAt, logAt, heldAt, targetsAt, blockAt, queueAt, stepsOfAt}
 use Rattle.state.specs.Node.{logLayout, heldListLayout, targetsLayout, nodeLayout}
 use Rattle.state.specs.Lane.{queueLayout, laneLayout, padHeard}
 use Rattle.state.specs.Pieces.{messageLayout, entryLayout, heldLayout, targetLayout}
@@ -25,7 +25,7 @@ use Rattle.state.proofs.InPlace.{line-plan}
 use Rattle.state.proofs.SpelledLaws.{Sane}
 use Rattle.state.proofs.AcceptedState.{sane-fits}
 use Rattle.state.proofs.Swapped.{Swapped, swap-in, swap-from, swap-put, counts-long, list-counted}
-use Rattle.state.proofs.Written.{node-log, node-held, node-targets, lane-queue, withSteps, line-steps-swap, line-node-swap, line-lane-swap, fits-steps, fits-node, fits-lane}
+use Rattle.state.proofs.Written.{node-log, node-held, node-targets, lane-queue, withSteps, line-node-swap, line-lane-swap, fits-node, fits-lane, line-count-swap, fits-count}
 use Rattle.buffer.specs.Holds.{Holds, AtNode, AtLane, NodeNow, LaneNow, Undamaged}
 
 -- ---- where they come from
@@ -209,7 +209,8 @@ lane-then {s} {t} {u} {b} f g at first second =
 
 -- ---- the steps
 
-pub steps-put : {s t : List ℕ} (l : Line) → Holds s l → (k : ℕ) → TimeFits k → t ≡ put s stepsAt (bytesOf 4 k) → Holds t (withSteps k l)
-steps-put {s} l h k f r =
-    let over = swap-from (line-steps-swap l (h .fits) k) (h .written) in
-    holds-of (withSteps k l) (r ∙ sym (swap-put over (counts-long 4 (l .steps) k))) (fits-steps l (h .fits) k f)
+-- Console c's count.
+pub count-put : {s t : List ℕ} (l : Line) → Holds s l → (c k : ℕ) → c < consoleCount → TimeFits k → t ≡ put s (stepsOfAt c) (bytesOf 4 k) → Holds t (withSteps (set (l .steps) c k) l)
+count-put {s} l h c k inside f r =
+    let over = swap-from (line-count-swap l (h .fits) c k inside) (h .written) in
+    holds-of (withSteps (set (l .steps) c k) l) (r ∙ sym (swap-put over (counts-long 4 (stepsFrom l c) k))) (fits-count l (h .fits) c k inside f)

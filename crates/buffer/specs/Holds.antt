@@ -8,7 +8,7 @@ use mathlib.Core.Option.{some}
 use Rattle.plan.specs.Plan.{planNodes, planChannels}
 use Rattle.rules.specs.Line.{Node, Lane, Line, nodeAt, laneAt, withNode, withLane}
 use Rattle.rules.specs.Frame.{Frame}
-use Rattle.rules.specs.Step.{noStepsLeft, lineRefusal, effect}
+use Rattle.rules.specs.Step.{lineRefusal, effect}
 use Rattle.rules.specs.Damaged.{damaged}
 use Rattle.state.specs.Fits.{LineFits}
 use Rattle.state.specs.State.{lineBytes, lineOf}
@@ -42,8 +42,8 @@ pub record Undamaged (s : List ℕ) : Type 0 where
   pub holds : Holds s (lineOf s)
   pub undamaged : damaged (lineOf s) ≡ false
 
--- What a kind of step answers where steps are left, and the state t that it leaves, the step not yet counted: refused, the state s as it was.
+-- What a kind of step answers, whoever sent it, and the state t that it leaves, the step not yet counted: refused, the state s as it was.
 pub record Did (s : List ℕ) (f : Frame) (t : List ℕ) (r : ℕ) : Type 0 where
-  pub number : noStepsLeft (lineOf s) ≡ false → lineRefusal (lineOf s) f ≡ r
+  pub number : lineRefusal (lineOf s) f ≡ r
   pub refused : r ≢ 0 → t ≡ s
   pub done : r ≡ 0 → (k : Line) × ((effect (lineOf s) f ≡ some k) × Holds t k)

@@ -3,7 +3,7 @@
 // A number, such as a list's count, which stands in front of its slots.
 pub const COUNT: usize = 4;
 
-// The accepted steps, behind the plan.
+// The accepted steps of each console, behind the plan.
 pub const STEPS: usize = 512;
 
 // A node's page; node 0's stands behind the plan's.
@@ -51,6 +51,6 @@ pub const TARGET_SIZE: usize = 12;
 pub const MESSAGE_SIZE: usize = 20;
 
 // What is unused behind the steps, and at the end.
-pub const STEPS_REST: usize = STEPS + COUNT;
+pub const STEPS_REST: usize = STEPS + 4 * COUNT;
 
 pub const TAIL: usize = 60_928;

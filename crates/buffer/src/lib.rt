@@ -19,6 +19,8 @@ impl Line {
     pub const HELD_LIMIT: u32 = 64;
     // "64 targets a node"
     pub const TARGET_LIMIT: u32 = 64;
-    // "1,000,000 accepted steps"
+    // "1,000,000 accepted steps", of each console
     pub const STEP_LIMIT: u32 = 1_000_000;
+    // "a console number 0..3"
+    pub const CONSOLES: usize = 4;
 }

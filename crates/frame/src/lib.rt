@@ -1,12 +1,13 @@
-// Frames (document 01, "Clocks and steps"): the refusals 9 to 11, and what a frame asks, read once.
+// Frames (document 01, "Clocks and steps"; document 02, 2026-01): the refusals 9 to 11 and 25, whose frame it is, and what it asks, read once.
 ghost use mathlib.Core.Path.{_≡_};
 ghost use mathlib.Core.Bool.{cond};
 ghost use Prim.Native.Nat.{_+_, _≤_, _<_};
 ghost use lib.Dec.{eqb};
-ghost use lib.ListN.{length, drop};
+ghost use lib.ListN.{length, getD, drop};
 ghost use Rattle.plan.specs.Record.{recordFits};
-ghost use Rattle.rules.specs.Frame.{feed, frameNumber, frameOf, badFrameLength, badFrameVersion, badKind};
-ghost use Rattle.frame.specs.Reading.{frameRefusal, Asks};
+ghost use Rattle.rules.specs.Frame.{feed, frameVersion, frameKind, consoleBytes, frameConsole, frameOf, badFrameLength, badFrameVersion, badKind, badConsole, frameRefusal};
+ghost use Rattle.frame.specs.Reading.{Asks};
+use buffer::Line;
 use buffer::bytes;
 use buffer::look;
 use plan::Record;
@@ -24,24 +25,51 @@ pub enum Frame {
     Recover(usize),
 }
 
-// A head: the frame's length, its version, its kind, and the number of a node or a channel.
+// A head of version 1: the frame's length, its version, its kind, and the number of a node or a channel. One of version 2 has the console before that number.
 pub const HEAD: usize = 5;
 
 // A Feed has a record behind its head.
 const FEED: usize = 13;
 
+fn version_of(frame: &[u8]) -> u8
+    requires { ⌜ 5 ≤ length (now frame) ⌝ }
+    ensures { λ r. ⌜ r ≡ frameVersion (now (frame .entry)) ⌝ }
+{
+    bytes::get8(frame, 2)
+}
+
 fn kind_of(frame: &[u8]) -> u8
     requires { ⌜ 5 ≤ length (now frame) ⌝ }
-    ensures { λ r. ⌜ r ≡ frameNumber 2 (now (frame .entry)) ⌝ }
+    ensures { λ r. ⌜ r ≡ frameKind (now (frame .entry)) ⌝ }
 {
     bytes::get8(frame, 3)
 }
 
-fn number_of(frame: &[u8]) -> usize
+// How many bytes the frame has for its console.
+fn console_bytes(frame: &[u8]) -> usize
     requires { ⌜ 5 ≤ length (now frame) ⌝ }
-    ensures { λ r. ⌜ (r ≡ frameNumber 3 (now (frame .entry))) × (r < 256) ⌝ }
+    ensures { λ r. ⌜ (r ≡ consoleBytes (now (frame .entry))) × (r ≤ 1) ⌝ }
 {
-    look::index(bytes::get8(frame, 4))
+    if version_of(frame) == 2 { 1 } else { 0 }
+}
+
+// The console whose frame it is: 0 in version 1.
+pub fn console_of(frame: &[u8]) -> usize
+    requires { ⌜ 5 ≤ length (now frame) ⌝ }
+    ensures { λ r. ⌜ r ≡ frameConsole (now (frame .entry)) ⌝ }
+{
+    if version_of(frame) == 2 {
+        return look::index(bytes::get8(frame, 4));
+    }
+    0
+}
+
+// The number of a node or a channel, behind so many bytes for the console.
+fn number_of(frame: &[u8], console: usize) -> usize
+    requires { ⌜ (5 + console ≤ length (now frame)) × (console ≤ 1) ⌝ }
+    ensures { λ r. ⌜ (r ≡ getD (now (frame .entry)) (4 + console) 0) × (r < 256) ⌝ }
+{
+    look::index(bytes::get8(frame, 4 + console))
 }
 
 // 9: shorter than a head, or another length than its length field says.
@@ -59,27 +87,36 @@ fn bad_version(frame: &[u8]) -> bool
     requires { ⌜ 5 ≤ length (now frame) ⌝ }
     ensures { λ r. ⌜ r ≡ badFrameVersion (now (frame .entry)) ⌝ }
 {
-    bytes::get8(frame, 2) != 1
+    let version = version_of(frame);
+    !((version == 1) | (version == 2))
 }
 
-// The length of a frame of a kind.
+// The length of a frame of a kind, in version 1.
 fn kind_size(kind: u8) -> usize
-    ensures { λ r. ⌜ r ≡ cond (eqb kind 1) 13 5 ⌝ }
+    ensures { λ r. ⌜ (r ≡ cond (eqb kind 1) 13 5) × (r ≤ 13) ⌝ }
 {
     if kind == 1 { FEED } else { HEAD }
 }
 
-// 11: the kind, or another length than the kind's.
+// 11: the kind, or another length than the kind's in its version.
 fn bad_kind(frame: &[u8]) -> bool
     requires { ⌜ 5 ≤ length (now frame) ⌝ }
     ensures { λ r. ⌜ r ≡ badKind (now (frame .entry)) ⌝ }
 {
     let kind = kind_of(frame);
-    let size = kind_size(kind);
+    let size = kind_size(kind) + console_bytes(frame);
     !((1 <= kind) & (kind <= 5) & (frame.len() == size))
 }
 
-// The first of 9 to 11 that applies to a frame, 0 if none does.
+// 25: a console above 3.
+fn bad_console(frame: &[u8]) -> bool
+    requires { ⌜ 5 ≤ length (now frame) ⌝ }
+    ensures { λ r. ⌜ r ≡ badConsole (now (frame .entry)) ⌝ }
+{
+    Line::CONSOLES <= console_of(frame)
+}
+
+// The first of 9, 10, 11 and 25 that applies to a frame, 0 if none does.
 pub fn refusal_of(frame: &[u8]) -> u32
     ensures { λ r. ⌜ r ≡ frameRefusal (now (frame .entry)) ⌝ }
 {
@@ -92,6 +129,9 @@ pub fn refusal_of(frame: &[u8]) -> u32
     if bad_kind(frame) {
         return 11;
     }
+    if bad_console(frame) {
+        return 25;
+    }
     0
 }
 
@@ -103,15 +143,15 @@ fn record_fits(s: &[u8], at: usize) -> bool
     (bytes::get8(s, at + 4) <= 15) & (bytes::get8(s, at + 5) == 0)
 }
 
-// A Feed of a node.
-fn feed_of(frame: &[u8], node: usize) -> Frame
-    requires { ⌜ length (now frame) ≡ 13 ⌝ }
-    ensures { λ r. ⌜ Asks r (feed node (drop 5 (now (frame .entry)))) ⌝ }
+// A Feed of a node, whose record stands at a place.
+fn feed_of(frame: &[u8], node: usize, at: usize) -> Frame
+    requires { ⌜ at + 8 ≤ length (now frame) ⌝ }
+    ensures { λ r. ⌜ Asks r (feed node (drop at (now (frame .entry)))) ⌝ }
 {
     Frame::Feed {
         node,
-        what: slots::record_at(frame, HEAD),
-        fits: record_fits(frame, HEAD),
+        what: slots::record_at(frame, at),
+        fits: record_fits(frame, at),
     }
 }
 
@@ -120,9 +160,10 @@ pub fn frame_of(frame: &[u8]) -> Frame
     requires { ⌜ frameRefusal (now frame) ≡ 0 ⌝ }
     ensures { λ r. ⌜ Asks r (frameOf (now (frame .entry))) ⌝ }
 {
-    let n = number_of(frame);
+    let console = console_bytes(frame);
+    let n = number_of(frame, console);
     match kind_of(frame) {
-        1 => feed_of(frame, n),
+        1 => feed_of(frame, n, HEAD + console),
         2 => Frame::Send(n),
         3 => Frame::Take(n),
         4 => Frame::Crash(n),

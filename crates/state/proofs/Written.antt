@@ -1,5 +1,5 @@
 -- Where the parts of a line lie in its bytes: a line with one of them changed is written as the same bytes with that part changed.
-use Prim.Native.Nat.{ℕ, zero, suc, _+_, _*_, _-_, _≤_, _<_}
+use Prim.Native.Nat.{ℕ, zero, suc, _+_, _*_, _-_, _^_, _≤_, _<_}
 use mathlib.Core.Path.{_≡_, refl, sym, ap, _∙_}
 use mathlib.Core.Bool.{Bool}
 use mathlib.Core.List.{List, [], _∷_, _++_, map}
@@ -177,6 +177,14 @@ set-keeps P (y ∷ xs) zero x d (suc i) p q = q
 set-keeps P (y ∷ xs) (suc n) x d zero p q = q
 set-keeps P (y ∷ xs) (suc n) x d (suc i) p q = set-keeps (λ (j : ℕ). P (suc j)) xs n x d i p q
 
+-- Numbers for fields still fit where one that fits is put in.
+fields-set : (ws vs : List ℕ) (i v : ℕ) → v < 256 ^ (getD ws i 0) → FieldsFit ws vs → FieldsFit ws (set vs i v)
+fields-set [] [] i v h f = f
+fields-set [] (u ∷ vs) i v h f = absurd f
+fields-set (w ∷ ws) [] i v h f = absurd f
+fields-set (w ∷ ws) (u ∷ vs) zero v h f = (h, f .1)
+fields-set (w ∷ ws) (u ∷ vs) (suc i) v h f = (f .0, fields-set ws vs i v h (f .1))
+
 -- Where a console's count stands among the four, and its width.
 count-place : (c : ℕ) → c < consoleCount → (sumOf (take c stepsWidths) ≡ countSize * c) × (getD stepsWidths c 0 ≡ countSize)
 count-place zero h = (refl, refl)
@@ -259,6 +267,9 @@ module _ (l : Line) (fits : LineFits l) where
 
   pub fits-steps : (ks : List ℕ) → FieldsFit stepsWidths ks → LineFits (withSteps ks l)
   fits-steps ks h = record { plan = fits .plan; steps = h; nodes = fits .nodes; lanes = fits .lanes; node = fits .node; lane = fits .lane; heard = fits .heard }
+
+  pub fits-count : (c k : ℕ) → c < consoleCount → TimeFits k → LineFits (withSteps (set (l .steps) c k) l)
+  fits-count c k h f = fits-steps (set (l .steps) c k) (fields-set stepsWidths (l .steps) c k (rw (count-place c h .1) f) (fits .steps))
 
   pub fits-node : (k : ℕ) (x : Node) → NodeFits x → LineFits (withNode k x l)
   unfolding withNode
