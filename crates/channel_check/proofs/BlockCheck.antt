@@ -6,7 +6,7 @@ use mathlib.Core.List.{List, _∷_}
 use borrow.Author.Tests.{le-leb, lt-leb}
 use lib.Dec.{leb}
 use Rattle.rules.specs.Lists.{allOf, greatestOf}
-use Rattle.rules.specs.Line.{queueLimit, Lane, Line, laneAt}
+use Rattle.rules.specs.Line.{queueLimit, Lane, Line, laneAt, acceptedSteps}
 use Rattle.rules.specs.Damaged.{marksJoined, channelHolds}
 use Rattle.state.specs.Sizes.{blockAt, heardAt, parentLimit, queueAt, countSize, messageSize, laneRestAt, laneRest}
 use Rattle.state.specs.Right.{wordAt}
@@ -22,9 +22,9 @@ clock-is steps x =
     ap (λ (t : Bool). leb (x .mark) steps && t) (greatest-within (x .taken ∷ x .heard) steps)
     ∙ sym (and-assoc (leb (x .mark) steps) (leb (x .taken) steps) (allOf (λ (t : ℕ). leb t steps) (x .heard)))
 
-channel-is : (l : Line) (b : ℕ) → channelRight l b ≡ (clockRight (l .steps) (laneAt l b) && queueRight l b (laneAt l b .queue) && (not (marksJoined l b) && not (channelHolds l b)))
+channel-is : (l : Line) (b : ℕ) → channelRight l b ≡ (clockRight (acceptedSteps l) (laneAt l b) && queueRight l b (laneAt l b .queue) && (not (marksJoined l b) && not (channelHolds l b)))
 unfolding channelRight
-channel-is l b = and-assoc (clockRight (l .steps) (laneAt l b) && queueRight l b (laneAt l b .queue)) (not (marksJoined l b)) (not (channelHolds l b))
+channel-is l b = and-assoc (clockRight (acceptedSteps l) (laneAt l b) && queueRight l b (laneAt l b .queue)) (not (marksJoined l b)) (not (channelHolds l b))
 
 block-is : (heard a used : ℕ) (s : List ℕ) → used ≡ wordAt (a + queueAt) s
     → blockExact heard a s
@@ -70,10 +70,10 @@ module _ (s : List ℕ) (b heard used : ℕ) where
   pub too-many : used ≡ wordAt (blockAt b + queueAt) s → queueLimit < used → false ≡ (blockExact heard (blockAt b) s && channelRight line b)
   too-many e h = none-pass heardZero slots behind rest (channelRight line b) ∙ sym (rw (block-is heard (blockAt b) used s e, lt-leb used queueLimit h) refl)
 
-  pub block-tested : (steps mark most : ℕ) (zeros queue ends : Bool) → steps ≡ line .steps → QueueFits s b used → mark ≡ wordAt (blockAt b) s → most ≡ greatestOf (laneAt line b .taken ∷ laneAt line b .heard)
+  pub block-tested : (steps mark most : ℕ) (zeros queue ends : Bool) → steps ≡ acceptedSteps line → QueueFits s b used → mark ≡ wordAt (blockAt b) s → most ≡ greatestOf (laneAt line b .taken ∷ laneAt line b .heard)
       → zeros ≡ (heardZero && (behind && rest)) → queue ≡ (slots && queueRight line b (laneAt line b .queue)) → ends ≡ endsFree
       → (((zeros && (leb mark steps && leb most steps)) && queue) && ends) ≡ (blockExact heard (blockAt b) s && channelRight line b)
   block-tested steps mark most zeros queue ends same fits e f g h i =
       let marked : mark ≡ laneAt line b .mark = e ∙ sym (mark-word s b (fits .on)) in
       rw (g, h, i, marked, f, clock-is steps (laneAt line b), same, block-is heard (blockAt b) used s (fits .same), le-leb used queueLimit (fits .few), channel-is line b)
-      (parts heardZero behind rest (clockRight (line .steps) (laneAt line b)) slots (queueRight line b (laneAt line b .queue)) endsFree)
+      (parts heardZero behind rest (clockRight (acceptedSteps line) (laneAt line b)) slots (queueRight line b (laneAt line b .queue)) endsFree)

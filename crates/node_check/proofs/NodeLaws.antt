@@ -12,7 +12,7 @@ use lib.ListN.{length, getD, set}
 use lib.Seq.{ext-getD}
 use Rattle.plan.specs.Plan.{planOf, isSource, isSink}
 use Rattle.rules.specs.Lists.{allOf, isEmpty}
-use Rattle.rules.specs.Line.{logLimit, heldLimit, targetLimit, Entry, Held, Target, Node, Line, nodeAt, isUp}
+use Rattle.rules.specs.Line.{logLimit, heldLimit, targetLimit, Entry, Held, Target, Node, Line, nodeAt, isUp, acceptedSteps}
 use Rattle.rules.specs.Damaged.{markMissing, markOnEnd, nodeHolds, holdsByStatus}
 use Rattle.rules.specs.Replay.{passedOn}
 use Rattle.state.specs.Sizes.{pageAt, countSize, timeAt, logAt, entrySize, heldAt, heldSize, targetsAt, targetSize, nodeRestAt, nodeRest}
@@ -265,7 +265,7 @@ module _ (s : List ℕ) (n at : ℕ) (page : PageOf s n at) where
   at-page : (k v : ℕ) → v ≡ wordAt (at + k) s → v ≡ wordAt (pageAt n + k) s
   at-page k v e = rw (page .start) at e
 
-  pub head-node : (steps : ℕ) → steps ≡ lineOf s .steps → (headExact at s && leb (wordAt (at + timeAt) s) steps) ≡ (headExact (pageAt n) s && leb (x .time) (lineOf s .steps))
+  pub head-node : (steps : ℕ) → steps ≡ acceptedSteps (lineOf s) → (headExact at s && leb (wordAt (at + timeAt) s) steps) ≡ (headExact (pageAt n) s && leb (x .time) (acceptedSteps (lineOf s)))
   head-node steps e = rw (← time-in s n at page (wordAt (at + timeAt) s) refl, ← e, ← page .start) refl
 
   pub status-tested : (status mark time log held targets : ℕ) (end nothing : Bool)
@@ -292,7 +292,7 @@ module _ (s : List ℕ) (n at : ℕ) (page : PageOf s n at) where
       ) refl
 
   pub node-tested : (head log held targets rest status : Bool)
-      → head ≡ (headExact (pageAt n) s && leb (x .time) (lineOf s .steps))
+      → head ≡ (headExact (pageAt n) s && leb (x .time) (acceptedSteps (lineOf s)))
       → log ≡ (listExact entryExact logLimit entrySize (pageAt n + logAt) s && logRight (lineOf s) n (x .log))
       → held ≡ (listExact heldExact heldLimit heldSize (pageAt n + heldAt) s && heldAllRight (lineOf s) n (x .held))
       → targets ≡ (listExact targetExact targetLimit targetSize (pageAt n + targetsAt) s && allOf (targetRight (lineOf s) n) (x .targets))
@@ -306,7 +306,7 @@ module _ (s : List ℕ) (n at : ℕ) (page : PageOf s n at) where
       let T = listExact targetExact targetLimit targetSize (pageAt n + targetsAt) s in
       let R = zeroAt (pageAt n + nodeRestAt) nodeRest s in
       let E = headExact (pageAt n) s in
-      let time = leb (x .time) (lineOf s .steps) in
+      let time = leb (x .time) (acceptedSteps (lineOf s)) in
       let lr = logRight (lineOf s) n (x .log) in
       let hr = heldAllRight (lineOf s) n (x .held) in
       let tr = allOf (targetRight (lineOf s) n) (x .targets) in

@@ -12,7 +12,7 @@ use Rattle.plan.specs.Plan.{planOf, planChannels, isNone, entering, leaving}
 use Rattle.plan.specs.Mask.{taking, someTakes, planMask}
 use Rattle.plan.proofs.TakingLaws.{taking-some}
 use Rattle.rules.specs.Lists.{isEmpty}
-use Rattle.rules.specs.Line.{Entry, Held, Line, made}
+use Rattle.rules.specs.Line.{Entry, Held, Line, made, acceptedSteps}
 use Rattle.rules.specs.Replay.{passedOn}
 use Rattle.state.specs.Pieces.{originFrom}
 use Rattle.state.specs.State.{lineOf}
@@ -97,7 +97,7 @@ passed-mask s n r mask small few e = taking-some s n r mask e small few ∙ ap n
 -- ---- a target
 
 module _ (l : Line) (n a : ℕ) (s : List ℕ) (long : a + 12 ≤ length s) (t u q : ℕ) (time : t ≡ wordAt a s) (other : u ≡ wordAt (a + 4) s) (parent : q ≡ getD s (a + 8) 0) where
-  target-right : (found : Bool) → found ≡ ifFound (fromSender (l .plan) q (entering (l .plan) n)) (λ (b : ℕ). true) → targetRight l n (targetIn a s) ≡ (leb t (l .steps) && leb u (l .steps) && found)
+  target-right : (found : Bool) → found ≡ ifFound (fromSender (l .plan) q (entering (l .plan) n)) (λ (b : ℕ). true) → targetRight l n (targetIn a s) ≡ (leb t (acceptedSteps l) && leb u (acceptedSteps l) && found)
   unfolding targetRight
   target-right found e = rw (time, other, e, parent) (ap (targetRight l n) (target-in a s))
 
@@ -109,5 +109,5 @@ module _ (l : Line) (n a : ℕ) (s : List ℕ) (long : a + 12 ≤ length s) (t u
       rw (first, second) (three-zero (a + 9) s (omega arith))
 
   pub target-tested : (found : Bool) → found ≡ ifFound (fromSender (l .plan) q (entering (l .plan) n)) (λ (b : ℕ). true)
-      → (eqb (bitOr (bitOr (getD s (a + 9) 0) (getD s (a + 10) 0)) (getD s (a + 11) 0)) 0 && (leb t (l .steps) && leb u (l .steps) && found)) ≡ (targetExact a s && targetRight l n (targetIn a s))
+      → (eqb (bitOr (bitOr (getD s (a + 9) 0) (getD s (a + 10) 0)) (getD s (a + 11) 0)) 0 && (leb t (acceptedSteps l) && leb u (acceptedSteps l) && found)) ≡ (targetExact a s && targetRight l n (targetIn a s))
   target-tested found e = rw (target-right found e, target-exact) refl

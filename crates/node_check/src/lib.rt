@@ -7,9 +7,9 @@ ghost use lib.Dec.{leb};
 ghost use Rattle.plan.specs.Plan.{planOf, planNodes, leaving, isSource, isSink};
 ghost use Rattle.plan.specs.Mask.{planMask};
 ghost use Rattle.rules.specs.Lists.{allOf};
-ghost use Rattle.rules.specs.Line.{nodeAt, logLimit, heldLimit, targetLimit};
+ghost use Rattle.rules.specs.Line.{nodeAt, acceptedSteps, logLimit, heldLimit, targetLimit};
 ghost use Rattle.rules.specs.Replay.{passedOn};
-ghost use Rattle.state.specs.Sizes.{pageAt, countSize, timeAt, logAt, entrySize, heldAt, heldSize, targetsAt, targetSize, stepsAt};
+ghost use Rattle.state.specs.Sizes.{pageAt, countSize, timeAt, logAt, entrySize, heldAt, heldSize, targetsAt, targetSize};
 ghost use Rattle.state.specs.State.{lineOf};
 ghost use Rattle.state.specs.Right.{wordAt};
 ghost use Rattle.items.specs.Items.{logRight, heldAllRight, targetRight, statusRight, nodePlain};
@@ -286,7 +286,7 @@ fn status_ok(s: &[u8], t: &[u8; 156], n: usize, at: usize) -> bool
 
 // A node's page: right bytes, and a right node but for what a replay asks.
 pub fn node_ok(s: &[u8], t: &[u8; 156], n: usize, steps: u32) -> bool
-    requires { ⌜ Ready (now s) × Table (now s) (now t) × (n < planNodes (now s)) × (steps ≡ wordAt stepsAt (now s)) ⌝ }
+    requires { ⌜ Ready (now s) × Table (now s) (now t) × (n < planNodes (now s)) × (steps ≡ acceptedSteps (lineOf (now s))) ⌝ }
     ensures { λ r. ⌜ r ≡ (pageExact (pageAt n) (now (s .entry)) && nodePlain (lineOf (now (s .entry))) n) ⌝ }
 {
     let at = layout::PAGE + layout::PAGE * n;

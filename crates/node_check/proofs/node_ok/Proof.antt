@@ -3,8 +3,6 @@ use mathlib.Core.Path.{_≡_, sym, _∙_}
 use native.Mathlib.Omega.{arith}
 use borrow.Author.Needs.{needs}
 use Rattle.state.specs.Sizes.{pageAt, nodeRestAt, nodeRest}
-use Rattle.state.proofs.InPlace.{line-steps}
-use Rattle.buffer.proofs.ReadyLaws.{counted}
 use Rattle.node_check.specs.NodeCheck.{PageOf}
 use Rattle.node_check.proofs.PieceBytes.{zero-part}
 use Rattle.node_check.proofs.NodeLaws.{head-node, node-tested}
@@ -24,7 +22,7 @@ targets-ok-requires : tie.Need-targets-ok-requires
 targets-ok-requires c κs =
     let start = c .before .before .before .before in
     let k = start .pre in
-    (record { ready = k .0; within = k .2; start = omega arith }, record { ready = k .0; tabled = k .1; same = k .3 ∙ sym (line-steps (start .args .s .now) (counted (k .0))) })
+    (record { ready = k .0; within = k .2; start = omega arith }, record { ready = k .0; tabled = k .1; same = k .3 })
 
 all-zero-requires : tie.Need-all-zero-requires
 all-zero-requires c κs =
@@ -49,7 +47,7 @@ returns c =
     let from : at + 3604 ≡ pageAt (a .n) + nodeRestAt = omega arith in
     let wide : at + 4096 - (at + 3604) ≡ nodeRest = omega arith in
     let page : PageOf s (a .n) at = record { ready = start .pre .0; within = start .pre .2; start = same } in
-    let steps = start .pre .3 ∙ sym (line-steps s (counted (start .pre .0))) in
+    let steps = start .pre .3 in
     node-tested s (a .n) at page (head .head-ok .result) (log .log-ok .result) (held .held-ok .result) (targets .targets-ok .result) (rest .all-zero .result) (c .status-ok .result) (head .head-ok .ensures ∙ head-node s (a .n) at page (a .steps) steps) (log .log-ok .ensures) (held .held-ok .ensures) (targets .targets-ok .ensures)
     (rest .all-zero .ensures ∙ zero-part (at + 3604) (at + 4096) (pageAt (a .n) + nodeRestAt) nodeRest s from wide)
     (c .status-ok .ensures)
