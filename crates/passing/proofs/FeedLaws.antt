@@ -34,26 +34,26 @@ feed-effect l n r = refl
 
 module _ (s : List ℕ) (n : ℕ) (r : List ℕ) (held : Holds s (lineOf s)) where
   pub feed-past : planNodes s ≤ n → Did s (feed n r) s 13
-  feed-past h = refused s (feed n r) 13 (λ e. omega arith) (λ left. feed-number (lineOf s) n r left ∙ rw (le-leb (nodeCount (lineOf s .plan)) n (rw (← holds-nodes held) h)))
+  feed-past h = refused s (feed n r) 13 (λ e. omega arith) (feed-number (lineOf s) n r ∙ rw (le-leb (nodeCount (lineOf s .plan)) n (rw (← holds-nodes held) h)))
 
   module _ (inside : n < planNodes s) where
     pub feed-between : isSource (planOf s) n ≡ false → Did s (feed n r) s 14
-    feed-between h = refused s (feed n r) 14 (λ e. omega arith) (λ left. feed-number (lineOf s) n r left ∙ rw (lt-leb (nodeCount (lineOf s .plan)) n (rw (← holds-nodes held) inside), line-plan s, h))
+    feed-between h = refused s (feed n r) 14 (λ e. omega arith) (feed-number (lineOf s) n r ∙ rw (lt-leb (nodeCount (lineOf s .plan)) n (rw (← holds-nodes held) inside), line-plan s, h))
 
     module _ (source : isSource (planOf s) n ≡ true) where
       pub feed-unfit : recordFits r ≡ false → Did s (feed n r) s 17
-      feed-unfit h = refused s (feed n r) 17 (λ e. omega arith) (λ left. feed-number (lineOf s) n r left ∙ rw (lt-leb (nodeCount (lineOf s .plan)) n (rw (← holds-nodes held) inside), line-plan s, source, h))
+      feed-unfit h = refused s (feed n r) 17 (λ e. omega arith) (feed-number (lineOf s) n r ∙ rw (lt-leb (nodeCount (lineOf s .plan)) n (rw (← holds-nodes held) inside), line-plan s, source, h))
 
       module _ (fits : recordFits r ≡ true) where
         pub feed-full : logLimit ≤ length (nodeAt (lineOf s) n .log) → Did s (feed n r) s 21
         feed-full h =
             refused s (feed n r) 21 (λ e. omega arith)
-            (λ left. feed-number (lineOf s) n r left ∙ rw (lt-leb (nodeCount (lineOf s .plan)) n (rw (← holds-nodes held) inside), line-plan s, source, fits, le-leb logLimit (length (nodeAt (lineOf s) n .log)) h))
+            (feed-number (lineOf s) n r ∙ rw (lt-leb (nodeCount (lineOf s .plan)) n (rw (← holds-nodes held) inside), line-plan s, source, fits, le-leb logLimit (length (nodeAt (lineOf s) n .log)) h))
 
         pub feed-done : (t : List ℕ) → length (nodeAt (lineOf s) n .log) < logLimit → NodeNow s n (logged (madeBy (lineOf s) n (recordLayout .read r)) fed fed) t → Did s (feed n r) t 0
         feed-done t h now =
             let l = lineOf s in
             accepted s t (feed n r) (withNode n (logged (madeBy l n (recordLayout .read r)) fed fed (nodeAt l n)) l)
-            (λ left. feed-number l n r left ∙ rw (lt-leb (nodeCount (l .plan)) n (rw (← holds-nodes held) inside), line-plan s, source, fits, lt-leb logLimit (length (nodeAt l n .log)) h))
+            (feed-number l n r ∙ rw (lt-leb (nodeCount (l .plan)) n (rw (← holds-nodes held) inside), line-plan s, source, fits, lt-leb logLimit (length (nodeAt l n .log)) h))
             (feed-effect l n r)
             now

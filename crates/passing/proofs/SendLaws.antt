@@ -29,28 +29,28 @@ send-effect l b e q = rw q
 
 module _ (s : List ℕ) (b : ℕ) (held : Holds s (lineOf s)) where
   pub send-past : planChannels s ≤ b → Did s (send b) s 13
-  send-past h = refused s (send b) 13 (λ e. omega arith) (λ left. send-number (lineOf s) b left ∙ rw (le-leb (channelCount (lineOf s .plan)) b (rw (← holds-channels held) h)))
+  send-past h = refused s (send b) 13 (λ e. omega arith) (send-number (lineOf s) b ∙ rw (le-leb (channelCount (lineOf s .plan)) b (rw (← holds-channels held) h)))
 
   module _ (below : b < planChannels s) where
     pub send-down : endDown (lineOf s) b ≡ true → Did s (send b) s 15
-    send-down h = refused s (send b) 15 (λ e. omega arith) (λ left. send-number (lineOf s) b left ∙ rw (lt-leb (channelCount (lineOf s .plan)) b (rw (← holds-channels held) below), h))
+    send-down h = refused s (send b) 15 (λ e. omega arith) (send-number (lineOf s) b ∙ rw (lt-leb (channelCount (lineOf s .plan)) b (rw (← holds-channels held) below), h))
 
     module _ (standing : endDown (lineOf s) b ≡ false) where
       pub send-nothing : none ≡ sendable (lineOf s) b → Did s (send b) s 18
       send-nothing h =
           refused s (send b) 18 (λ e. omega arith)
-          (λ left. send-number (lineOf s) b left ∙ rw (lt-leb (channelCount (lineOf s .plan)) b (rw (← holds-channels held) below), standing, ← h))
+          (send-number (lineOf s) b ∙ rw (lt-leb (channelCount (lineOf s .plan)) b (rw (← holds-channels held) below), standing, ← h))
 
       module _ (e : Entry) (next : some e ≡ sendable (lineOf s) b) where
         pub send-full : queueLimit ≤ length (laneAt (lineOf s) b .queue) → Did s (send b) s 19
         send-full h =
             refused s (send b) 19 (λ e. omega arith)
-            (λ left. send-number (lineOf s) b left ∙ rw (lt-leb (channelCount (lineOf s .plan)) b (rw (← holds-channels held) below), standing, ← next, le-leb queueLimit (length (laneAt (lineOf s) b .queue)) h))
+            (send-number (lineOf s) b ∙ rw (lt-leb (channelCount (lineOf s .plan)) b (rw (← holds-channels held) below), standing, ← next, le-leb queueLimit (length (laneAt (lineOf s) b .queue)) h))
 
         pub send-done : (t : List ℕ) → length (laneAt (lineOf s) b .queue) < queueLimit → LaneNow s b (sentOn e) t → Did s (send b) t 0
         send-done t h now =
             let l = lineOf s in
             accepted s t (send b) (withLane b (sentOn e (laneAt l b)) l)
-            (λ left. send-number l b left ∙ rw (lt-leb (channelCount (l .plan)) b (rw (← holds-channels held) below), standing, ← next, lt-leb queueLimit (length (laneAt l b .queue)) h))
+            (send-number l b ∙ rw (lt-leb (channelCount (l .plan)) b (rw (← holds-channels held) below), standing, ← next, lt-leb queueLimit (length (laneAt l b .queue)) h))
             (send-effect l b e (sym next))
             now

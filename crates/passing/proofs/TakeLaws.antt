@@ -79,7 +79,7 @@ module _ (s : List ℕ) (b : ℕ) (t : Taking s b) where
   take-full h =
       let l = lineOf s in
       refused s (take b) 21 (λ e. omega arith)
-      (λ left. take-number l b (lt-leb (channelCount (l .plan)) b below-count) (t .standing) some-waits (t .live) left ∙ rw (le-leb logLimit (length (nodeAt l (receiverOf l b) .log)) h))
+      (take-number l b (lt-leb (channelCount (l .plan)) b below-count) (t .standing) some-waits (t .live) ∙ rw (le-leb logLimit (length (nodeAt l (receiverOf l b) .log)) h))
 
   pub take-done : (u : List ℕ) (m : Message) (rest : List Message) → length (nodeAt (lineOf s) (receiverOf (lineOf s) b) .log) < logLimit → laneAt (lineOf s) b .queue ≡ m ∷ rest → Holds u (takenUp b m (takenLane b m rest (lineOf s))) → Did s (take b) u 0
   take-done u m rest h q now =
@@ -87,6 +87,6 @@ module _ (s : List ℕ) (b : ℕ) (t : Taking s b) where
       let leads = take-effect l b m rest q (t .live) in
       let k = takenUp b m (takenLane b m rest l) in
       accepted s u (take b) k
-      (λ left. take-number l b (lt-leb (channelCount (l .plan)) b below-count) (t .standing) some-waits (t .live) left ∙ rw (lt-leb logLimit (length (nodeAt l (receiverOf l b) .log)) h, placed l (take b) k leads))
+      (take-number l b (lt-leb (channelCount (l .plan)) b below-count) (t .standing) some-waits (t .live) ∙ rw (lt-leb logLimit (length (nodeAt l (receiverOf l b) .log)) h, placed l (take b) k leads))
       leads
       now

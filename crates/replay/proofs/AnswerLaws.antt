@@ -14,7 +14,7 @@ use Rattle.rules.specs.Line.{logLimit, heldLimit, Message, Held, Status, Line, 
 use Rattle.rules.specs.Frame.{take}
 use Rattle.rules.specs.Recover.{rowGoal, rowComplete}
 use Rattle.rules.specs.Replay.{passedOn, entryAt, replayEnd}
-use Rattle.rules.specs.Step.{noStepsLeft, endDown, replaying, isNothing, effect, lineRefusal}
+use Rattle.rules.specs.Step.{endDown, replaying, isNothing, effect, lineRefusal}
 use Rattle.rules.specs.Damaged.{isParent}
 use Rattle.rules.proofs.lists.Members.{in-map, map-in, in-right, any-in, in-at}
 use Rattle.rules.proofs.line.Joins.{entering-in}
@@ -143,7 +143,7 @@ module _ {s : List ℕ} {b n : ℕ} {m : Message} {h : Held} {goes : Bool} (v : 
   lacks-space e f = refused s (take b) 21 (λ z. omega arith) (number-is s u b (v .below) m (v .first) (v .again) (v .alive) false true (isNothing (effect l (take b))) (row-of false e) (sym same-lacking ∙ f) refl)
 
   module _ (open-row : rowComplete (lineOf s) n b ≡ false) (space : lacking ≡ false) where
-    number : (o : Option Line) (t : Bool) → effect l (take b) ≡ o → isNothing o ≡ t → noStepsLeft l ≡ false → lineRefusal l (take b) ≡ (elim t [ true ↦ 24 | false ↦ 0 ])
+    number : (o : Option Line) (t : Bool) → effect l (take b) ≡ o → isNothing o ≡ t → lineRefusal l (take b) ≡ (elim t [ true ↦ 24 | false ↦ 0 ])
     number o t e f = number-is s u b (v .below) m (v .first) (v .again) (v .alive) false false t (row-of false open-row) (sym same-lacking ∙ space) (ap isNothing e ∙ f)
 
     -- The rows go on.

@@ -19,7 +19,7 @@ use Rattle.rules.specs.Frame.{take}
 use Rattle.rules.specs.Recover.{rowGoal, rowComplete, rowsComplete, highOf}
 use Rattle.rules.specs.Replay.{passedOn, holding, entryAt, replayEnd, endedIfComplete}
 use Rattle.rules.specs.Clock.{takenFrom}
-use Rattle.rules.specs.Step.{noStepsLeft, endDown, rowDone, firstRecord, toHold, takeLacks, noSpace, isNothing, replaying, takenLane, takenReplaying, takenFirst, takenLine, effect, noPlacing, lineRefusal}
+use Rattle.rules.specs.Step.{endDown, rowDone, firstRecord, toHold, takeLacks, noSpace, isNothing, replaying, takenLane, takenReplaying, takenFirst, takenLine, effect, noPlacing, lineRefusal}
 use Rattle.rules.proofs.line.LineLaws.{node-there, lane-there, lane-else}
 use Rattle.rules.proofs.invariant.Inv.{Ordered}
 use Rattle.rules.proofs.steps.PlanOrder.{ordered-channels}
@@ -216,9 +216,9 @@ module _ (s : List ℕ) (u : Undamaged s) (b : ℕ) (below : b < planChannels s)
     row-is : rowDone l (take b) ≡ rowComplete l n b
     row-is = ap (λ (t : Bool). t && rowComplete l n b) again
 
-    pub number-is : (row space placed : Bool) → rowComplete l n b ≡ row → full ≡ space → isNothing (effect l (take b)) ≡ placed → noStepsLeft l ≡ false
+    pub number-is : (row space placed : Bool) → rowComplete l n b ≡ row → full ≡ space → isNothing (effect l (take b)) ≡ placed
         → lineRefusal (lineOf s) (take b) ≡ (elim row [ true ↦ 20 | false ↦ elim space [ true ↦ 21 | false ↦ elim placed [ true ↦ 24 | false ↦ 0 ] ] ])
     unfolding noPlacing
-    number-is row space placed er es ep steps =
+    number-is row space placed er es ep =
         refusal-first l (take b)
-        ∙ (λ i. firstOf ((12, steps i) ∷ (13, lt-leb (channelCount (l .plan)) b here-below i) ∷ (15, alive i) ∷ (18, isEmpty (first i)) ∷ (20, (row-is ∙ er) i) ∷ (21, (lacks ∙ es) i) ∷ (24, ep i) ∷ []))
+        ∙ (λ i. firstOf ((13, lt-leb (channelCount (l .plan)) b here-below i) ∷ (15, alive i) ∷ (18, isEmpty (first i)) ∷ (20, (row-is ∙ er) i) ∷ (21, (lacks ∙ es) i) ∷ (24, ep i) ∷ []))

@@ -15,7 +15,7 @@ use Rattle.rules.specs.Line.{targetLimit, Target, Node, Line, nodeAt}
 use Rattle.rules.specs.Frame.{crash, recover}
 use Rattle.rules.specs.Recover.{targetsOf, conflict, recovered, rowsComplete}
 use Rattle.rules.specs.Replay.{isHeld, replayEnd, endedIfComplete}
-use Rattle.rules.specs.Step.{noStepsLeft, nodeDown, isNothing, noPlacing, recoveredLine, effect, lineRefusal}
+use Rattle.rules.specs.Step.{nodeDown, isNothing, noPlacing, recoveredLine, effect, lineRefusal}
 use Rattle.rules.proofs.invariant.Inv.{Shape, Ordered}
 use Rattle.rules.proofs.undamaged.Restored.{restoredNode, recovered-is, restored-node, restored-complete}
 use Rattle.recover.specs.Found.{rowsIn}
@@ -35,9 +35,9 @@ first-none false n rest d e = (refl, e)
 module _ (l : Line) (n : ℕ) where
   -- ---- Crash
 
-  pub crash-number : noStepsLeft l ≡ false → lineRefusal l (crash n) ≡ crashAnswer l n
+  pub crash-number : lineRefusal l (crash n) ≡ crashAnswer l n
   unfolding lineRefusal noPlacing effect
-  crash-number e = rw (e, lineRefusal)
+  crash-number = refl
 
   pub crash-inside : crashAnswer l n ≡ 0 → n < nodeCount (l .plan)
   crash-inside e = leb-false (nodeCount (l .plan)) n (first-none (leb (nodeCount (l .plan)) n) 13 _ (λ q. omega arith) e .0)
@@ -57,14 +57,14 @@ module _ (l : Line) (n : ℕ) where
   abbrev ts : List Target
   ts = targetsOf l n
 
-  recover-number : noStepsLeft l ≡ false → lineRefusal l (recover n) ≡ firstOf (leb (nodeCount (l .plan)) n) 13
+  recover-number : lineRefusal l (recover n) ≡ firstOf (leb (nodeCount (l .plan)) n) 13
       (firstOf (isEnd l n) 14 (firstOf (not (nodeDown l n)) 15 (firstOf (ltb targetLimit (length ts)) 21 (firstOf (isNothing (effect l (recover n))) 24 0))))
   unfolding lineRefusal noPlacing
-  recover-number e = rw (e, lineRefusal)
+  recover-number = refl
 
   -- A refusal by the node alone.
-  pub asked-number : noStepsLeft l ≡ false → (r : ℕ) → r ≡ recoverAsked l n → r ≢ 0 → lineRefusal l (recover n) ≡ r
-  asked-number e r is d = recover-number e ∙ go (leb (nodeCount (l .plan)) n) (isEnd l n) (not (nodeDown l n)) (firstOf (ltb targetLimit (length ts)) 21 (firstOf (isNothing (effect l (recover n))) 24 0)) is
+  pub asked-number : (r : ℕ) → r ≡ recoverAsked l n → r ≢ 0 → lineRefusal l (recover n) ≡ r
+  asked-number r is d = recover-number ∙ go (leb (nodeCount (l .plan)) n) (isEnd l n) (not (nodeDown l n)) (firstOf (ltb targetLimit (length ts)) 21 (firstOf (isNothing (effect l (recover n))) 24 0)) is
     where
       go : (a b c : Bool) (rest : ℕ) → r ≡ firstOf a 13 (firstOf b 14 (firstOf c 15 0)) → firstOf a 13 (firstOf b 14 (firstOf c 15 rest)) ≡ r
       go true b c rest q = sym q
@@ -73,8 +73,8 @@ module _ (l : Line) (n : ℕ) where
       go false false false rest q = absurd (d q)
 
   -- By the targets.
-  pub found-number : noStepsLeft l ≡ false → recoverAsked l n ≡ 0 → lineRefusal l (recover n) ≡ firstOf (ltb targetLimit (length ts)) 21 (firstOf (isNothing (effect l (recover n))) 24 0)
-  found-number e is = recover-number e ∙ go (leb (nodeCount (l .plan)) n) (isEnd l n) (not (nodeDown l n)) (firstOf (ltb targetLimit (length ts)) 21 (firstOf (isNothing (effect l (recover n))) 24 0)) is
+  pub found-number : recoverAsked l n ≡ 0 → lineRefusal l (recover n) ≡ firstOf (ltb targetLimit (length ts)) 21 (firstOf (isNothing (effect l (recover n))) 24 0)
+  found-number is = recover-number ∙ go (leb (nodeCount (l .plan)) n) (isEnd l n) (not (nodeDown l n)) (firstOf (ltb targetLimit (length ts)) 21 (firstOf (isNothing (effect l (recover n))) 24 0)) is
     where
       go : (a b c : Bool) (rest : ℕ) → firstOf a 13 (firstOf b 14 (firstOf c 15 0)) ≡ 0 → firstOf a 13 (firstOf b 14 (firstOf c 15 rest)) ≡ rest
       go true b c rest q = let no : ⊥ = omega arith in absurd no

@@ -30,13 +30,13 @@ module _ (s : List ℕ) (n : ℕ) (whole : Undamaged s) where
   crash-on e = at-node (whole .holds) n (crash-inside (lineOf s) n e)
 
   pub crash-refused : (r : ℕ) → r ≡ crashAnswer (lineOf s) n → r ≢ 0 → Did s (crash n) s r
-  crash-refused r is d = record { number = λ e. crash-number (lineOf s) n e ∙ sym is; refused = λ q. refl; done = λ q. absurd (d q) }
+  crash-refused r is d = record { number = crash-number (lineOf s) n ∙ sym is; refused = λ q. refl; done = λ q. absurd (d q) }
 
   pub crash-done : crashAnswer (lineOf s) n ≡ 0 → (t : List ℕ) → NodeNow s n emptied t → (u : List ℕ) → Holds u (crashedLanes n (lineOf t)) → Did s (crash n) u 0
   unfolding effect
   crash-done is t node u lanes =
       record {
-        number = λ e. crash-number (lineOf s) n e ∙ is;
+        number = crash-number (lineOf s) n ∙ is;
         refused = λ q. absurd (q refl);
         done = λ q. (crashedLine n (lineOf s), (refl, subst (Holds u) (ap (crashedLanes n) (node .same) ∙ crash-lanes (lineOf s) (whole .holds .fits) n) lanes));
       }

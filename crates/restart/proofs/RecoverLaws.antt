@@ -14,7 +14,7 @@ use Rattle.rules.specs.Lists.{isEmpty}
 use Rattle.rules.specs.Line.{targetLimit, made, Target, Status, down, Node, Line, nodeAt, laneAt, withNode, freshLane, isDown}
 use Rattle.rules.specs.Frame.{recover}
 use Rattle.rules.specs.Recover.{lowOf, restored, targetsOf, statusOf, recovered}
-use Rattle.rules.specs.Step.{isNothing, nodeDown, effect, noStepsLeft, lineRefusal}
+use Rattle.rules.specs.Step.{isNothing, nodeDown, effect, lineRefusal}
 use Rattle.rules.proofs.lists.Members.{In, here, there, in-at}
 use Rattle.rules.proofs.ending.Targets.{triples-at-in, targets-from}
 use Rattle.rules.proofs.invariant.Inv.{Enters}
@@ -104,7 +104,7 @@ module _ (s : List ℕ) (n : ℕ) (whole : Undamaged s) where
   logs-counted k h = let at : AtNode s k = record { holds = whole .holds; inside = h } in omega (arith, node-log-counted at, node-fits at .log .0)
 
   pub recover-refused : (r : ℕ) → r ≡ recoverAsked (lineOf s) n → r ≢ 0 → Did s (recover n) s r
-  recover-refused r is d = record { number = λ e. asked-number (lineOf s) n e r is d; refused = λ q. refl; done = λ q. absurd (d q) }
+  recover-refused r is d = record { number = asked-number (lineOf s) n r is d; refused = λ q. refl; done = λ q. absurd (d q) }
 
   module _ (asked : recoverAsked (lineOf s) n ≡ 0) where
     inside : n < nodeCount (lineOf s .plan)
@@ -124,8 +124,8 @@ module _ (s : List ℕ) (n : ℕ) (whole : Undamaged s) where
       ts = targetsOf (lineOf s) n
 
       number-is : (full empty : Bool) (r : ℕ) → ltb targetLimit (length (targetsOf (lineOf s) n)) ≡ full → isNothing (effect (lineOf s) (recover n)) ≡ empty → firstOf full 21 (firstOf empty 24 0) ≡ r
-          → noStepsLeft (lineOf s) ≡ false → lineRefusal (lineOf s) (recover n) ≡ r
-      number-is full empty r a b q e = found-number (lineOf s) n e asked ∙ (λ j. firstOf (a j) 21 (firstOf (b j) 24 0)) ∙ q
+          → lineRefusal (lineOf s) (recover n) ≡ r
+      number-is full empty r a b q = found-number (lineOf s) n asked ∙ (λ j. firstOf (a j) 21 (firstOf (b j) 24 0)) ∙ q
 
       pub recover-full : 64 < count → Did s (recover n) s 21
       recover-full h =
