@@ -82,7 +82,7 @@ fn turn(
     out: &mut [u8; OUT],
 ) -> Next
     requires { ⌜ Between reader left (now state) × (windowSize ≤ left) ⌝ }
-    ensures { λ r. ⌜ Turned reader (now (state .entry)) (now (window .entry)) left r (now (state .exit)) (now (window .exit)) ⌝ }
+    ensures { λ r. ⌜ Turned reader (now (state .entry)) (now (window .entry)) (now (out .entry)) left r (now (state .exit)) (now (window .exit)) (now (out .exit)) ⌝ }
 {
     let have = reader.have;
     let got = read_behind(window, have);

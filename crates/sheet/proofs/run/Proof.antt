@@ -23,14 +23,14 @@ loop-less c =
     let turned = c .before .before .before in
     let t = c .before .t .given in
     let v = turned .before .before .before .before .before .loop in
-    turned-on (v .reader) (v .state) (v .window) (v .left) (t .0 .0) (t .0 .1 .0) (turned .turn .last .1 .1 .0) (turned .turn .last .1 .1 .1 .0) (t .1) (turned .turn .ensures) .1
+    turned-on (v .reader) (v .state) (v .window) (v .out) (v .left) (t .0 .0) (t .0 .1 .0) (turned .turn .last .1 .1 .0) (turned .turn .last .1 .1 .1 .0) (turned .turn .last .1 .1 .1 .1 .0) (t .1) (turned .turn .ensures) .1
 
 loop-again : tie.Need-loop-again Inv-loop μ-loop
 loop-again c =
     let turned = c .before .before .before in
     let t = c .before .t .given in
     let v = turned .before .before .before .before .before .loop in
-    turned-on (v .reader) (v .state) (v .window) (v .left) (t .0 .0) (t .0 .1 .0) (turned .turn .last .1 .1 .0) (turned .turn .last .1 .1 .1 .0) (t .1) (turned .turn .ensures) .0
+    turned-on (v .reader) (v .state) (v .window) (v .out) (v .left) (t .0 .0) (t .0 .1 .0) (turned .turn .last .1 .1 .0) (turned .turn .last .1 .1 .1 .0) (turned .turn .last .1 .1 .1 .1 .0) (t .1) (turned .turn .ensures) .0
 
 pub run-spec : {M : Type 1} → statement M
 run-spec =
