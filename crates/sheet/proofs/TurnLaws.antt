@@ -17,7 +17,6 @@ use Rattle.stream.specs.Reader.{windowSize, readingOf, Holding, Gave, Finished}
 use Rattle.sheet.specs.declared.Got.{Got}
 use Rattle.sheet.specs.declared.Got.the-variants.{Bytes, End}
 use Rattle.sheet.specs.declared.Next.{Next}
-use Rattle.sheet.specs.declared.Next.the-variants.{On}
 use Rattle.sheet.specs.Turned.{gotOf, Within, countOf, ReadBehind, Between, Went, Stopped, at-the-end, Turned}
 
 -- What is read behind the first bytes leaves them.
@@ -70,8 +69,9 @@ module _ (r : Reader) {s w o came state out : List ℕ} {left : ℕ} where
       at-the-end wrote (was-got e read)
       (record { kept = read .kept; asked = record { holding = can .holding; room = omega (arith, can .room); few = omega (arith, can .few) }; finished = finished })
 
-pub turned-on : {t : Next} (q : Reader) (s w o : List ℕ) (left : ℕ) (r : Reader) (rest : ℕ) (state window out : List ℕ) → t ≡ On r rest → Turned q s w o left t state window out → Between r rest state × (rest < left)
-turned-on q s w o left r rest state window out e h = let x : Turned q s w o left (On r rest) state window out = subst (λ (t : Next). Turned q s w o left t state window out) e h in (x .0, x .1)
+-- What a turn left, by what it answered.
+pub turned-as : {t : Next} (q : Reader) (s w o : List ℕ) (left : ℕ) (n : Next) (state window out : List ℕ) → t ≡ n → Turned q s w o left t state window out → Turned q s w o left n state window out
+turned-as q s w o left n state window out e h = subst (λ (t : Next). Turned q s w o left t state window out) e h
 
 -- Nothing is read yet.
 pub first-holding : (p : Phase) (k : ℕ) (state : List ℕ) → p ≡ Planning → k ≡ 1 → Holding p k state
