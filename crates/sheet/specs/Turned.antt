@@ -33,7 +33,7 @@ abbrev pub countOf : ℤ → ℕ
 countOf (pos k) = k
 countOf (negsuc k) = 0
 
--- What a read leaves of the window w: the bytes that are kept. It tells what the call answered, which is all that the call's contract says: no more bytes than there is room for.
+-- What a read leaves of the window w: the bytes that are kept. It tells as many bytes as an answer within the call's contract says, which are no more than there is room for.
 pub record ReadBehind (w : List ℕ) (have : ℕ) (window : List ℕ) (r : Got) : Type 0 where
   pub kept : take have window ≡ take have w
   pub answer : ℤ

@@ -35,7 +35,7 @@ loop-again c =
     let t = c .before .t .given in
     let v = turned .before .before .before .before .before .loop in
     let on =
-        turned-as (v .reader) (v .state) (v .window) (v .out) (v .left) (On (t .0 .0) (t .0 .1 .0)) (turned .turn .last .1 .1 .0) (turned .turn .last .1 .1 .1 .0) (turned .turn .last .1 .1 .1 .1 .0) (t .1) (turned .turn .ensures) in
+    turned-as (v .reader) (v .state) (v .window) (v .out) (v .left) (On (t .0 .0) (t .0 .1 .0)) (turned .turn .last .1 .1 .0) (turned .turn .last .1 .1 .1 .0) (turned .turn .last .1 .1 .1 .1 .0) (t .1) (turned .turn .ensures) in
     (on .0, more (v .inv .1) (on .2))
 
 returns : tie.Need-returns Inv-loop μ-loop
