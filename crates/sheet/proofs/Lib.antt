@@ -1,3 +1,4 @@
--- What a turn rests on.
+-- What a turn and a run rest on.
 pub mod GotLaws
 pub mod TurnLaws
+pub mod RanLaws

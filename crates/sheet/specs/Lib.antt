@@ -1,2 +1,3 @@
--- What holds from turn to turn.
+-- What holds from turn to turn, and of a whole run.
 pub mod Turned
+pub mod Ran

@@ -4,6 +4,7 @@ ghost use Prim.Native.Nat.{_≤_};
 ghost use lib.ListN.{length};
 ghost use Rattle.stream.specs.Reader.{windowSize};
 ghost use Rattle.sheet.specs.Turned.{gotOf, ReadBehind, isEnded, Between, Turned};
+ghost use Rattle.sheet.specs.Ran.{Ran};
 use buffer::Line;
 use libc::STDERR_FILENO;
 use libc::STDIN_FILENO;
@@ -82,7 +83,7 @@ fn turn(
     out: &mut [u8; OUT],
 ) -> Next
     requires { ⌜ Between reader left (now state) × (windowSize ≤ left) ⌝ }
-    ensures { λ r. ⌜ Turned reader (now (state .entry)) (now (window .entry)) left r (now (state .exit)) (now (window .exit)) ⌝ }
+    ensures { λ r. ⌜ Turned reader (now (state .entry)) (now (window .entry)) (now (out .entry)) left r (now (state .exit)) (now (window .exit)) (now (out .exit)) ⌝ }
 {
     let have = reader.have;
     let got = read_behind(window, have);
@@ -109,7 +110,9 @@ fn too_long() {
     io::write_all(STDERR_FILENO, b"sheet: input too long\n");
 }
 
-fn run(state: &mut [u8; Line::STATE_SIZE], window: &mut [u8; WINDOW], out: &mut [u8; OUT]) {
+fn run(state: &mut [u8; Line::STATE_SIZE], window: &mut [u8; WINDOW], out: &mut [u8; OUT])
+    ensures { λ _. ⌜ Ran (now (state .entry)) (now (window .entry)) (now (out .entry)) (now (state .exit)) (now (window .exit)) (now (out .exit)) ⌝ }
+{
     let mut reader = stream::begin(out);
     if !write(out, reader.wrote) {
         return;

@@ -8,3 +8,4 @@ pub mod PlanningLaws
 pub mod ReaderLaws
 -- The blocks make no difference.
 pub mod BlocksLaws
+pub mod CallsLaws

@@ -16,7 +16,7 @@ mod frames;
 // A plan or a frame of 65,535 bytes fits the window, and one byte more (`windowSize`).
 pub const WINDOW: usize = 65_536;
 
-// What a window's frames give fits the output, and the nodes behind it (`outSize`): at most 34 bytes for each 5 read, and `report::TEXT_MOST`.
+// What a window's frames give fits the output, and the nodes behind it (`outSize`): at most 34 bytes for each 5 read, and the nodes' text (`textMost` in the crate `report`).
 pub const OUT: usize = 524_288;
 
 pub enum Phase {

@@ -1,12 +1,14 @@
 use native.Mathlib.Omega.{arith}
 use borrow.Author.Needs.{needs}
+use Rattle.sheet.specs.declared.Next.the-variants.{On, Stop}
 use Rattle.sheet.specs.Turned.{Between}
-use Rattle.sheet.proofs.TurnLaws.{turned-on, first-holding}
+use Rattle.sheet.specs.Ran.{Turns, none, more, stopped, cut-off}
+use Rattle.sheet.proofs.TurnLaws.{turned-as, first-holding}
 use Rattle.sheet.proofs.run.Statement.{statement}
 use Rattle.sheet.proofs.run.Tie as tie
 
 abbrev Inv-loop : tie.InvT-loop
-Inv-loop state₀ window₀ out₀ reader₀ left₀ state window out reader left = Between reader left state
+Inv-loop state₀ window₀ out₀ reader₀ left₀ state window out reader left = Between reader left state × Turns reader₀ state₀ window₀ out₀ reader state window out
 
 abbrev μ-loop : tie.MeasureT-loop
 μ-loop state₀ window₀ out₀ reader₀ left₀ state window out reader left = left
@@ -15,22 +17,42 @@ loop-holds : tie.Need-loop-holds Inv-loop μ-loop
 loop-holds c =
     let begun = c .before .before .before .before in
     let b = begun .begin .ensures in
-    let r = begun .begin .result in
-    record { holding = first-holding (r .phase) (r .count) (begun .before .before .args .state .now) (b .phase) (b .count); room = omega (arith, b .have); few = omega (arith, b .have, b .count) }
+    let r = begun .begin .result in (
+      record { holding = first-holding (r .phase) (r .count) (begun .before .before .args .state .now) (b .phase) (b .count); room = omega (arith, b .have); few = omega (arith, b .have, b .count) },
+      none,
+    )
 
 loop-less : tie.Need-loop-less Inv-loop μ-loop
 loop-less c =
     let turned = c .before .before .before in
     let t = c .before .t .given in
     let v = turned .before .before .before .before .before .loop in
-    turned-on (v .reader) (v .state) (v .window) (v .left) (t .0 .0) (t .0 .1 .0) (turned .turn .last .1 .1 .0) (turned .turn .last .1 .1 .1 .0) (t .1) (turned .turn .ensures) .1
+    turned-as (v .reader) (v .state) (v .window) (v .out) (v .left) (On (t .0 .0) (t .0 .1 .0)) (turned .turn .last .1 .1 .0) (turned .turn .last .1 .1 .1 .0) (turned .turn .last .1 .1 .1 .1 .0) (t .1) (turned .turn .ensures) .1
 
 loop-again : tie.Need-loop-again Inv-loop μ-loop
 loop-again c =
     let turned = c .before .before .before in
     let t = c .before .t .given in
     let v = turned .before .before .before .before .before .loop in
-    turned-on (v .reader) (v .state) (v .window) (v .left) (t .0 .0) (t .0 .1 .0) (turned .turn .last .1 .1 .0) (turned .turn .last .1 .1 .1 .0) (t .1) (turned .turn .ensures) .0
+    let on =
+    turned-as (v .reader) (v .state) (v .window) (v .out) (v .left) (On (t .0 .0) (t .0 .1 .0)) (turned .turn .last .1 .1 .0) (turned .turn .last .1 .1 .1 .0) (turned .turn .last .1 .1 .1 .1 .0) (t .1) (turned .turn .ensures) in
+    (on .0, more (v .inv .1) (on .2))
+
+returns : tie.Need-returns Inv-loop μ-loop
+returns c = cut-off (c .before .before .before .before .begin .ensures) none
+
+returns-2 : tie.Need-returns-2 Inv-loop μ-loop
+returns-2 c =
+    let turned = c .before .before in
+    let looped = turned .before .before .before .before .before in
+    let v = looped .loop in
+    stopped (looped .before .before .before .before .before .begin .ensures) (v .inv .1)
+    (turned-as (v .reader) (v .state) (v .window) (v .out) (v .left) Stop (turned .turn .last .1 .1 .0) (turned .turn .last .1 .1 .1 .0) (turned .turn .last .1 .1 .1 .1 .0) (c .enum-told .given .1) (turned .turn .ensures))
+
+returns-3 : tie.Need-returns-3 Inv-loop μ-loop
+returns-3 c =
+    let looped = c .before .before in
+    cut-off (looped .before .before .before .before .before .begin .ensures) (looped .loop .inv .1)
 
 pub run-spec : {M : Type 1} → statement M
 run-spec =
@@ -40,13 +62,13 @@ run-spec =
     μ-loop
     (λ c κs. search needs)
     (λ c κs. search needs)
-    (λ c. search needs)
+    returns
     loop-holds
     (λ c κs. search needs)
     (λ c. search needs)
     (λ c. search needs)
-    (λ c. search needs)
+    returns-2
     loop-less
     loop-again
     (λ c κs. search needs)
-    (λ c. search needs))
+    returns-3)

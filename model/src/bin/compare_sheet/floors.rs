@@ -11,6 +11,7 @@ pub mod section {
 }
 
 pub mod kind {
+    pub const KEPT: &str = "kept in model/vectors, in pieces of every size";
     pub const RIGHT: &str = "mostly accepted, with crashes and replays";
     pub const SLIPPED: &str = "typed with slips";
     pub const RAW: &str = "raw bytes";
@@ -66,6 +67,7 @@ pub fn all() -> Vec<Floor> {
         ],
     );
     floors.extend(under(section::SHEETS, 200, [kind::LIMITS, kind::LONG]));
+    floors.extend(under(section::SHEETS, 90, [kind::KEPT]));
     floors.extend(under(section::SHEETS, 33, [kind::MANY]));
     floors.extend(under(section::SHEETS, 1, [kind::MILLION]));
     floors.extend(under(section::PIECES, 20_000, [WHOLE]));

@@ -6,7 +6,8 @@
 mod floors;
 mod program;
 
-use std::{env, thread};
+use std::path::Path;
+use std::{env, fs, io, thread};
 
 use model::compare::{self, answer, Counts};
 use model::random::Random;
@@ -26,7 +27,7 @@ const LONG: usize = 400;
 /// Short sheets: each is cut at every byte and has its length fields changed.
 const SHORT: usize = 40;
 const SHORT_LENGTH: usize = 160;
-/// No sheet is passed in more pieces than these.
+/// No made-up sheet is passed in more pieces than these.
 const MOST_PIECES: usize = 1_300;
 
 fn main() {
@@ -54,6 +55,10 @@ fn worked(program: &str, number: usize) -> Counts {
     };
     let random = &mut Random::new(number as u64);
     let share = |of: usize| (number..of).step_by(WORKERS);
+    let kept = kept().expect("the folders of kept sheets");
+    for place in share(kept.len()) {
+        work.compare_in_all(kind::KEPT, &kept[place]);
+    }
     for _ in share(RIGHT) {
         work.compare(kind::RIGHT, &practice::right(random));
     }
@@ -87,6 +92,25 @@ fn worked(program: &str, number: usize) -> Counts {
     work.counts
 }
 
+/// What is read for the kept sheets.
+fn kept() -> io::Result<Vec<Vec<u8>>> {
+    let mut sheets = Vec::new();
+    for folder in ["own", "sheets"] {
+        let vectors = Path::new(env!("CARGO_MANIFEST_DIR")).join("vectors");
+        for file in fs::read_dir(vectors.join(folder))? {
+            let path = file?.path();
+            if path.extension().is_some_and(|end| end == "in") {
+                sheets.push(fs::read(path)?);
+            }
+        }
+    }
+    // The workers have to agree on the order.
+    sheets.sort();
+    Ok(sheets)
+}
+
+type Piece = (&'static str, usize);
+
 struct Work<'a> {
     program: &'a str,
     counts: Counts,
@@ -95,19 +119,35 @@ struct Work<'a> {
 }
 
 impl Work<'_> {
+    /// Whole, and in one kind of pieces.
     fn compare(&mut self, kind: &'static str, input: &[u8]) {
-        let text = sheet(input);
-        if sheet_in_place(input) != text {
-            compare::fail(kind, "the model's two sheets differ", input);
-        }
-        let fit: Vec<(&str, usize)> = PIECES
+        let fit: Vec<Piece> = PIECES
             .into_iter()
             .filter(|&(_, piece)| piece < input.len())
             .filter(|&(_, piece)| input.len() <= MOST_PIECES * piece)
             .collect();
         self.passed += 1;
-        let pieces = fit.get(self.passed % fit.len().max(1));
-        for &(name, piece) in [(WHOLE, usize::MAX)].iter().chain(pieces) {
+        let pieces = fit.get(self.passed % fit.len().max(1)).copied();
+        self.compare_in(kind, input, pieces);
+    }
+
+    /// Whole, and in every kind of pieces that are shorter.
+    fn compare_in_all(&mut self, kind: &'static str, input: &[u8]) {
+        let shorter = PIECES.into_iter().filter(|&(_, piece)| piece < input.len());
+        self.compare_in(kind, input, shorter);
+    }
+
+    fn compare_in(
+        &mut self,
+        kind: &'static str,
+        input: &[u8],
+        pieces: impl IntoIterator<Item = Piece>,
+    ) {
+        let text = sheet(input);
+        if sheet_in_place(input) != text {
+            compare::fail(kind, "the model's two sheets differ", input);
+        }
+        for (name, piece) in [(WHOLE, usize::MAX)].into_iter().chain(pieces) {
             match program::written(self.program, input, piece) {
                 Ok(written) if written == text => self.counts.add(section::PIECES, name),
                 Ok(_) => compare::fail(kind, &format!("{name}: another text"), input),
