@@ -20,3 +20,5 @@ pub mod undamaged
 -- A crashed node can always come back.
 pub mod restart
 pub mod AlwaysBack
+-- Consoles: who sends a step does not matter to the line, and frames of version 1 are answered as before.
+pub mod console
