@@ -1,6 +1,7 @@
 // A step on a state that holds an undamaged line (document 01, "Clocks and steps"). The state is not looked through again: whoever calls it holds a line, and holds one afterwards.
 ghost use Prim.Native.Nat.{_<_};
-ghost use Rattle.rules.specs.Line.{stepLimit, counted};
+ghost use mathlib.Core.Path.{_≡_};
+ghost use Rattle.rules.specs.Line.{stepLimit, consoleCount, stepsFrom, counted};
 ghost use Rattle.rules.specs.Frame as frames;
 ghost use Rattle.state.specs.State.{lineOf};
 ghost use Rattle.buffer.specs.Holds.{Holds, Undamaged, Did};
@@ -46,16 +47,24 @@ fn asked(s: &mut [u8], f: Frame) -> u32
     }
 }
 
-// One more accepted step.
-fn count_step(s: &mut [u8])
-    requires { ⌜ Holds (now s) (lineOf (now s)) × (lineOf (now s) .steps < stepLimit) ⌝ }
-    ensures { λ _. ⌜ Holds (now (s .exit)) (counted (lineOf (now (s .entry)))) ⌝ }
+// The steps accepted from a console.
+fn steps_from(s: &[u8], console: usize) -> u32
+    requires { ⌜ Holds (now s) (lineOf (now s)) × (console < consoleCount) ⌝ }
+    ensures { λ r. ⌜ r ≡ stepsFrom (lineOf (now (s .entry))) console ⌝ }
 {
-    let steps = bytes::get32(s, layout::STEPS);
-    bytes::put32(s, layout::STEPS, steps + 1);
+    bytes::get32(s, layout::STEPS + layout::COUNT * console)
 }
 
-// A frame passed to such a state: 9 to 21, 24 or 0.
+// One more step accepted from it.
+fn count_step(s: &mut [u8], console: usize)
+    requires { ⌜ Holds (now s) (lineOf (now s)) × (console < consoleCount) × (stepsFrom (lineOf (now s)) console < stepLimit) ⌝ }
+    ensures { λ _. ⌜ Holds (now (s .exit)) (counted console (lineOf (now (s .entry)))) ⌝ }
+{
+    let steps = steps_from(s, console);
+    bytes::put32(s, layout::STEPS + layout::COUNT * console, steps + 1);
+}
+
+// A frame passed to such a state: 9 to 21, 24, 25 or 0.
 pub fn step(s: &mut [u8], frame: &[u8]) -> u32
     requires { ⌜ Undamaged (now s) ⌝ }
     ensures { λ r. ⌜ Stepped (now (s .entry)) (now (frame .entry)) (now (s .exit)) r ⌝ }
@@ -64,13 +73,14 @@ pub fn step(s: &mut [u8], frame: &[u8]) -> u32
     if refusal != 0 {
         return refusal;
     }
-    if Line::STEP_LIMIT <= bytes::get32(s, layout::STEPS) {
+    let console = frame::console_of(frame);
+    if Line::STEP_LIMIT <= steps_from(s, console) {
         return 12;
     }
     let number = asked(s, frame::frame_of(frame));
     if number != 0 {
         return number;
     }
-    count_step(s);
+    count_step(s, console);
     number
 }
