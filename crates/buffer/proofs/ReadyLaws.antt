@@ -12,16 +12,17 @@ use Rattle.plan.specs.Plan.{planOf, planNodes, channelCount, channelAt, enterin
 use Rattle.plan.proofs.FitsLaws.{fitting}
 use Rattle.plan.proofs.PlanLaws.{node-count, channel-count}
 use Rattle.plan.proofs.ReadLaws.{byte-field}
-use Rattle.rules.specs.Line.{nodeAt, isDown, isReplay, parents}
+use Rattle.rules.specs.Line.{nodeAt, isDown, isReplay, parents, consoleCount, stepsFrom}
 use Rattle.rules.specs.Step.{nodeDown, replaying}
 use Rattle.rules.proofs.steps.PlanOrder.{ordered-channels}
-use Rattle.state.specs.Sizes.{pageAt}
+use Rattle.state.specs.Sizes.{pageAt, stepsOfAt}
 use Rattle.state.specs.Node.{statusOf, crashOf}
 use Rattle.state.specs.Lane.{heardCount}
 use Rattle.state.specs.State.{lineOf}
-use Rattle.state.proofs.InPlace.{Counted}
+use Rattle.state.proofs.InPlace.{Counted, line-counts}
 use Rattle.state.proofs.OffsetLaws.{line-status, line-crashed}
 use Rattle.buffer.specs.Ready.{Ready, OnChannel}
+use Rattle.state.specs.Right.{wordAt, countsIn}
 
 pub counted : {s : List ℕ} → Ready s → Counted s
 counted r = record { nodes = r .nodes; channels = r .channels }
@@ -71,3 +72,14 @@ module _ (s : List ℕ) (b : ℕ) (on : OnChannel s b) where
   pub heard-entering : length (entering (planOf s) (channelAt (planOf s) b .sender)) ≡ heardCount (planOf s) (channelAt (planOf s) b)
   unfolding heardCount parents
   heard-entering = sym (length-map (entering (planOf s) (channelAt (planOf s) b .sender)) (λ (c : ℕ). channelAt (planOf s) c .sender))
+
+-- Each console's count.
+pub count-read : (s : List ℕ) → Ready s → (c : ℕ) → c < consoleCount → stepsFrom (lineOf s) c ≡ wordAt (stepsOfAt c) s
+count-read s h c inside = ap (λ (ks : List ℕ). getD ks c 0) (line-counts s (counted h)) ∙ four c inside
+  where
+    four : (c : ℕ) → c < consoleCount → getD (countsIn s) c 0 ≡ wordAt (stepsOfAt c) s
+    four zero h = refl
+    four (suc zero) h = refl
+    four (suc (suc zero)) h = refl
+    four (suc (suc (suc zero))) h = refl
+    four (suc (suc (suc (suc c)))) h = let no : ⊥ = omega arith in absurd no

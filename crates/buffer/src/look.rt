@@ -2,7 +2,7 @@
 ghost use mathlib.Core.Path.{_≡_};
 ghost use Prim.Native.Nat.{_+_, _≤_, _<_};
 ghost use Rattle.plan.specs.Plan.{planOf, planNodes, planChannels, channelAt, isSource, isSink};
-ghost use Rattle.rules.specs.Line.{nodeAt};
+ghost use Rattle.rules.specs.Line.{consoleCount, stepsFrom, nodeAt};
 ghost use Rattle.rules.specs.Step.{nodeDown, replaying};
 ghost use Rattle.state.specs.State.{lineOf};
 ghost use Rattle.buffer.specs.Ready.{Ready, OnChannel};
@@ -94,4 +94,12 @@ pub fn has_crashed(s: &[u8], n: usize) -> bool
     ensures { λ r. ⌜ r ≡ nodeAt (lineOf (now (s .entry))) n .crashed ⌝ }
 {
     0 < bytes::get8(s, layout::PAGE * (1 + n) + 1)
+}
+
+// The steps accepted from a console.
+pub fn steps_from(s: &[u8], console: usize) -> u32
+    requires { ⌜ Ready (now s) × (console < consoleCount) ⌝ }
+    ensures { λ r. ⌜ r ≡ stepsFrom (lineOf (now (s .entry))) console ⌝ }
+{
+    bytes::get32(s, layout::STEPS + layout::COUNT * console)
 }

@@ -2,11 +2,11 @@
 use Prim.Native.Nat.{ℕ, suc, _+_, _*_, _-_, _≤_, _<_}
 use mathlib.Core.Path.{_≡_, refl, sym, ap, _∙_}
 use mathlib.Core.Bool.{Bool, true, false, _&&_, and-assoc, and-true}
-use mathlib.Core.List.{List}
+use mathlib.Core.List.{List, [], _∷_}
 use native.Mathlib.Nat.{sub-zero}
 use native.Mathlib.Numerals.{add-one}
 use native.Mathlib.Omega.{arith}
-use borrow.Author.Tests.{ne-eqb}
+use borrow.Author.Tests.{ne-eqb, leb-true}
 use lib.Dec.{leb}
 use lib.ListN.{length, getD, take, length-take}
 use Rattle.basics.specs.Bools.{both-true, and-left}
@@ -16,12 +16,12 @@ use Rattle.plan.specs.Check.{planRefusal}
 use Rattle.plan.proofs.PlanLaws.{plan-size}
 use Rattle.plan.proofs.ReadLaws.{nodes-byte, channels-byte}
 use Rattle.rules.specs.Lists.{allOf, upTo}
-use Rattle.rules.specs.Line.{stepLimit}
+use Rattle.rules.specs.Line.{stepLimit, stepsFrom, acceptedSteps}
 use Rattle.rules.specs.Step.{replaying}
-use Rattle.state.specs.Sizes.{stateSize, pageSize, planArea, stepsAt, countSize, stepsRest, nodePages, pageAt, laneBlocks, blockSize, blocksAt, blockAt, tailAt, tailSize}
+use Rattle.state.specs.Sizes.{stateSize, pageSize, planArea, stepsAt, stepsRest, nodePages, pageAt, laneBlocks, blockSize, blocksAt, blockAt, tailAt, tailSize, stepsSize}
 use Rattle.state.specs.State.{lineOf}
 use Rattle.state.proofs.StoredPlan.{storedPlan, stored-accepted}
-use Rattle.items.specs.Items.{replayRight, nodePlain, replayAsked}
+use Rattle.items.specs.Items.{replayRight, nodePlain, replayAsked, stepsRight}
 use Rattle.buffer.specs.Exact.{zeroAt, pageExact}
 use Rattle.buffer.specs.Ready.{Ready}
 use Rattle.line.specs.Whole.{PagesRight, planExact, restExact, nodeChecked, channelChecked, stateChecked}
@@ -29,6 +29,9 @@ use Rattle.line.proofs.LoadLaws.{plan-short}
 use Rattle.line.proofs.ExactLaws.{page-stands}
 use Rattle.state.proofs.PlanFitting.{fits-counted}
 use Rattle.line.proofs.WholeLaws.{all-stands, plan-stands}
+use Rattle.plan.specs.Layout.{sumOf}
+use Rattle.state.proofs.InPlace.{Counted, line-counts}
+use Rattle.items.proofs.Tests.{all-at}
 
 -- The stored plan: the part of the state from 0 up to its size.
 pub plan-sized : (s : List ℕ) (n m : ℕ) → n ≡ getD s 3 0 → m ≡ getD s 4 0 → 5 + 4 * n + 6 * m ≡ planSize (planNodes s) (planChannels s)
@@ -54,7 +57,7 @@ module _ (s : List ℕ) (size : ℕ) (is : size ≡ planSize (planNodes s) (plan
 
 -- What the plan leaves unused: as far as the pages, the blocks and the state go.
 pub rest-found : (s : List ℕ) (n m : ℕ) {a b c d : Bool} → n ≡ planNodes s → m ≡ planChannels s → n ≤ nodePages → m ≤ laneBlocks
-    → a ≡ zeroAt (stepsAt + countSize) stepsRest s → b ≡ zeroAt (pageAt n) (blocksAt - pageAt n) s → c ≡ zeroAt (blockAt m) (tailAt - blockAt m) s → d ≡ zeroAt tailAt tailSize s
+    → a ≡ zeroAt (stepsAt + stepsSize) stepsRest s → b ≡ zeroAt (pageAt n) (blocksAt - pageAt n) s → c ≡ zeroAt (blockAt m) (tailAt - blockAt m) s → d ≡ zeroAt tailAt tailSize s
     → (a && b && c && d) ≡ restExact s
 unfolding restExact
 rest-found s n m e f few few′ a b c d =
@@ -98,18 +101,50 @@ pub replay-some : (s : List ℕ) (k : ℕ) → replaying (lineOf s) k ≡ true �
 unfolding replayAsked
 replay-some s k e = rw e refl
 
+-- The counts, one for each console: tested, and added up.
+module _ (s : List ℕ) (few : Counted s) where
+  abbrev count : ℕ → ℕ
+  count c = stepsFrom (lineOf s) c
+
+  four-counts : lineOf s .steps ≡ count 0 ∷ count 1 ∷ count 2 ∷ count 3 ∷ []
+  four-counts = rw (line-counts s few)
+
+  pub steps-tested : (leb (stepsFrom (lineOf s) 0) stepLimit && (leb (stepsFrom (lineOf s) 1) stepLimit && (leb (stepsFrom (lineOf s) 2) stepLimit && leb (stepsFrom (lineOf s) 3) stepLimit))) ≡ stepsRight (lineOf s .steps)
+  steps-tested = one (leb (count 0) stepLimit) (leb (count 1) stepLimit) (leb (count 2) stepLimit) (leb (count 3) stepLimit) ∙ ap stepsRight (sym four-counts)
+    where
+      one : (x y z w : Bool) → (x && (y && (z && w))) ≡ (x && (y && (z && (w && true))))
+      one true true true true = refl
+      one true true true false = refl
+      one true true false w = refl
+      one true false z w = refl
+      one false y z w = refl
+
+  pub steps-added : stepsFrom (lineOf s) 0 + (stepsFrom (lineOf s) 1 + (stepsFrom (lineOf s) 2 + stepsFrom (lineOf s) 3)) ≡ acceptedSteps (lineOf s)
+  steps-added = let sum = ap sumOf four-counts in omega arith
+
+  pub steps-within : stepsRight (lineOf s .steps) ≡ true → (c : ℕ) → stepsFrom (lineOf s) c ≤ stepLimit
+  steps-within e c = leb-true (count c) stepLimit (all-at (λ (k : ℕ). leb k stepLimit) (lineOf s .steps) c 0 refl e)
+
+pub steps-wrong : (s : List ℕ) → planExact s ≡ true → stepsRight (lineOf s .steps) ≡ false → false ≡ stateChecked s
+unfolding stateChecked
+steps-wrong s plan e = rw (plan, e) (one (restExact s))
+  where
+    one : (t : Bool) → false ≡ (t && false && allOf (nodeChecked s) (upTo 0 (planNodes s)) && allOf (channelChecked s) (upTo 0 (planChannels s)) && allOf (replayAsked (lineOf s)) (upTo 0 (planNodes s)))
+    one true = refl
+    one false = refl
+
 pub plan-wrong : (s : List ℕ) → planExact s ≡ false → false ≡ stateChecked s
 unfolding stateChecked
 plan-wrong s e = rw e refl
 
-module _ (s : List ℕ) (n m steps : ℕ) {rest nodes channels : Bool} (plan : planExact s ≡ true) (same : n ≡ planNodes s) (same′ : m ≡ planChannels s) (count : steps ≡ lineOf s .steps)
+module _ (s : List ℕ) (n m : ℕ) {rest nodes channels : Bool} (plan : planExact s ≡ true) (same : n ≡ planNodes s) (same′ : m ≡ planChannels s) (within : stepsRight (lineOf s .steps) ≡ true)
     (a : rest ≡ restExact s) (b : nodes ≡ allOf (nodeChecked s) (upTo 0 n)) (c : channels ≡ allOf (channelChecked s) (upTo 0 m)) where
   abbrev found : Bool
-  found = rest && leb steps stepLimit && nodes && channels
+  found = rest && nodes && channels
 
   found-is : stateChecked s ≡ (found && allOf (replayAsked (lineOf s)) (upTo 0 n))
   unfolding stateChecked
-  found-is = rw (plan, a, b, c, count, same, same′) refl
+  found-is = rw (plan, a, b, c, within, and-true (restExact s), same, same′) refl
 
   pub found-wrong : found ≡ false → false ≡ stateChecked s
   found-wrong e = sym (found-is ∙ rw e refl)
@@ -121,5 +156,5 @@ module _ (s : List ℕ) (n m steps : ℕ) {rest nodes channels : Bool} (plan : p
   pub found-pages : found ≡ true → PagesRight s
   unfolding nodeChecked
   found-pages e k h =
-      let all : allOf (nodeChecked s) (upTo 0 n) ≡ true = sym b ∙ both-true (rest && leb steps stepLimit) nodes (and-left (rest && leb steps stepLimit && nodes) channels e) .1 in
+      let all : allOf (nodeChecked s) (upTo 0 n) ≡ true = sym b ∙ both-true rest nodes (and-left (rest && nodes) channels e) .1 in
       page-stands s (pageAt k) .0 (and-left (pageExact (pageAt k) s) (nodePlain (lineOf s) k) (all-stands (nodeChecked s) n .0 all k (omega arith)))

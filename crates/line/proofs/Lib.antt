@@ -10,3 +10,5 @@ pub mod StepRun
 pub mod OrderExamples
 -- A crashed node can always come back, on bytes.
 pub mod RestartRun
+-- A step does not depend on who sent it, on bytes.
+pub mod ConsoleRun

@@ -9,9 +9,9 @@ use borrow.Author.Tests.{eqb-true}
 use Rattle.plan.specs.Lawful.{Each, Bytes}
 use Rattle.plan.specs.Plan.{Plan, channelCount, entering}
 use Rattle.plan.proofs.FitsLaws.{fitting}
-use Rattle.rules.specs.Line.{Status, up, down, replay, Line, nodeAt}
+use Rattle.rules.specs.Line.{consoleCount, Status, up, down, replay, Line, nodeAt}
 use Rattle.rules.specs.Claim.{Story, named}
-use Rattle.rules.specs.Restart.{OnEntering, no-more, send-next, take-next, Restarting, ComesBack, NeverStuck}
+use Rattle.rules.specs.Restart.{Caller, unnamed, console, consoleOf, frameFrom, OnEntering, no-more, send-next, take-next, Restarting, ComesBack, NeverStuck}
 use Rattle.rules.proofs.AlwaysBack.{always-back}
 use Rattle.rules.proofs.lists.Members.{any-in}
 use Rattle.rules.proofs.line.Joins.{entering-in}
@@ -28,14 +28,18 @@ use Rattle.line.proofs.StepLaws.{answer-undamaged, refusal-not-eight}
 use Rattle.line.proofs.StepRun.{as-told, run-of-lines}
 
 -- The frames of a restart are made of bytes.
-module _ (p : Plan) (n : ℕ) (few : channelCount p ≤ 24) where
+frame-bytes : (w : Caller) → consoleOf w < consoleCount → (kind x : ℕ) → kind < 256 → x < 256 → Bytes (frameFrom w kind x)
+frame-bytes unnamed h kind x k e = (omega arith, (omega arith, (omega arith, (k, (e, tt)))))
+frame-bytes (console c) h kind x k e = (omega arith, (omega arith, (omega arith, (k, (omega arith, (e, tt))))))
+
+module _ (p : Plan) (w : Caller) (listed : consoleOf w < consoleCount) (n : ℕ) (few : channelCount p ≤ 24) where
   named-small : (b : ℕ) → named b (entering p n) ≡ true → b < 256
   named-small b e = let (c, i, q) = any-in (eqb b) (entering p n) e in omega (arith, eqb-true b c q, entering-in p n c i .0)
 
-  entering-bytes : {frames : List (List ℕ)} → OnEntering p n frames → Each Bytes frames
+  entering-bytes : {frames : List (List ℕ)} → OnEntering p w n frames → Each Bytes frames
   entering-bytes no-more = tt
-  entering-bytes (send-next {b} e r) = ((omega arith, (omega arith, (omega arith, (omega arith, (named-small b e, tt))))), entering-bytes r)
-  entering-bytes (take-next {b} e r) = ((omega arith, (omega arith, (omega arith, (omega arith, (named-small b e, tt))))), entering-bytes r)
+  entering-bytes (send-next b e r) = (frame-bytes w listed 2 b (omega arith) (named-small b e), entering-bytes r)
+  entering-bytes (take-next b e r) = (frame-bytes w listed 3 b (omega arith) (named-small b e), entering-bytes r)
 
 module _ (state : List ℕ) (z : stateAnswer state ≡ 0) where
   abbrev l : Line
@@ -44,8 +48,8 @@ module _ (state : List ℕ) (z : stateAnswer state ≡ 0) where
   standing : Standing l
   standing = undamaged-sound l (state-sane state .0 z .undamaged) .standing
 
-  restart-bytes : (n : ℕ) (frames : List (List ℕ)) → Restarting (l .plan) n (nodeAt l n .status) frames → Each Bytes frames
-  restart-bytes n frames = go (nodeAt l n .status) refl
+  restart-bytes : (w : Caller) → consoleOf w < consoleCount → (n : ℕ) (frames : List (List ℕ)) → Restarting (l .plan) w n (nodeAt l n .status) frames → Each Bytes frames
+  restart-bytes w listed n frames = go (nodeAt l n .status) refl
     where
       few : channelCount (l .plan) ≤ 24
       few = fitting (l .plan) (standing .plan-fits) .channelsMost
@@ -53,15 +57,15 @@ module _ (state : List ℕ) (z : stateAnswer state ≡ 0) where
       small : nodeAt l n .status ≡ down → n < 256
       small q = omega (arith, not-up-inside (standing .shape) n (λ e. up-not-down (sym e ∙ q)), fitting (l .plan) (standing .plan-fits) .nodesMost)
 
-      go : (s : Status) → nodeAt l n .status ≡ s → Restarting (l .plan) n s frames → Each Bytes frames
-      go up q shape = entering-bytes (l .plan) n few shape
-      go replay q shape = entering-bytes (l .plan) n few shape
-      go down q (rest, is, shape) = subst (Each Bytes) (sym is) ((omega arith, (omega arith, (omega arith, (omega arith, (small q, tt))))), entering-bytes (l .plan) n few shape)
+      go : (s : Status) → nodeAt l n .status ≡ s → Restarting (l .plan) w n s frames → Each Bytes frames
+      go up q shape = entering-bytes (l .plan) w listed n few shape
+      go replay q shape = entering-bytes (l .plan) w listed n few shape
+      go down q (rest, is, shape) = subst (Each Bytes) (sym is) (frame-bytes w listed 5 n (omega arith) (small q), entering-bytes (l .plan) w listed n few shape)
 
-  back-on-bytes : (n : ℕ) → ComesBack l n → ComesBackOnBytes state n
+  back-on-bytes : (w : Caller) → consoleOf w < consoleCount → (n : ℕ) → ComesBack l w n → ComesBackOnBytes state w n
   unfolding storyOf
-  back-on-bytes n c =
-      let bytes = restart-bytes n (c .frames) (c .shape) in
+  back-on-bytes w listed n c =
+      let bytes = restart-bytes w listed n (c .frames) (c .shape) in
       let told = as-told (c .frames) state bytes z .story in
       record {
         frames = c .frames;
@@ -77,9 +81,13 @@ module _ (state : List ℕ) (z : stateAnswer state ≡ 0) where
       record {
         sound = λ f e. refusal-not-eight l f (sym (answer-undamaged state f z) ∙ e);
         placed = λ f e. s .placed f (sym (answer-undamaged state f z) ∙ e);
-        recovers = λ n e. answer-undamaged state _ z ∙ s .recovers n e;
-        replays = λ b r o q. answer-undamaged state _ z ∙ s .replays b r o q;
-        comes-back = λ n h. back-on-bytes n (s .comes-back n h);
+        asked = λ w listed.
+            (let t = s .asked w listed in
+            record {
+              recovers = λ n e. answer-undamaged state _ z ∙ t .recovers n e;
+              replays = λ b r o q. answer-undamaged state _ z ∙ t .replays b r o q;
+              comes-back = λ n h. back-on-bytes w listed n (t .comes-back n h);
+            });
       }
 
 pub always-back-on-bytes : AlwaysBackOnBytes

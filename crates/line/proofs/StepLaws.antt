@@ -10,10 +10,10 @@ use borrow.Author.Tests.{ne-eqb}
 use lib.Dec.{eqb}
 use Rattle.plan.specs.Lawful.{Bytes}
 use Rattle.rules.specs.Line.{Line}
-use Rattle.rules.specs.Frame.{Frame, frameOf, badFrameLength, badFrameVersion, badKind}
-use Rattle.rules.specs.Step.{noStepsLeft, noSuch, wrongNode, wrongStatus, besideCrashed, badRecord, nothingThere, queueFull, rowDone, noSpace, noPlacing, lineRefusal, refusal, accepted, step}
+use Rattle.rules.specs.Frame.{Frame, frameOf}
+use Rattle.rules.specs.Step.{noSuch, wrongNode, wrongStatus, besideCrashed, badRecord, nothingThere, queueFull, rowDone, noSpace, noPlacing, lineRefusal, refusal, accepted, step}
 use Rattle.rules.specs.Damaged.{damaged}
-use Rattle.rules.proofs.theorem.Accepted.{step-refused as rules-refused}
+use Rattle.rules.proofs.theorem.Accepted.{step-refused as rules-refused, heard}
 use Rattle.rules.proofs.undamaged.StepSound.{step-undamaged}
 use Rattle.state.specs.State.{lineBytes, lineOf, stateAnswer}
 use Rattle.state.proofs.LineLaws.{line-read}
@@ -21,6 +21,7 @@ use Rattle.state.proofs.SpelledLaws.{state-sane}
 use Rattle.state.proofs.AcceptedState.{undamaged-accepted}
 use Rattle.state.proofs.Undamaged.{undamaged-fits}
 use Rattle.line.specs.Step.{stepAnswer, stepLeft}
+use Rattle.rules.proofs.console.Counted.{step-number}
 
 abbrev pick : {A : Type 0} → Bool → A → A → A
 pick b x y = elim b [ true ↦ x | false ↦ y ]
@@ -41,8 +42,7 @@ beyond false k n h d e = d e
 line-not-eight : (l : Line) (f : Frame) → lineRefusal l f ≢ 8
 unfolding lineRefusal
 line-not-eight l f =
-    beyond (noStepsLeft l) 12 _ (omega arith)
-    (beyond (noSuch l f) 13 _ (omega arith)
+    beyond (noSuch l f) 13 _ (omega arith)
     (beyond (wrongNode l f) 14 _ (omega arith)
     (beyond (wrongStatus l f) 15 _ (omega arith)
     (beyond (besideCrashed l f) 16 _ (omega arith)
@@ -51,12 +51,10 @@ line-not-eight l f =
     (beyond (queueFull l f) 19 _ (omega arith)
     (beyond (rowDone l f) 20 _ (omega arith)
     (beyond (noSpace l f) 21 _ (omega arith)
-    (beyond (noPlacing l f) 24 0 (omega arith) (λ e. omega arith)))))))))))
+    (beyond (noPlacing l f) 24 0 (omega arith) (λ e. omega arith))))))))))
 
 pub refusal-not-eight : (l : Line) (f : List ℕ) → refusal l f ≢ 8
-unfolding refusal
-refusal-not-eight l f =
-    beyond (badFrameLength f) 9 _ (omega arith) (beyond (badFrameVersion f) 10 _ (omega arith) (beyond (badKind f) 11 _ (omega arith) (line-not-eight l (frameOf f))))
+refusal-not-eight l f e = line-not-eight l (frameOf f) (heard l f 8 (λ z. omega arith, (λ z. omega arith, (λ z. omega arith, (λ z. omega arith, (λ z. omega arith, tt))))) e .answer)
 
 -- ---- Step
 
@@ -87,10 +85,6 @@ pub record OneCall (s f : List ℕ) : Type 0 where
   pub left : stepLeft s f ≡ lineBytes (step (lineOf s) f .line)
   pub accepted : stateAnswer (stepLeft s f) ≡ 0
   pub line : lineOf (stepLeft s f) ≡ step (lineOf s) f .line
-
-pub step-number : (l : Line) (f : List ℕ) → step l f .number ≡ refusal l f
-unfolding step
-step-number l f = elim (ℕ-discrete (refusal l f) 0) [ yes e ↦ rw (e, step) refl | no d ↦ rw (ne-eqb (refusal l f) 0 d, step) refl ]
 
 module _ (s f : List ℕ) (bytes : Bytes f) (z : stateAnswer s ≡ 0) where
   abbrev next : Line

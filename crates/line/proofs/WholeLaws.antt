@@ -5,7 +5,7 @@ use mathlib.Core.Bool.{Bool, true, false, not, _&&_, true≢false}
 use mathlib.Core.List.{List}
 use native.Mathlib.Omega.{arith}
 use lib.ListN.{length, take}
-use lib.Dec.{leb, eqb}
+use lib.Dec.{eqb}
 use borrow.Author.Tests.{eq-eqb}
 use Rattle.plan.specs.Lawful.{Bytes}
 use Rattle.plan.specs.Plan.{Plan, planOf, planBytes, planSize, planNodes, planChannels, nodeCount, channelCount, channelAt}
@@ -13,18 +13,18 @@ use Rattle.plan.specs.Check.{planRefusal, planFits}
 use Rattle.plan.proofs.PlanLaws.{node-count, channel-count}
 use Rattle.basics.specs.Bools.{both-true}
 use Rattle.rules.specs.Lists.{allOf, upTo}
-use Rattle.rules.specs.Line.{stepLimit, Line, laneAt, nodeNumbers, channelNumbersOf, parents, senderOf}
+use Rattle.rules.specs.Line.{Line, laneAt, nodeNumbers, channelNumbersOf, parents, senderOf, consoleCount}
 use Rattle.rules.specs.Damaged.{damaged}
 use Rattle.rules.proofs.lists.Members.{all-in, in-up-to}
-use Rattle.state.specs.Sizes.{stateSize, planArea, stepsAt, countSize, stepsRest, pageAt, pageSize, blockAt, blockSize, nodePages, laneBlocks, tailAt, tailSize}
+use Rattle.state.specs.Sizes.{stateSize, planArea, stepsAt, stepsRest, pageAt, pageSize, blockAt, blockSize, nodePages, laneBlocks, tailAt, tailSize, stepsSize}
 use Rattle.state.specs.Lane.{heardCount}
 use Rattle.state.specs.State.{lineOf, stateAnswer}
 use Rattle.state.specs.Right.{ZerosAt, StateRight}
-use Rattle.state.proofs.InPlace.{Counted, line-plan, nodes-counted, lanes-counted}
+use Rattle.state.proofs.InPlace.{Counted, line-plan, nodes-counted, lanes-counted, line-counts}
 use Rattle.state.proofs.PlanFitting.{fits-counted, few-heard, heard-long}
 use Rattle.state.proofs.StoredPlan.{storedPlan, stored-accepted}
 use Rattle.state.proofs.AcceptedState.{state-checked}
-use Rattle.items.specs.Items.{nodeRight, channelRight, shapeRight, lineRight, nodePlain, replayAsked}
+use Rattle.items.specs.Items.{nodeRight, channelRight, shapeRight, lineRight, nodePlain, replayAsked, stepsRight}
 use Rattle.items.proofs.LineItems.{line-items}
 use Rattle.buffer.specs.Exact.{pageExact, blockExact}
 use Rattle.line.specs.Whole.{planExact, restExact, nodeChecked, channelChecked, stateChecked}
@@ -54,15 +54,16 @@ module _ (s : List ℕ) (fits : planFits (planOf s) ≡ true) where
   shaped : shapeRight l ≡ true
   unfolding shapeRight heardCount
   shaped =
+      let steps : eqb (length (l .steps)) consoleCount ≡ true = ap (λ (ks : List ℕ). eqb (length ks) consoleCount) (line-counts s counted) in
       let nodes : eqb (length (l .nodes)) (nodeCount (l .plan)) ≡ true = eq-eqb (length (l .nodes)) (nodeCount (l .plan)) (nodes-counted s counted ∙ sym (node-count s) ∙ ap nodeCount (sym (line-plan s))) in
       let lanes : eqb (length (l .lanes)) (channelCount (l .plan)) ≡ true = eq-eqb (length (l .lanes)) (channelCount (l .plan)) (lanes-counted s counted ∙ sym (channel-count s) ∙ ap channelCount (sym (line-plan s))) in
-      rw (nodes, lanes)
+      rw (steps, nodes, lanes)
       (all-stands (λ (b : ℕ). eqb (length (laneAt l b .heard)) (length (parents (l .plan) (senderOf l b)))) (channelCount (l .plan)) .1
       (λ b h. eq-eqb (length (laneAt l b .heard)) (length (parents (l .plan) (senderOf l b)))
       (heard-long s fits b (omega (arith, h, channel-count s, ap channelCount (line-plan s))) ∙ ap (λ (p : Plan). length (parents p (channelAt p b .sender))) (sym (line-plan s)))))
 
   -- The line is right exactly where its nodes and channels are.
-  line-stands : Stands (lineRight l) ((leb (l .steps) stepLimit ≡ true) × (((n : ℕ) → n < planNodes s → nodeRight l n ≡ true) × ((b : ℕ) → b < planChannels s → channelRight l b ≡ true)))
+  line-stands : Stands (lineRight l) ((stepsRight (l .steps) ≡ true) × (((n : ℕ) → n < planNodes s → nodeRight l n ≡ true) × ((b : ℕ) → b < planChannels s → channelRight l b ≡ true)))
   unfolding lineRight
   line-stands =
       let p : planFits (l .plan) ≡ true = ap planFits (line-plan s) ∙ fits in
@@ -73,7 +74,7 @@ module _ (s : List ℕ) (fits : planFits (planOf s) ≡ true) where
         λ e.
             (let (abc, d) = both-true _ (allOf (channelRight l) (channelNumbersOf l)) e in
             let (ab, c) = both-true _ (allOf (nodeRight l) (nodeNumbers l)) abc in
-            let (a, b) = both-true (planFits (l .plan) && shapeRight l) (leb (l .steps) stepLimit) ab in
+            let (a, b) = both-true (planFits (l .plan) && shapeRight l) (stepsRight (l .steps)) ab in
             (b, (λ n h. nodes .0 c n (omega (arith, h, same)), λ k h. channels .0 d k (omega (arith, h, same′))))),
         λ r. rw (p, shaped, r .0, nodes .1 (λ n h. r .1 .0 n (omega (arith, h, same))), channels .1 (λ k h. r .1 .1 k (omega (arith, h, same′)))),
       )
@@ -88,12 +89,12 @@ module _ (s : List ℕ) (fits : planFits (planOf s) ≡ true) where
 
   -- Bytes and line together, node by node and channel by channel.
   abbrev Found : Type 0
-  Found = (restExact s ≡ true) × ((leb (l .steps) stepLimit ≡ true) × (((n : ℕ) → n < planNodes s → nodeChecked s n ≡ true) × (((b : ℕ) → b < planChannels s → channelChecked s b ≡ true) × ((n : ℕ) → n < planNodes s → replayAsked l n ≡ true))))
+  Found = (restExact s ≡ true) × ((stepsRight (l .steps) ≡ true) × (((n : ℕ) → n < planNodes s → nodeChecked s n ≡ true) × (((b : ℕ) → b < planChannels s → channelChecked s b ≡ true) × ((n : ℕ) → n < planNodes s → replayAsked l n ≡ true))))
 
-  rest-stands : Stands (restExact s) (((ZerosAt (stepsAt + countSize) stepsRest s × ZerosAt (pageAt (planNodes s)) (pageSize * (nodePages - planNodes s)) s) × ZerosAt (blockAt (planChannels s)) (blockSize * (laneBlocks - planChannels s)) s) × ZerosAt tailAt tailSize s)
+  rest-stands : Stands (restExact s) (((ZerosAt (stepsAt + stepsSize) stepsRest s × ZerosAt (pageAt (planNodes s)) (pageSize * (nodePages - planNodes s)) s) × ZerosAt (blockAt (planChannels s)) (blockSize * (laneBlocks - planChannels s)) s) × ZerosAt tailAt tailSize s)
   unfolding restExact
   rest-stands =
-      and-stands (and-stands (and-stands (zero-stands (stepsAt + countSize) stepsRest s) (zero-stands (pageAt (planNodes s)) (pageSize * (nodePages - planNodes s)) s)) (zero-stands (blockAt (planChannels s)) (blockSize * (laneBlocks - planChannels s)) s))
+      and-stands (and-stands (and-stands (zero-stands (stepsAt + stepsSize) stepsRest s) (zero-stands (pageAt (planNodes s)) (pageSize * (nodePages - planNodes s)) s)) (zero-stands (blockAt (planChannels s)) (blockSize * (laneBlocks - planChannels s)) s))
       (zero-stands tailAt tailSize s)
 
   abbrev size : ℕ
@@ -138,7 +139,7 @@ module _ (s : List ℕ) (fits : planFits (planOf s) ≡ true) where
 
 -- The check's test, taken apart.
 checked-parts : (s : List ℕ) → Stands (stateChecked s)
-    ((((((planExact s ≡ true) × (restExact s ≡ true)) × (leb (lineOf s .steps) stepLimit ≡ true)) × ((n : ℕ) → n < planNodes s → nodeChecked s n ≡ true)) × ((b : ℕ) → b < planChannels s → channelChecked s b ≡ true)) × ((n : ℕ) → n < planNodes s → replayAsked (lineOf s) n ≡ true))
+    ((((((planExact s ≡ true) × (restExact s ≡ true)) × (stepsRight (lineOf s .steps) ≡ true)) × ((n : ℕ) → n < planNodes s → nodeChecked s n ≡ true)) × ((b : ℕ) → b < planChannels s → channelChecked s b ≡ true)) × ((n : ℕ) → n < planNodes s → replayAsked (lineOf s) n ≡ true))
 unfolding stateChecked
 checked-parts s =
     and-stands (and-stands (and-stands (and-stands (and-stands same same) same) (all-stands (nodeChecked s) (planNodes s))) (all-stands (channelChecked s) (planChannels s))) (all-stands (replayAsked (lineOf s)) (planNodes s))

@@ -2,6 +2,7 @@
 pub mod Load
 pub mod Order
 pub mod Restart
+pub mod Console
 pub mod Step
 pub mod Whole
 pub mod Write

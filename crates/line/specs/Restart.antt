@@ -1,5 +1,5 @@
 -- A crashed node can always come back, on bytes: over what Load and Step answer and leave.
-use Prim.Native.Nat.{ℕ, _+_, _≤_}
+use Prim.Native.Nat.{ℕ, _+_, _<_, _≤_}
 use mathlib.Core.Path.{_≡_}
 use mathlib.Core.Logic.{_≢_}
 use mathlib.Core.Bool.{false}
@@ -7,34 +7,39 @@ use mathlib.Core.List.{List}
 use lib.ListN.{length, replicate}
 use Rattle.plan.specs.Lawful.{Each, Bytes}
 use Rattle.rules.specs.Lists.{isEmpty}
-use Rattle.rules.specs.Line.{stepLimit, up, down, replay, nodeAt, laneAt, receiverOf}
+use Rattle.rules.specs.Line.{stepLimit, consoleCount, stepsFrom, up, down, replay, nodeAt, laneAt, receiverOf}
 use Rattle.rules.specs.Recover.{rowComplete}
-use Rattle.rules.specs.Restart.{takeFrame, recoverFrame, unlessUsedUp, Restarting, restartSteps}
+use Rattle.rules.specs.Restart.{Caller, consoleOf, takeFrame, recoverFrame, unlessUsedUp, Restarting, restartSteps}
 use Rattle.state.specs.State.{lineOf}
 use Rattle.line.specs.Load.{loadAnswer, loadLeft}
 use Rattle.line.specs.Step.{stepAnswer}
 use Rattle.line.specs.Order.{stateAfter, storyOf}
 
--- Frames that bring node n back, each passed to Step with the state that the last call left: all are answered 0, and in the bytes at the end the node is up.
-pub record ComesBackOnBytes (state : List ℕ) (n : ℕ) : Type 0 where
+-- Frames of one caller's that bring node n back, each passed to Step with the state that the last call left: all are answered 0, and in the bytes at the end the node is up.
+pub record ComesBackOnBytes (state : List ℕ) (w : Caller) (n : ℕ) : Type 0 where
   pub frames : List (List ℕ)
   pub bytes : Each Bytes frames
   pub few : length frames ≤ restartSteps
-  pub shape : Restarting (lineOf state .plan) n (nodeAt (lineOf state) n .status) frames
+  pub shape : Restarting (lineOf state .plan) w n (nodeAt (lineOf state) n .status) frames
   pub accepted : storyOf state frames .numbers ≡ replicate (length frames) 0
   pub back : nodeAt (lineOf (stateAfter state frames)) n .status ≡ up
+
+-- Of what one caller asks.
+pub record NeverStuckOnBytesFor (state : List ℕ) (w : Caller) : Type 0 where
+  -- Recover of a node that is down is answered 0, or 12 if the caller's steps are used up.
+  pub recovers : (n : ℕ) → nodeAt (lineOf state) n .status ≡ down → stepAnswer state (recoverFrame w n) ≡ unlessUsedUp (lineOf state) w
+  -- So is a Take on an incomplete row of a replaying node whose channel has a message.
+  pub replays : (b : ℕ) → nodeAt (lineOf state) (receiverOf (lineOf state) b) .status ≡ replay → rowComplete (lineOf state) (receiverOf (lineOf state) b) b ≡ false → isEmpty (laneAt (lineOf state) b .queue) ≡ false
+      → stepAnswer state (takeFrame w b) ≡ unlessUsedUp (lineOf state) w
+  -- The node comes back.
+  pub comes-back : (n : ℕ) → stepsFrom (lineOf state) (consoleOf w) + restartSteps ≤ stepLimit → ComesBackOnBytes state w n
 
 pub record NeverStuckOnBytes (state : List ℕ) : Type 0 where
   -- No call answers 8 or 24.
   pub sound : (frame : List ℕ) → stepAnswer state frame ≢ 8
   pub placed : (frame : List ℕ) → stepAnswer state frame ≢ 24
-  -- Recover of a node that is down is answered 0, or 12 if the steps are used up.
-  pub recovers : (n : ℕ) → nodeAt (lineOf state) n .status ≡ down → stepAnswer state (recoverFrame n) ≡ unlessUsedUp (lineOf state)
-  -- So is a Take on an incomplete row of a replaying node whose channel has a message.
-  pub replays : (b : ℕ) → nodeAt (lineOf state) (receiverOf (lineOf state) b) .status ≡ replay → rowComplete (lineOf state) (receiverOf (lineOf state) b) b ≡ false → isEmpty (laneAt (lineOf state) b .queue) ≡ false
-      → stepAnswer state (takeFrame b) ≡ unlessUsedUp (lineOf state)
-  -- The node comes back.
-  pub comes-back : (n : ℕ) → lineOf state .steps + restartSteps ≤ stepLimit → ComesBackOnBytes state n
+  -- Whoever asks, in version 1 or from one of the consoles.
+  pub asked : (w : Caller) → consoleOf w < consoleCount → NeverStuckOnBytesFor state w
 
 -- After an accepted Load and any frames, of the state that the last call left.
 abbrev pub AlwaysBackOnBytes : Type 0

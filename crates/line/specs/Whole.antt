@@ -3,16 +3,15 @@ use Prim.Native.Nat.{ℕ, _+_, _*_, _-_, _<_}
 use mathlib.Core.Bool.{Bool, _&&_}
 use mathlib.Core.List.{List}
 use lib.ListN.{take}
-use lib.Dec.{leb, eqb}
+use lib.Dec.{eqb}
 use Rattle.plan.specs.Plan.{planOf, planSize, planNodes, planChannels, channelAt}
 use Rattle.plan.specs.Check.{planRefusal}
 use Rattle.rules.specs.Lists.{allOf, upTo}
-use Rattle.rules.specs.Line.{stepLimit}
-use Rattle.state.specs.Sizes.{planArea, stepsAt, countSize, stepsRest, pageAt, pageSize, nodePages, blockAt, blockSize, laneBlocks, tailAt, tailSize}
+use Rattle.state.specs.Sizes.{planArea, stepsAt, stepsSize, stepsRest, pageAt, pageSize, nodePages, blockAt, blockSize, laneBlocks, tailAt, tailSize}
 use Rattle.state.specs.Right.{NodeRight}
 use Rattle.state.specs.Lane.{heardCount}
 use Rattle.state.specs.State.{lineOf}
-use Rattle.items.specs.Items.{nodePlain, replayAsked, channelRight}
+use Rattle.items.specs.Items.{nodePlain, replayAsked, channelRight, stepsRight}
 use Rattle.buffer.specs.Exact.{zeroAt, pageExact, blockExact}
 
 -- The stored plan would not be refused, and nothing stands behind it.
@@ -21,10 +20,10 @@ planExact s =
     let size = planSize (planNodes s) (planChannels s) in
     eqb (planRefusal (take size s)) 0 && zeroAt size (planArea - size) s
 
--- Nothing stands behind the step count, in the pages of nodes and the blocks of channels that the plan does not have, and at the end.
+-- Nothing stands behind the counts of steps, in the pages of nodes and the blocks of channels that the plan does not have, and at the end.
 unfoldable pub restExact : List ℕ → Bool
 restExact s =
-    zeroAt (stepsAt + countSize) stepsRest s && zeroAt (pageAt (planNodes s)) (pageSize * (nodePages - planNodes s)) s
+    zeroAt (stepsAt + stepsSize) stepsRest s && zeroAt (pageAt (planNodes s)) (pageSize * (nodePages - planNodes s)) s
     && zeroAt (blockAt (planChannels s)) (blockSize * (laneBlocks - planChannels s)) s && zeroAt tailAt tailSize s
 
 -- Every node's page has right bytes, so its counts are within their limits.
@@ -43,5 +42,5 @@ channelChecked s b = blockExact (heardCount (planOf s) (channelAt (planOf s) b))
 unfoldable pub stateChecked : List ℕ → Bool
 unfolding planExact restExact nodeChecked channelChecked replayAsked
 stateChecked s =
-    planExact s && restExact s && leb (lineOf s .steps) stepLimit && allOf (nodeChecked s) (upTo 0 (planNodes s)) && allOf (channelChecked s) (upTo 0 (planChannels s))
+    planExact s && restExact s && stepsRight (lineOf s .steps) && allOf (nodeChecked s) (upTo 0 (planNodes s)) && allOf (channelChecked s) (upTo 0 (planChannels s))
     && allOf (replayAsked (lineOf s)) (upTo 0 (planNodes s))

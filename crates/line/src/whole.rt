@@ -5,23 +5,21 @@ ghost use Prim.Native.Nat.{_<_};
 ghost use lib.ListN.{length};
 ghost use Rattle.plan.specs.Plan.{planNodes, planChannels};
 ghost use Rattle.rules.specs.Lists.{allOf, upTo};
-ghost use Rattle.state.specs.Sizes.{stateSize, stepsAt};
-ghost use Rattle.state.specs.Right.{wordAt};
+ghost use Rattle.rules.specs.Line.{acceptedSteps};
+ghost use Rattle.state.specs.Sizes.{stateSize};
 ghost use Rattle.state.specs.State.{lineOf};
 ghost use Rattle.buffer.specs.Ready.{Ready};
 ghost use Rattle.buffer.specs.Table.{Table};
-ghost use Rattle.items.specs.Items.{replayAsked};
+ghost use Rattle.items.specs.Items.{replayAsked, stepsRight};
 ghost use Rattle.line.specs.Whole.{PagesRight, planExact, nodeChecked, channelChecked, stateChecked};
 use crate::check;
 use buffer::Line;
-use buffer::bytes;
-use buffer::layout;
 use buffer::look;
 use buffer::table;
 
 // Every node's page, but for what its replay asks.
 fn pages_ok(s: &[u8], t: &[u8; 156], n: usize, steps: u32) -> bool
-    requires { ⌜ Ready (now s) × Table (now s) (now t) × (n ≡ planNodes (now s)) × (steps ≡ wordAt stepsAt (now s)) ⌝ }
+    requires { ⌜ Ready (now s) × Table (now s) (now t) × (n ≡ planNodes (now s)) × (steps ≡ acceptedSteps (lineOf (now s))) ⌝ }
     ensures { λ r. ⌜ r ≡ allOf (nodeChecked (now (s .entry))) (upTo 0 n) ⌝ }
 {
     let mut ok = true;
@@ -35,7 +33,7 @@ fn pages_ok(s: &[u8], t: &[u8; 156], n: usize, steps: u32) -> bool
 
 // Every channel's block.
 fn channels_ok(s: &[u8], t: &[u8; 156], m: usize, steps: u32) -> bool
-    requires { ⌜ Ready (now s) × Table (now s) (now t) × (m ≡ planChannels (now s)) × (steps ≡ wordAt stepsAt (now s)) ⌝ }
+    requires { ⌜ Ready (now s) × Table (now s) (now t) × (m ≡ planChannels (now s)) × (steps ≡ acceptedSteps (lineOf (now s))) ⌝ }
     ensures { λ r. ⌜ r ≡ allOf (channelChecked (now (s .entry))) (upTo 0 m) ⌝ }
 {
     let mut ok = true;
@@ -72,22 +70,57 @@ fn replays_ok(s: &[u8], n: usize) -> bool
     ok
 }
 
-// All that stands behind a plan that would not be refused. The plan's channels are put in a table once.
-fn line_ok(s: &[u8], n: usize, m: usize) -> bool
-    requires { ⌜ Ready (now s) × (planExact (now s) ≡ true) × (n ≡ planNodes (now s)) × (m ≡ planChannels (now s)) ⌝ }
+// The steps accepted from each console are within the limit.
+fn steps_ok(s: &[u8]) -> bool
+    requires { ⌜ Ready (now s) ⌝ }
+    ensures { λ r. ⌜ r ≡ stepsRight (lineOf (now (s .entry)) .steps) ⌝ }
+{
+    let a = look::steps_from(s, 0);
+    let b = look::steps_from(s, 1);
+    let c = look::steps_from(s, 2);
+    let d = look::steps_from(s, 3);
+    (a <= Line::STEP_LIMIT)
+        & ((b <= Line::STEP_LIMIT) & ((c <= Line::STEP_LIMIT) & (d <= Line::STEP_LIMIT)))
+}
+
+// All of them together.
+fn all_steps(s: &[u8]) -> u32
+    requires { ⌜ Ready (now s) × (stepsRight (lineOf (now s) .steps) ≡ true) ⌝ }
+    ensures { λ r. ⌜ r ≡ acceptedSteps (lineOf (now (s .entry))) ⌝ }
+{
+    let a = look::steps_from(s, 0);
+    let b = look::steps_from(s, 1);
+    let c = look::steps_from(s, 2);
+    let d = look::steps_from(s, 3);
+    a + (b + (c + d))
+}
+
+// All that stands behind a plan that would not be refused and counts within the limit. The plan's channels are put in a table once.
+fn parts_ok(s: &[u8], n: usize, m: usize, steps: u32) -> bool
+    requires { ⌜ Ready (now s) × (planExact (now s) ≡ true) × (n ≡ planNodes (now s)) × (m ≡ planChannels (now s)) × (stepsRight (lineOf (now s) .steps) ≡ true) × (steps ≡ acceptedSteps (lineOf (now s))) ⌝ }
     ensures { λ r. ⌜ r ≡ stateChecked (now (s .entry)) ⌝ }
 {
-    let steps = bytes::get32(s, layout::STEPS);
     let rest = check::rest_ok(s, n, m);
     let mut t: [u8; 156] = [255; 156];
     table::fill(s, &mut t);
     let nodes = pages_ok(s, &t, n, steps);
     let channels = channels_ok(s, &t, m, steps);
-    let found = rest & (steps <= Line::STEP_LIMIT) & nodes & channels;
+    let found = rest & nodes & channels;
     if !found {
         return false;
     }
     replays_ok(s, n)
+}
+
+// All that stands behind a plan that would not be refused.
+fn line_ok(s: &[u8], n: usize, m: usize) -> bool
+    requires { ⌜ Ready (now s) × (planExact (now s) ≡ true) × (n ≡ planNodes (now s)) × (m ≡ planChannels (now s)) ⌝ }
+    ensures { λ r. ⌜ r ≡ stateChecked (now (s .entry)) ⌝ }
+{
+    if !steps_ok(s) {
+        return false;
+    }
+    parts_ok(s, n, m, all_steps(s))
 }
 
 // All of it.

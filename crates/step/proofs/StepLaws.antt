@@ -1,5 +1,5 @@
 -- What a step answers and leaves, by what its parts do.
-use Prim.Native.Nat.{ℕ, suc, _+_, _≤_, _<_, zero}
+use Prim.Native.Nat.{ℕ, suc, _≤_, _<_, _+_}
 use mathlib.Core.Path.{_≡_, refl, sym, ap, subst, _∙_}
 use mathlib.Core.Logic.{_≢_}
 use mathlib.Core.Bool.{true, false}
@@ -8,7 +8,7 @@ use native.Mathlib.Numerals.{add-one}
 use native.Mathlib.Omega.{arith}
 use borrow.Author.Tests.{le-leb, lt-leb}
 use lib.Dec.{leb}
-use lib.ListN.{length, getD, set}
+use lib.ListN.{length, set}
 use Rattle.basics.specs.Put.{put}
 use Rattle.plan.specs.Layout.{bytesOf}
 use Rattle.plan.specs.Lawful.{Bytes}
@@ -22,15 +22,13 @@ use Rattle.rules.proofs.theorem.Accepted.{step-accepted, step-refused}
 use Rattle.rules.proofs.undamaged.StepSound.{step-undamaged}
 use Rattle.state.specs.Sizes.{stepsOfAt}
 use Rattle.state.specs.State.{lineBytes, lineOf}
-use Rattle.state.proofs.InPlace.{line-plan, line-counts}
+use Rattle.state.proofs.InPlace.{line-plan}
 use Rattle.buffer.specs.Holds.{Holds, Undamaged, Did}
-use Rattle.buffer.proofs.ReadyLaws as ready
 use Rattle.buffer.proofs.HoldsLaws.{holds-again, holds-channels, count-put}
 use Rattle.frame.proofs.FrameLaws.{frame-refused, frame-passed, passed}
 use Rattle.passing.proofs.RefusalLaws.{refusal-first, refused}
 use Rattle.step.specs.Stepped.{Stepped}
 use Rattle.rules.proofs.theorem.Unmoved.{effect-steps}
-use Rattle.state.specs.Right.{wordAt, countsIn}
 
 -- ---- Take
 
@@ -64,16 +62,6 @@ pub at-receiver : (s : List ℕ) (b r : ℕ) → r ≡ channelAt (planOf s) b .r
 at-receiver s b r e = ap (replaying (lineOf s)) (e ∙ ap (λ (p : Plan). channelAt p b .receiver) (sym (line-plan s)))
 
 -- ---- the count
-
-pub count-read : (s : List ℕ) → Holds s (lineOf s) → (c : ℕ) → c < consoleCount → stepsFrom (lineOf s) c ≡ wordAt (stepsOfAt c) s
-count-read s h c inside = ap (λ (ks : List ℕ). getD ks c 0) (line-counts s (ready.counted (h .ready))) ∙ four c inside
-  where
-    four : (c : ℕ) → c < consoleCount → getD (countsIn s) c 0 ≡ wordAt (stepsOfAt c) s
-    four zero h = refl
-    four (suc zero) h = refl
-    four (suc (suc zero)) h = refl
-    four (suc (suc (suc zero))) h = refl
-    four (suc (suc (suc (suc c)))) h = let no : ⊥ = omega arith in absurd no
 
 pub counted-put : {s t : List ℕ} (c steps : ℕ) → Holds s (lineOf s) → c < consoleCount → stepsFrom (lineOf s) c < stepLimit → steps ≡ stepsFrom (lineOf s) c → t ≡ put s (stepsOfAt c) (bytesOf 4 (steps + 1))
     → Holds t (counted c (lineOf s))

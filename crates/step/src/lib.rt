@@ -1,6 +1,5 @@
 // A step on a state that holds an undamaged line (document 01, "Clocks and steps"). The state is not looked through again: whoever calls it holds a line, and holds one afterwards.
 ghost use Prim.Native.Nat.{_<_};
-ghost use mathlib.Core.Path.{_≡_};
 ghost use Rattle.rules.specs.Line.{stepLimit, consoleCount, stepsFrom, counted};
 ghost use Rattle.rules.specs.Frame as frames;
 ghost use Rattle.state.specs.State.{lineOf};
@@ -47,20 +46,12 @@ fn asked(s: &mut [u8], f: Frame) -> u32
     }
 }
 
-// The steps accepted from a console.
-fn steps_from(s: &[u8], console: usize) -> u32
-    requires { ⌜ Holds (now s) (lineOf (now s)) × (console < consoleCount) ⌝ }
-    ensures { λ r. ⌜ r ≡ stepsFrom (lineOf (now (s .entry))) console ⌝ }
-{
-    bytes::get32(s, layout::STEPS + layout::COUNT * console)
-}
-
-// One more step accepted from it.
+// One more step accepted from a console.
 fn count_step(s: &mut [u8], console: usize)
     requires { ⌜ Holds (now s) (lineOf (now s)) × (console < consoleCount) × (stepsFrom (lineOf (now s)) console < stepLimit) ⌝ }
     ensures { λ _. ⌜ Holds (now (s .exit)) (counted console (lineOf (now (s .entry)))) ⌝ }
 {
-    let steps = steps_from(s, console);
+    let steps = look::steps_from(s, console);
     bytes::put32(s, layout::STEPS + layout::COUNT * console, steps + 1);
 }
 
@@ -74,7 +65,7 @@ pub fn step(s: &mut [u8], frame: &[u8]) -> u32
         return refusal;
     }
     let console = frame::console_of(frame);
-    if Line::STEP_LIMIT <= steps_from(s, console) {
+    if Line::STEP_LIMIT <= look::steps_from(s, console) {
         return 12;
     }
     let number = asked(s, frame::frame_of(frame));

@@ -18,7 +18,7 @@ use Rattle.state.specs.State.{lineOf}
 use Rattle.state.proofs.LineLaws.{line-read}
 use Rattle.state.proofs.Undamaged.{undamaged-fits}
 use Rattle.step.specs.Stepped.{Stepped}
-use Rattle.line.proofs.StepLaws.{step-number}
+use Rattle.rules.proofs.console.Counted.{step-number}
 use Rattle.report.specs.Most.{answerMost}
 use Rattle.report.specs.Wrote.{Wrote}
 use Rattle.report.proofs.WroteLaws.{wrote-at, wrote-most, wrote-then}

@@ -14,7 +14,7 @@ pub count-step-spec : {M : Type 1} → statement M
 count-step-spec =
     tie.close
     (tie.spec
-    (λ c κs. (c .before .before .pre .0, c .before .before .pre .1))
+    (λ c κs. (c .before .before .pre .0 .ready, c .before .before .pre .1))
     (λ c. omega (arith, c .before .before .before .before .pre .1))
     (λ c. omega (arith, c .before .before .before .before .pre .1))
     (λ c. omega (arith, c .before .steps-from .ensures, c .before .before .before .before .pre .2))

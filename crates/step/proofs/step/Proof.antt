@@ -30,7 +30,7 @@ steps-from-requires c κs =
     let s : List ℕ = start .args .s .now in
     let frame : List ℕ = start .args .frame .now in
     let well : frameRefusal frame ≡ 0 = sym (k .before .before .refusal-of .ensures) ∙ k .before .if1 .left in
-    (start .pre .holds, rw (k .console-of .ensures) (there s frame (start .pre) well))
+    (start .pre .holds .ready, rw (k .console-of .ensures) (there s frame (start .pre) well))
 
 returns-2 : tie.Need-returns-2
 returns-2 c =

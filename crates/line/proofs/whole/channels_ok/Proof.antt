@@ -1,8 +1,6 @@
 use Prim.Native.Nat.{_-_}
 use native.Mathlib.Omega.{arith}
-use mathlib.Core.Path.{sym, _∙_}
-use Rattle.state.proofs.InPlace.{line-steps}
-use Rattle.buffer.proofs.ReadyLaws.{counted}
+
 use Rattle.line.specs.Whole.{channelChecked}
 use Rattle.line.proofs.CheckLaws.{Tested, tested-start, tested-turn, tested-end}
 use Rattle.line.proofs.whole.channels_ok.Statement.{statement}
@@ -20,7 +18,7 @@ loop-holds c = let a = c .before .args in tested-start (channelChecked (a .s .no
 channel-ok-requires : tie.Need-channel-ok-requires Inv-loop μ-loop
 channel-ok-requires c κs =
     let entry = c .before .before .before in
-    (record { ready = entry .pre .0; tabled = entry .pre .1; same = entry .pre .3 ∙ sym (line-steps (entry .args .s .now) (counted (entry .pre .0))) }, omega (arith, entry .pre .2))
+    (record { ready = entry .pre .0; tabled = entry .pre .1; same = entry .pre .3 }, omega (arith, entry .pre .2))
 
 loop-again : tie.Need-loop-again Inv-loop μ-loop
 unfolding channelChecked
