@@ -133,7 +133,7 @@ module _ (s : List ℕ) where
     line-counts =
         line-steps
         ∙ λ i. wordAt stepsAt s ∷ spelled 0 (take 4 (drop-drop 4 stepsAt s i)) ∷ spelled 0 (take 4 ((ap (drop 4) (drop-drop 4 stepsAt s) ∙ drop-drop 4 (stepsOfAt 1) s) i))
-            ∷ spelled 0 (take 4 ((ap (λ (t : List ℕ). drop 4 (drop 4 t)) (drop-drop 4 stepsAt s) ∙ ap (drop 4) (drop-drop 4 (stepsOfAt 1) s) ∙ drop-drop 4 (stepsOfAt 2) s) i)) ∷ []
+        ∷ spelled 0 (take 4 ((ap (λ (t : List ℕ). drop 4 (drop 4 t)) (drop-drop 4 stepsAt s) ∙ ap (drop 4) (drop-drop 4 (stepsOfAt 1) s) ∙ drop-drop 4 (stepsOfAt 2) s) i)) ∷ []
 
     pub line-nodes : lineOf s .nodes ≡ readSlots nodeLayout n (drop pageSize s)
     unfolding lineOf

@@ -21,3 +21,4 @@ pub mod Undamaged
 pub mod AcceptedState
 pub mod Swapped
 pub mod Written
+pub mod BaseLaws

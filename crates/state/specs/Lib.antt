@@ -8,4 +8,5 @@ pub mod State
 pub mod Right
 pub mod Fits
 pub mod Examples
+pub mod Base
 pub mod Changes

@@ -1,6 +1,5 @@
 use Prim.Native.Nat.{_-_}
 use native.Mathlib.Omega.{arith}
-
 use Rattle.line.specs.Whole.{channelChecked}
 use Rattle.line.proofs.CheckLaws.{Tested, tested-start, tested-turn, tested-end}
 use Rattle.line.proofs.whole.channels_ok.Statement.{statement}
