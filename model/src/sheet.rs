@@ -71,7 +71,7 @@ fn answered(frames: &[u8], mut step: impl FnMut(&[u8]) -> u32) -> Vec<u8> {
         } else {
             length_field(left)
         };
-        if length < Frame::HEADER || length > left.len() {
+        if length < Frame::LEAST_LENGTH || length > left.len() {
             list_answer(&mut text, number, FRAME_LENGTH);
             break;
         }
