@@ -15,6 +15,7 @@ pub mod section {
     pub const VERSIONS: &str = "frames as long as their field says, by the version byte";
     pub const KINDS: &str = "frames of the right form on undamaged states";
     pub const CALLERS: &str = "the same, by who sends them";
+    pub const FROM_ALL: &str = "the same step from every caller";
     pub const EVENTS: &str = "what steps do and why they are refused";
     pub const HARMLESS: &str = "undamaged states that no run leads to, each with every frame";
     pub const DAMAGED: &str = "damaged states";
@@ -69,6 +70,7 @@ pub fn all() -> Vec<Floor> {
         .iter()
         .flat_map(|caller| [true, false].map(|is| outcome(caller, is)));
     floors.extend(under(section::CALLERS, 20_000, outcomes));
+    floors.extend(under(section::FROM_ALL, 1_000, FROM_ALL));
     let events = EVENTS.iter().map(|event| event.name);
     floors.extend(under(section::EVENTS, 100, events));
     let harmless = HARMLESS.iter().map(|harmless| harmless.name);
@@ -99,6 +101,13 @@ pub fn version(byte: u8) -> String {
         false => OTHER_VERSION.to_string(),
     }
 }
+
+pub const FROM_ALL: [&str; 4] = [
+    "accepted from all",
+    "refused from all",
+    "12 from some, accepted from others",
+    "12 from some, refused from others",
+];
 
 const KINDS: [&str; 5] = ["Feed", "Send", "Take", "Crash", "Recover"];
 

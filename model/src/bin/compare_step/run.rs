@@ -1,7 +1,8 @@
 // Calls on states and frames as they are drawn, counted.
 
-use model::answer::{FRAME_LENGTH, NO_REPLAY};
-use model::compare::{self, Counts};
+use model::answer::{ACCEPTED, FRAME_LENGTH, NO_REPLAY};
+use model::compare::{self, from_all, Counts};
+use model::engine;
 use model::line::practice::{
     age, cut_frames, every_frame, random_frames, stray, torn, Practice, Stepped, EVENTS,
 };
@@ -17,6 +18,8 @@ use crate::states::States;
 const STAGED_RUNS: usize = 100;
 /// How often wrong frames are drawn for a state.
 const WRONG: usize = 8;
+/// One call in so many is made from every caller.
+const FROM_ALL: u32 = 64;
 
 pub struct Run {
     /// Of what is drawn for the calls, the practice's draws aside.
@@ -245,6 +248,9 @@ impl Run {
                 frame: asked,
                 after: outcome.map_err(|&refusal| refusal),
             });
+            if self.random.one_in(FROM_ALL) {
+                self.call_from_all(before, &states.bytes, asked);
+            }
         }
         match after {
             Ok((line, bytes)) if goes_on => states.go_on(line, bytes),
@@ -252,6 +258,23 @@ impl Run {
             Err(_) => {}
         }
         answer
+    }
+
+    /// The engine does the same whoever sends the frame.
+    fn call_from_all(&mut self, line: &Line, state: &[u8], frame: Frame) {
+        let from = from_all(&mut self.random, engine::step, line, state, frame);
+        let from = from.unwrap_or_else(|wrong| {
+            let told = format!("seed {}, {frame:?} from every caller", self.seed);
+            compare::fail(&told, &wrong, state)
+        });
+        let [accepted, refused, some_accepted, some_refused] = floors::FROM_ALL;
+        let row = match (from.is_one_used_up, from.answer) {
+            (false, Some(ACCEPTED)) => accepted,
+            (false, _) => refused,
+            (true, Some(ACCEPTED)) => some_accepted,
+            (true, _) => some_refused,
+        };
+        self.counts.add(section::FROM_ALL, row);
     }
 
     fn count(&mut self, step: &Stepped) {
