@@ -22,7 +22,12 @@ uint32_t line_load(const uint8_t *plan, size_t plan_length,
                    uint8_t *state, size_t state_length);
 
 /* Step: works one frame on the line in a state.
-   Returns 0, or the first number of document 01 that applies: 8 as line_check does, 9 to 21, 24.
+   A frame of version 1 is its length (2 bytes), 1, kind, node or belt number; kind 1, Feed, adds a record of 8 bytes.
+   A frame of version 2 has 2 for that 1 and is one byte longer: after the kind comes the console, 0 to 3. Version 1 is
+   console 0.
+   So a Feed is 13 bytes in version 1 and 14 in version 2, any other kind 5 and 6.
+   Returns 0, or the first number of document 01 and request 2026-01 that applies, in this order: 8 as line_check does,
+   9 to 11, 25 for a console above 3, 12 for a console whose own 1,000,000 steps are accepted, 13 to 21, 24.
    Accepted, the state holds the line after the step; a refusal leaves it as it was. The frame is only read. */
 uint32_t line_step(uint8_t *state, size_t state_length,
                    const uint8_t *frame, size_t frame_length);

@@ -8,7 +8,7 @@ mod tables;
 use std::hint::black_box;
 use std::time::Instant;
 
-use model::placing::{self, ACCEPTED};
+use model::placing::{self, ACCEPTED, GREATEST};
 use model::random::Random;
 
 use tables::Input;
@@ -87,25 +87,36 @@ fn report(name: &str, inputs: &[Input], repeats: usize) {
             engine_times.push(time(engine_place, inputs, repeats));
         }
     }
-    let engine = median(engine_times) / 1000.0;
-    let model = median(model_times) / 1000.0;
+    let columns: u32 = inputs.iter().map(|input| input.high - input.low).sum();
+    let columns = f64::from(columns) / inputs.len() as f64;
+    let (engine, model) = (median(engine_times), median(model_times));
     println!(
-        "{name:<36}{engine:>12.3}{model:>12.3}{:>16.2}",
-        engine / model
+        "{name:<38}{:>12.3}{:>12.3}{:>16.2}{:>12.3}{:>12.3}",
+        engine / 1000.0,
+        model / 1000.0,
+        engine / model,
+        engine / columns,
+        model / columns
     );
 }
 
 fn main() {
     let mut random = Random::new(1);
-    let few = tables::few_columns(&mut random);
-    let spread = tables::spread_items(&mut random);
-    let late = tables::late_items(&mut random);
-    println!("median microseconds a call, {ROUNDS} rounds");
+    println!("median of {ROUNDS} rounds");
     println!(
-        "{:<36}{:>12}{:>12}{:>16}",
-        "64 items", "engine", "model", "engine / model"
+        "{:<38}{:>40}{:>24}",
+        "", "microseconds a call", "nanoseconds a column"
     );
+    println!(
+        "{:<38}{:>12}{:>12}{:>16}{:>12}{:>12}",
+        "64 items", "engine", "model", "engine / model", "engine", "model"
+    );
+    let few = tables::few_columns(&mut random);
     report("64..100 columns", &few, 20);
-    report("1,000,000 columns, spread over all", &spread, 1);
-    report("1,000,000 columns, late ones crowded", &late, 1);
+    for (high, told) in [(1_000_000, "1,000,000"), (GREATEST, "4,000,000")] {
+        let spread = tables::spread_items(&mut random, high);
+        report(&format!("{told} columns, spread over all"), &spread, 1);
+        let late = tables::late_items(&mut random, high);
+        report(&format!("{told} columns, late ones crowded"), &late, 1);
+    }
 }

@@ -1,7 +1,7 @@
 // The tables that are timed: 64 items, each with a placing.
 
 use model::placing::tables::{placeable, Table};
-use model::placing::{Item, GREATEST_COLUMN, MOST_ITEMS, ROWS};
+use model::placing::{Item, MOST_ITEMS, ROWS};
 use model::random::Random;
 
 pub struct Input {
@@ -35,26 +35,24 @@ pub fn few_columns(random: &mut Random) -> Vec<Input> {
     (0..200).map(table).collect()
 }
 
-/// Evenly over all columns, so that the walk goes over the million.
-pub fn spread_items(random: &mut Random) -> Vec<Input> {
-    let step = GREATEST_COLUMN / MOST_ITEMS as u32;
+/// Evenly over all columns, so that the walk goes over all of them.
+pub fn spread_items(random: &mut Random, high: u32) -> Vec<Input> {
+    let step = high / MOST_ITEMS as u32;
     let columns: Vec<u32> = (1..=MOST_ITEMS as u32)
         .map(|number| number * step)
         .collect();
-    (0..4).map(|_| around(random, &columns)).collect()
+    (0..4).map(|_| around(random, high, &columns)).collect()
 }
 
 /// Half of the items at the first columns, half at the last.
-pub fn late_items(random: &mut Random) -> Vec<Input> {
+pub fn late_items(random: &mut Random, high: u32) -> Vec<Input> {
     let half = MOST_ITEMS as u32 / 2;
-    let columns: Vec<u32> = (1..=half)
-        .chain(GREATEST_COLUMN - half + 1..=GREATEST_COLUMN)
-        .collect();
-    (0..4).map(|_| around(random, &columns)).collect()
+    let columns: Vec<u32> = (1..=half).chain(high - half + 1..=high).collect();
+    (0..4).map(|_| around(random, high, &columns)).collect()
 }
 
 /// Items held at the columns by a fixed column or by a floor.
-fn around(random: &mut Random, columns: &[u32]) -> Input {
+fn around(random: &mut Random, high: u32, columns: &[u32]) -> Input {
     let mut parts: [Vec<Item>; ROWS] = Default::default();
     for &column in columns {
         let row = random.index(ROWS);
@@ -73,7 +71,7 @@ fn around(random: &mut Random, columns: &[u32]) -> Input {
     }
     Input::new(&Table {
         low: 0,
-        high: GREATEST_COLUMN,
+        high,
         items: parts.concat(),
     })
 }

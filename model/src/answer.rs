@@ -25,7 +25,7 @@ pub const FRAME_LENGTH: u32 = 9;
 pub const FRAME_VERSION: u32 = 10;
 /// "Kind not 1..5, or length not the kind's."
 pub const FRAME_KIND: u32 = 11;
-/// "1,000,000 steps accepted."
+/// "1,000,000 steps accepted", of the caller's.
 pub const STEPS_USED_UP: u32 = 12;
 /// "No such node or belt."
 pub const NO_SUCH_PLACE: u32 = 13;
@@ -49,3 +49,5 @@ pub const NO_SPACE: u32 = 21;
 /// "No placing exists; targets give one time two inputs or one input two
 /// times; a target not held when rows are complete."
 pub const NO_REPLAY: u32 = 24;
+/// "A console above 3, after 11."
+pub const NO_SUCH_CONSOLE: u32 = 25;

@@ -1,12 +1,15 @@
 //! What the programs that compare the engine with the model have in common:
-//! lent buffers, and counts that have to reach their floors.
+//! lent buffers, the same step from every caller, and counts that have to reach
+//! their floors.
 
+mod callers;
 mod counts;
 mod lent;
 
 use std::process::exit;
 use std::{env, fs};
 
+pub use callers::{from_all, FromAll};
 pub use counts::{answer, under, Counts, Floor};
 pub use lent::Lent;
 

@@ -11,7 +11,7 @@ mod step;
 mod tests;
 
 pub use damaged::damaged;
-pub use frame::Frame;
+pub use frame::{Caller, Frame};
 pub use recover::{restart, Restart};
 pub use step::{step, stepped};
 
@@ -96,8 +96,8 @@ pub struct Queue {
 #[derive(Clone, Debug, PartialEq, Eq)]
 pub struct Line {
     pub plan: Plan,
-    /// Accepted steps.
-    pub steps: u32,
+    /// Accepted steps of each console.
+    pub steps: [u32; Line::CONSOLES],
     pub nodes: Vec<Node>,
     /// One a channel.
     pub queues: Vec<Queue>,
@@ -112,11 +112,13 @@ impl From<Plan> for Line {
 impl Line {
     /// "The limits belong to the line itself: 64 log entries a node, 8 messages
     /// on a belt, 64 held records a node, 64 targets a node, 1,000,000 accepted
-    /// steps."
+    /// steps", those of each console: "each console has its own count to
+    /// 1,000,000".
     pub const MOST_ENTRIES: usize = 64;
     pub const MOST_MESSAGES: usize = 8;
     pub const MOST_BUFFERED: usize = 64;
     pub const MOST_TARGETS: usize = 64;
+    pub const CONSOLES: usize = 4;
     pub const MOST_STEPS: u32 = 1_000_000;
 
     /// Checks 1 to 7; a refused plan gives its number.
@@ -139,10 +141,16 @@ impl Line {
         let queues = vec![Queue::default(); plan.channels.len()];
         Line {
             plan,
-            steps: 0,
+            steps: [0; Line::CONSOLES],
             nodes,
             queues,
         }
+    }
+
+    /// "A time is now bounded by the sum of the four." No count is above its
+    /// limit.
+    pub fn accepted_steps(&self) -> u32 {
+        self.steps.iter().sum()
     }
 
     /// The paper's entries of the children for the node: the last time that

@@ -50,7 +50,8 @@ impl Order {
 
     /// To be told of each accepted step, with the line before and after it.
     pub fn follow(&mut self, before: &Line, frame: &[u8], after: &Line) {
-        match Frame::read(frame).expect("an accepted frame") {
+        let (_, frame) = Frame::read(frame).expect("an accepted frame");
+        match frame {
             Frame::Feed { node, record } => {
                 let node = usize::from(node);
                 let record = Record::read(record).expect("an accepted record");

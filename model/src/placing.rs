@@ -14,12 +14,11 @@ pub const MALFORMED: u32 = 22;
 pub const SHORT_OUTPUT: u32 = 23;
 pub const NO_PLACING: u32 = 24;
 
-/// "At most 64 items, low ≤ high ≤ 1,000,000, row times 1..1,000,000, floors
-/// to 1,000,000."
+/// "At most 64 items."
 pub const MOST_ITEMS: usize = 64;
-pub const GREATEST_COLUMN: u32 = 1_000_000;
-pub const GREATEST_TIME: u32 = 1_000_000;
-pub const GREATEST_FLOOR: u32 = 1_000_000;
+/// "The limits of a replay table on columns, row times and floors rise to
+/// 4,000,000."
+pub const GREATEST: u32 = 4_000_000;
 
 /// "Row (0..3, parents in rising number)."
 pub const ROWS: usize = 4;
@@ -84,7 +83,7 @@ pub fn place(
 pub fn is_well_formed(low: u32, high: u32, table: &[Item]) -> bool {
     table.len() <= MOST_ITEMS
         && low <= high
-        && high <= GREATEST_COLUMN
+        && high <= GREATEST
         && table.iter().all(|item| is_within_limits(low, high, item))
         && table
             .windows(2)
@@ -93,8 +92,8 @@ pub fn is_well_formed(low: u32, high: u32, table: &[Item]) -> bool {
 
 fn is_within_limits(low: u32, high: u32, item: &Item) -> bool {
     (item.row as usize) < ROWS
-        && (1..=GREATEST_TIME).contains(&item.time)
-        && item.floor <= GREATEST_FLOOR
+        && (1..=GREATEST).contains(&item.time)
+        && item.floor <= GREATEST
         && (item.is_free() || (low < item.fixed && item.fixed <= high && item.floor == 0))
 }
 

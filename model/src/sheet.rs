@@ -15,11 +15,20 @@ use crate::state::{self, direct, read_line, LENGTH};
 const OPENING: &[u8] = b"LINE 1\n";
 
 pub fn sheet(input: &[u8]) -> Vec<u8> {
+    sheet_told(input, |_, _| {})
+}
+
+/// The same; `told` hears of each frame that is passed to the line, and its answer.
+pub fn sheet_told(input: &[u8], mut told: impl FnMut(&[u8], u32)) -> Vec<u8> {
     let (plan, frames) = parts(input);
     match Line::load(plan) {
         Err(refusal) => refused(refusal),
         Ok(mut line) => {
-            let mut text = answered(frames, |frame| step(&mut line, frame));
+            let mut text = answered(frames, |frame| {
+                let answer = step(&mut line, frame);
+                told(frame, answer);
+                answer
+            });
             list_nodes(&mut text, &line);
             text
         }
@@ -71,7 +80,7 @@ fn answered(frames: &[u8], mut step: impl FnMut(&[u8]) -> u32) -> Vec<u8> {
         } else {
             length_field(left)
         };
-        if length < Frame::HEADER || length > left.len() {
+        if length < Frame::LEAST_LENGTH || length > left.len() {
             list_answer(&mut text, number, FRAME_LENGTH);
             break;
         }

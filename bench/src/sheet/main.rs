@@ -1,5 +1,5 @@
 // Times the engine's program and the model's on a sheet of 1,000,000 accepted
-// steps, both reading a file and writing to a file. Run in bench/, once
+// steps and some more, both reading a file and writing to a file. Run in bench/, once
 // target/bin/sheet and the model's sheet are built:
 //   cargo run --release --offline --bin bench_sheet [engine's program [model's]]
 
@@ -25,7 +25,7 @@ fn main() -> io::Result<()> {
     fs::write(&input, &sheet)?;
     let text = sheet_in_place(&sheet);
     println!(
-        "a sheet of 1,000,000 accepted steps, {} bytes read, {} written",
+        "a sheet of 1,000,000 accepted steps and some more, {} bytes read, {} written",
         sheet.len(),
         text.len()
     );

@@ -63,7 +63,8 @@ fn are_numbers_within_limits(line: &Line) -> bool {
                 .iter()
                 .all(|message| message.record.is_sound())
     });
-    line.steps <= Line::MOST_STEPS && are_nodes_within && are_queues_within
+    let are_steps_within = line.steps.iter().all(|&count| count <= Line::MOST_STEPS);
+    are_steps_within && are_nodes_within && are_queues_within
 }
 
 /// Not: a number "names a node that is not the right parent"; "a named sender's
@@ -116,9 +117,10 @@ fn is_origin_right(plan: &Plan, maker: usize, origin: Option<Origin>) -> bool {
     }
 }
 
-/// Not: "a time exceeds the accepted steps".
+/// Not: "a time exceeds the accepted steps", those of all consoles.
 fn are_times_reached(line: &Line) -> bool {
-    let is_reached = |time: u32| time <= line.steps;
+    let accepted = line.accepted_steps();
+    let is_reached = |time: u32| time <= accepted;
     let is_origin_reached =
         |origin: Option<Origin>| origin.is_none_or(|origin| is_reached(origin.time));
     let are_nodes_reached = line.nodes.iter().all(|node| {

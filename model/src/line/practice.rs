@@ -3,17 +3,19 @@
 mod disturb;
 mod events;
 mod frames;
+mod late;
 mod torn;
 
 pub use disturb::{disturb, retarget};
 pub use events::{Stepped, EVENTS};
-pub use frames::{cut_frames, every_frame, random_frames, stray};
+pub use frames::{caller, cut_frames, every_frame, random_frames, stray};
+pub use late::{age, drawn_steps, greatest_time, make_late, reach, share_steps};
 pub use torn::torn;
 
 use std::collections::BTreeSet;
 
 use super::{stepped, Frame, Line, Status};
-use crate::answer::{ACCEPTED, ROW_COMPLETE};
+use crate::answer::{ACCEPTED, ROW_COMPLETE, STEPS_USED_UP};
 use crate::plan::{Channel, Plan};
 use crate::random::Random;
 use crate::record::Record;
@@ -179,10 +181,12 @@ impl Practice {
         for _ in 0..draws {
             let share = drawn_share(random, &self.shares);
             for _ in 0..draws {
-                frame = self.drawn(random, line, share).write();
+                let caller = caller(random, line);
+                frame = self.drawn(random, line, share).sent_by(caller);
                 let answer = stepped(line, &frame).err().unwrap_or(ACCEPTED);
-                // A complete row is met seldom enough.
-                if answer == ACCEPTED || answer == ROW_COMPLETE && random.one_in(2) {
+                // A complete row and a console at its end are met seldom enough.
+                let is_seldom = [ROW_COMPLETE, STEPS_USED_UP].contains(&answer);
+                if answer == ACCEPTED || is_seldom && random.one_in(2) {
                     return frame;
                 }
             }

@@ -21,11 +21,12 @@ pub fn step(line: &mut Line, frame: &[u8]) -> u32 {
     }
 }
 
-/// The line after the step, or the refusal. Checks 9 to 21 and then 24, in
-/// rising order; 8 is seen to before: the line is undamaged.
+/// The line after the step, or the refusal. Checks 9 to 11, 25, 12 to 21 and then
+/// 24; 8 is seen to before: the line is undamaged.
 pub fn stepped(line: &Line, frame: &[u8]) -> Result<Line, u32> {
-    let frame = Frame::read(frame)?;
-    if line.steps >= Line::MOST_STEPS {
+    let (caller, frame) = Frame::read(frame)?;
+    // "Refusal 12 looks only at the caller's."
+    if line.steps[caller.console()] >= Line::MOST_STEPS {
         return Err(STEPS_USED_UP);
     }
     let mut next = match frame {
@@ -35,11 +36,11 @@ pub fn stepped(line: &Line, frame: &[u8]) -> Result<Line, u32> {
         Frame::Crash { node } => line.crash(node.into()),
         Frame::Recover { node } => line.recover(node.into()),
     }?;
-    next.steps += 1;
+    next.steps[caller.console()] += 1;
     Ok(next)
 }
 
-/// Each kind gives the line after it, the count of steps aside, or the refusal.
+/// Each kind gives the line after it, the counts of steps aside, or the refusal.
 impl Line {
     /// "An infeed applies its rule, its time rises by 1, the message is logged."
     fn feed(&self, node: usize, record: [u8; Record::LENGTH]) -> Result<Line, u32> {

@@ -1,6 +1,6 @@
 use super::*;
 use crate::answer::{ACCEPTED, NO_REPLAY};
-use crate::line::practice::{any_plan, Practice};
+use crate::line::practice::{any_plan, caller, Practice};
 use crate::line::{damaged, step};
 use crate::random::Random;
 
@@ -14,8 +14,8 @@ fn pass(line: &mut Line, order: &mut Order, frame: &[u8]) -> u32 {
     answer
 }
 
-/// Recovers, sends and takes until nothing more is accepted.
-fn drain(line: &mut Line, order: &mut Order) {
+/// Recovers, sends and takes until nothing more is accepted, from any console.
+fn drain(random: &mut Random, line: &mut Line, order: &mut Order) {
     loop {
         let nodes = 0..line.nodes.len() as u8;
         let channels = 0..line.queues.len() as u8;
@@ -26,7 +26,8 @@ fn drain(line: &mut Line, order: &mut Order) {
             .collect();
         let mut moved = false;
         for frame in frames {
-            moved |= pass(line, order, &frame.write()) == ACCEPTED;
+            let caller = caller(random, line);
+            moved |= pass(line, order, &frame.sent_by(caller)) == ACCEPTED;
         }
         if !moved {
             return;
@@ -63,7 +64,7 @@ fn order_of_received_records() {
             }
         }
         assert!(order.holds(&line), "{:?}", line.plan);
-        drain(&mut line, &mut order);
+        drain(&mut random, &mut line, &mut order);
         assert!(order.holds(&line), "{:?}", line.plan);
         assert!(!damaged(&line));
         quiet_ends += usize::from(is_quiet(&line));

@@ -2,7 +2,7 @@
 
 use std::collections::BTreeSet;
 
-use super::{Item, GREATEST_FLOOR, GREATEST_TIME, ROWS};
+use super::{Item, GREATEST, ROWS};
 use crate::random::Random;
 
 #[derive(Clone, Debug)]
@@ -94,11 +94,11 @@ fn change(random: &mut Random, table: &mut Table) {
         item.floor = 0;
     } else if item.is_free() {
         let greatest = if random.one_in(4) {
-            GREATEST_FLOOR
+            GREATEST
         } else {
             item.floor + 3
         };
-        item.floor = random.between(item.floor, greatest).min(GREATEST_FLOOR);
+        item.floor = random.between(item.floor, greatest).min(GREATEST);
     } else if random.one_in(2) {
         item.floor = item.fixed - random.between(0, 1);
         item.fixed = 0;
@@ -139,7 +139,7 @@ fn distinct_columns(random: &mut Random, low: u32, high: u32, count: usize) -> B
 
 /// Row times that rise strictly along each row, now and then up to the limit.
 fn give_times(random: &mut Random, items: &mut [Item]) {
-    let greatest_gap = GREATEST_TIME / items.len().max(1) as u32;
+    let greatest_gap = GREATEST / items.len().max(1) as u32;
     let gap = random.pick(&[1, 3, greatest_gap]);
     for part in items.chunk_by_mut(|item, next| item.row == next.row) {
         let mut time = 0;
@@ -149,7 +149,7 @@ fn give_times(random: &mut Random, items: &mut [Item]) {
         }
         if random.one_in(8) {
             part.iter_mut()
-                .for_each(|item| item.time += GREATEST_TIME - time);
+                .for_each(|item| item.time += GREATEST - time);
         }
     }
 }

@@ -80,25 +80,16 @@ fn marked_sheets() {
 #[test]
 fn limits_of_the_table() {
     let answer = |low, high, items: &[(u32, u32, u32, u32)]| placed(&table(low, high, items)).0;
-    assert_eq!(
-        answer(999_999, 1_000_000, &[(3, 1_000_000, 0, 999_999)]),
-        ACCEPTED
-    );
-    assert_eq!(
-        answer(999_999, 1_000_000, &[(3, 1_000_000, 0, 1_000_000)]),
-        NO_PLACING
-    );
-    assert_eq!(
-        answer(999_999, 1_000_000, &[(3, 1_000_000, 0, 1_000_001)]),
-        MALFORMED
-    );
-    assert_eq!(
-        answer(999_999, 1_000_000, &[(3, 1_000_001, 0, 0)]),
-        MALFORMED
-    );
-    assert_eq!(answer(999_999, 1_000_000, &[(3, 0, 0, 0)]), MALFORMED);
-    assert_eq!(answer(999_999, 1_000_000, &[(4, 1, 0, 0)]), MALFORMED);
-    assert_eq!(answer(0, 1_000_001, &[]), MALFORMED);
+    let at_the_end = |item| answer(3_999_999, 4_000_000, &[item]);
+    assert_eq!(at_the_end((3, 4_000_000, 0, 3_999_999)), ACCEPTED);
+    assert_eq!(at_the_end((3, 4_000_000, 4_000_000, 0)), ACCEPTED);
+    assert_eq!(at_the_end((3, 4_000_000, 0, 4_000_000)), NO_PLACING);
+    assert_eq!(at_the_end((3, 4_000_000, 0, 4_000_001)), MALFORMED);
+    assert_eq!(at_the_end((3, 4_000_001, 0, 0)), MALFORMED);
+    assert_eq!(at_the_end((3, 0, 0, 0)), MALFORMED);
+    assert_eq!(at_the_end((4, 1, 0, 0)), MALFORMED);
+    assert_eq!(answer(4_000_000, 4_000_000, &[]), ACCEPTED);
+    assert_eq!(answer(0, 4_000_001, &[]), MALFORMED);
     assert_eq!(answer(u32::MAX, u32::MAX, &[]), MALFORMED);
     assert_eq!(answer(1, 0, &[]), MALFORMED);
     assert_eq!(answer(2, 4, &[(0, 1, 2, 0)]), MALFORMED);
@@ -181,7 +172,7 @@ fn made_tables_are_well_formed_and_placeable() {
     let mut random = Random::new(2);
     for _ in 0..4_000 {
         let count = random.index(MOST_ITEMS + 1);
-        let low = random.between(0, 999_000);
+        let low = random.between(0, GREATEST - 1_000);
         let high = low + count as u32 + random.between(0, 100);
         let table = placeable(&mut random, low, high, count);
         assert_eq!(placed(&table).0, ACCEPTED, "{table:?}");

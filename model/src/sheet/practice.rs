@@ -11,8 +11,9 @@ use crate::state::practice::{any_plan, play, play_to_the_end, replay_on, staged,
 
 /// More than a block or a two-byte number counts.
 const MANY_FRAMES: usize = 70_000;
-/// The bytes of a frame of each kind: so far apart, the same bytes come again.
-pub const SHIFTS: usize = 33;
+/// The bytes of a frame of each kind in each version: so far apart, the same bytes
+/// come again, records and consoles aside.
+pub const SHIFTS: usize = 71;
 
 /// A sheet, and the line that it leads to.
 pub struct Typed {
@@ -46,7 +47,7 @@ impl Played for Typed {
 
 impl Typed {
     fn every_frame(&mut self, random: &mut Random) {
-        for frame in every_frame(random, &self.line) {
+        for frame in every_frame(random, &self.line).concat() {
             self.step(&frame);
         }
     }
@@ -75,7 +76,7 @@ pub fn slipped(random: &mut Random) -> Vec<u8> {
     let within = random.pick(&[length_field(&sheet), sheet.len(), sheet.len()]);
     for _ in 0..random.between(1, 4) {
         let start = random.index(within.min(sheet.len()));
-        let end = (start + random.pick(&[1, 5, 13])).min(sheet.len());
+        let end = (start + random.pick(&[1, 5, 6, 13, 14])).min(sheet.len());
         let mut part = sheet[start..end].to_vec();
         mutate(random, &mut part);
         sheet.splice(start..end, part);
@@ -126,7 +127,7 @@ pub fn long_frame(random: &mut Random) -> Vec<u8> {
     let length: u16 = random.pick(&[255, 256, 4_095, 4_096, 4_097, 65_534, 65_535]);
     let mut frame = random.bytes(usize::from(length));
     frame[..2].copy_from_slice(&length.to_be_bytes());
-    frame[2] = random.pick(&[0, Frame::VERSION, Frame::VERSION]);
+    frame[2] = random.pick(&[0, 1, 2]);
     let mut bytes = [&sheet[..at], &frame, &sheet[at..]].concat();
     if random.one_in(2) {
         bytes.truncate(at + random.index(frame.len()));
@@ -138,7 +139,7 @@ pub fn long_frame(random: &mut Random) -> Vec<u8> {
 pub fn edges(sheet: &[u8]) -> Vec<Vec<u8>> {
     let mut edges = Vec::new();
     for at in [vec![0], frame_starts(sheet)].concat() {
-        for length in [0, 1, 2, 3, 4, 5, 6, 12, 13, 14, 255, 256, 65_535_u16] {
+        for length in [0, 1, 2, 3, 4, 5, 6, 7, 12, 13, 14, 15, 255, 256, 65_535_u16] {
             let mut bytes = sheet[..at].to_vec();
             bytes.extend(length.to_be_bytes());
             bytes.extend(sheet.get(at + 2..).unwrap_or_default());
@@ -163,20 +164,22 @@ fn frame_starts(sheet: &[u8]) -> Vec<usize> {
 /// Very many frames, nearly all of them refused, behind one that shifts them.
 pub fn many(random: &mut Random, shift: usize) -> Vec<u8> {
     let mut typed: Typed = staged::mixed();
-    let mut first = vec![0; Frame::HEADER + shift];
+    let mut first = vec![0; Frame::LEAST_LENGTH + shift];
     first[1] = first.len() as u8;
     typed.step(&first);
-    let length = typed.bytes.len() + MANY_FRAMES / 5 * SHIFTS;
+    let length = typed.bytes.len() + MANY_FRAMES / 10 * SHIFTS;
     while typed.bytes.len() < length {
         typed.every_frame(random);
     }
     typed.bytes
 }
 
-/// 1,000,000 accepted steps, and each frame once more.
+/// 1,000,000 accepted steps of console 0, more of the others, and each frame once
+/// more.
 pub fn million(random: &mut Random) -> Vec<u8> {
     let mut typed: Typed = staged::worn();
     play_to_the_end(random, &mut typed);
+    play(random, &mut typed);
     typed.every_frame(random);
     typed.bytes
 }

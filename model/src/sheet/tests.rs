@@ -80,6 +80,10 @@ fn cut_frames() {
     let other_length = [0, 6, 1, 2, 0, 0, 0, 5, 0, 2, 0];
     let expected = format!("LINE 1\nA 1 11\nA 2 10\n{nodes}");
     assert_eq!(written(&[&PLAN, &other_length]), expected);
+    // In version 2 as in version 1.
+    let short = [0, 6, 2, 2, 4, 0, 0, 5, 2, 2, 0, 0, 4, 2, 2];
+    let expected = format!("LINE 1\nA 1 25\nA 2 11\nA 3 9\n{nodes}");
+    assert_eq!(written(&[&PLAN, &short]), expected);
 }
 
 #[test]
@@ -110,7 +114,7 @@ fn kept_sheets() {
     let folder = Path::new(env!("CARGO_MANIFEST_DIR")).join("vectors/sheets");
     let checked = vectors::check_folder(&folder).unwrap();
     assert!(checked.wrong.is_empty(), "{:?}", checked.wrong);
-    assert_eq!(checked.sheets(), 82);
+    assert_eq!(checked.sheets(), 110);
 }
 
 /// Twelve nodes, 500 frames: well under 50 ms.

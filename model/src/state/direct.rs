@@ -13,6 +13,8 @@ mod step;
 
 pub use step::{step, step_unchecked};
 
+use std::array::from_fn;
+
 use super::layout::*;
 use crate::answer::{ACCEPTED, STATE};
 use crate::line::Line;
@@ -31,17 +33,17 @@ fn is_undamaged(state: &[u8; LENGTH]) -> bool {
     let Some(shape) = Shape::read(&state[..PLAN_SPACE]) else {
         return false;
     };
-    let steps = number_at(state, STEPS);
-    if steps > Line::MOST_STEPS
+    let counts: [u32; Line::CONSOLES] = from_fn(|console| number_at(state, steps(console)));
+    if counts.iter().any(|&count| count > Line::MOST_STEPS)
         || !is_zero(&state[shape.length..STEPS])
-        || !is_zero(&state[STEPS + NUMBER..HEAD_LENGTH])
+        || !is_zero(&state[STEPS_END..HEAD_LENGTH])
     {
         return false;
     }
     let mut view = View {
         state,
         shape,
-        steps,
+        steps: counts.iter().sum(),
         down: 0,
         replaying: 0,
         marked: 0,
@@ -57,6 +59,7 @@ fn is_undamaged(state: &[u8; LENGTH]) -> bool {
 struct View<'a> {
     state: &'a [u8; LENGTH],
     shape: Shape,
+    /// Of all consoles.
     steps: u32,
     /// A bit for each node.
     down: u32,

@@ -11,8 +11,9 @@ pub const LENGTH: usize = 61_440;
 /// The plan's own bytes.
 pub const PLAN: usize = 0;
 pub const PLAN_SPACE: usize = 512;
-/// The count of accepted steps.
+/// The counts of accepted steps, one a console.
 pub const STEPS: usize = 512;
+pub const STEPS_END: usize = steps(Line::CONSOLES);
 pub const HEAD_LENGTH: usize = 4096;
 
 /// A time, a mark or a count.
@@ -20,6 +21,10 @@ pub const NUMBER: usize = 4;
 /// What a message was made from: the sender's number and 1, 0 for none, then
 /// the sender's time, 0 for none.
 pub const ORIGIN: usize = 1 + NUMBER;
+
+pub const fn steps(console: usize) -> usize {
+    STEPS + NUMBER * console
+}
 
 pub fn node(number: usize) -> usize {
     HEAD_LENGTH + NODE_LENGTH * number

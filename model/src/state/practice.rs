@@ -19,7 +19,7 @@ pub use conditions::CLAUSES;
 pub use features::FEATURES;
 pub use harmless::HARMLESS;
 pub use places::{places, Place};
-pub use runs::{any_plan, any_record, lines, play, play_to_the_end, replay_on, Played};
+pub use runs::{any_plan, any_record, call, lines, play, play_to_the_end, replay_on, Played};
 pub use scrambles::SCRAMBLES;
 pub use slots::SHUFFLES;
 
@@ -90,7 +90,7 @@ pub fn staged(random: &mut Random, visit: Visit) {
         for place in places(&line).into_iter().filter(|place| place.is_used) {
             fields::neighbours(&mut state, place, visit);
             if is_small {
-                fields::all_edges(&mut state, place, line.steps, visit);
+                fields::all_edges(&mut state, place, line.accepted_steps(), visit);
             }
         }
     }

@@ -1,5 +1,7 @@
 //! The line that the bytes of a state are those of.
 
+use std::array::from_fn;
+
 use super::layout::*;
 use super::writing::line_bytes;
 use crate::clock::Clock;
@@ -28,7 +30,7 @@ fn named_parts(state: &[u8]) -> Option<Line> {
         .map(|number| read_queue(&state[channel(number)..][..CHANNEL_LENGTH]))
         .collect();
     Some(Line {
-        steps: number_at(state, STEPS),
+        steps: from_fn(|console| number_at(state, steps(console))),
         nodes: nodes?,
         queues: queues?,
         plan,

@@ -12,7 +12,7 @@ use crate::line::Line;
 use crate::random::Random;
 
 const RUNS: u64 = 300;
-const LAST_RUNS: u64 = 20;
+const LAST_RUNS: u64 = 40;
 
 /// The lines of each run, made once for all tests.
 fn runs() -> &'static [Vec<Line>] {
@@ -20,8 +20,11 @@ fn runs() -> &'static [Vec<Line>] {
     LINES.get_or_init(|| {
         let worn: Line = staged::worn();
         let runs = (0..RUNS).map(|seed| lines(&mut Random::new(seed)));
-        let last =
-            (0..LAST_RUNS).map(|seed| play_to_the_end(&mut Random::new(seed), &mut worn.clone()));
+        let last = (0..LAST_RUNS).map(|seed| {
+            let mut random = Random::new(seed);
+            let mut line = staged::worn_by_all(&mut random, &worn);
+            play_to_the_end(&mut random, &mut line)
+        });
         runs.chain(last).collect()
     })
 }

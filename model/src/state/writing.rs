@@ -8,7 +8,9 @@ use crate::line::{Buffered, Entry, Line, Message, Node, Origin, Queue, Status, T
 pub fn line_bytes(line: &Line) -> Vec<u8> {
     let mut state = vec![0; LENGTH];
     put(&mut state, PLAN, &line.plan.write());
-    put_number(&mut state, STEPS, line.steps);
+    for (console, &count) in line.steps.iter().enumerate() {
+        put_number(&mut state, steps(console), count);
+    }
     for (number, each) in line.nodes.iter().enumerate() {
         write_node(&mut state[node(number)..][..NODE_LENGTH], each);
     }

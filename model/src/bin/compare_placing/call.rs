@@ -242,7 +242,7 @@ impl Memory {
 fn margin_word(random: &mut Random) -> u32 {
     match random.index(3) {
         0 => random.between(0, 4),
-        1 => random.between(0, 1_000_000),
+        1 => random.between(0, placing::GREATEST),
         _ => random.draw() as u32,
     }
 }

@@ -2,7 +2,7 @@
 // breaks a table that would otherwise have a placing.
 
 use model::placing::tables::{placeable, Table};
-use model::placing::{Item, GREATEST_COLUMN, MOST_ITEMS};
+use model::placing::{Item, GREATEST, MOST_ITEMS};
 use model::random::Random;
 
 use crate::call::{Call, Numbers};
@@ -70,8 +70,8 @@ impl Fault {
             let width = count as u32 + random.between(0, 40);
             let low = match random.index(3) {
                 0 => 1,
-                1 => GREATEST_COLUMN - width,
-                _ => random.between(1, GREATEST_COLUMN - width),
+                1 => GREATEST - width,
+                _ => random.between(1, GREATEST - width),
             };
             let table = placeable(random, low, low + width, count);
             if offers_a_place_for_every_fault(&table.items) {
@@ -93,7 +93,7 @@ impl Fault {
                 if random.one_in(2) {
                     (call.low, call.high) = (call.high, call.low);
                 } else {
-                    call.low = random.pick(&[call.high + 1, GREATEST_COLUMN + 1, u32::MAX]);
+                    call.low = random.pick(&[call.high + 1, GREATEST + 1, u32::MAX]);
                 }
             }
             Fault::HighTooLarge => {
@@ -169,7 +169,7 @@ impl Fault {
             Fault::FixedWithFloor => {
                 let index = pick_index(random, count, |index| call.fixed.held[index] != 0);
                 let below = random.between(1, call.fixed.held[index] - 1);
-                call.floors.held[index] = random.pick(&[1, below, below, GREATEST_COLUMN]);
+                call.floors.held[index] = random.pick(&[1, below, below, GREATEST]);
             }
             Fault::Shorter(slice) => {
                 let less = random.between(1, 3) as usize;
@@ -180,7 +180,7 @@ impl Fault {
                 for _ in 0..random.between(1, 3) {
                     let next = match slice {
                         Slice::Rows => 3,
-                        Slice::Times => 1_000_000,
+                        Slice::Times => GREATEST,
                         Slice::Fixed | Slice::Floors => 0,
                     };
                     let numbers = chosen(call, slice);
@@ -201,11 +201,11 @@ fn offers_a_place_for_every_fault(items: &[Item]) -> bool {
 }
 
 fn too_large(random: &mut Random) -> u32 {
-    let any = random.between(1_000_001, u32::MAX);
+    let any = random.between(GREATEST + 1, u32::MAX);
     random.pick(&[
-        1_000_001,
-        1_000_001,
-        1_000_002,
+        GREATEST + 1,
+        GREATEST + 1,
+        GREATEST + 2,
         (1 << 31) - 1,
         1 << 31,
         u32::MAX,

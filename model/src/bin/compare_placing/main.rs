@@ -12,8 +12,8 @@ use std::{env, fs};
 
 use model::placing::tables::{nearly_placeable, placeable, unrelated, Table};
 use model::placing::{
-    exists_placing, keeps_rules, vectors, ACCEPTED, GREATEST_COLUMN, MALFORMED, MOST_ITEMS,
-    NO_PLACING, SHORT_OUTPUT,
+    exists_placing, keeps_rules, vectors, ACCEPTED, GREATEST, MALFORMED, MOST_ITEMS, NO_PLACING,
+    SHORT_OUTPUT,
 };
 use model::random::Random;
 
@@ -113,25 +113,25 @@ impl Run {
             let width = count as u32 + self.random.between(0, most_spare);
             let low = match self.random.index(3) {
                 0 => 0,
-                1 => GREATEST_COLUMN - width,
-                _ => self.random.between(0, GREATEST_COLUMN - width),
+                1 => GREATEST - width,
+                _ => self.random.between(0, GREATEST - width),
             };
             let table = self.any_table(low, low + width, count);
             self.compare_table(&table);
         }
     }
 
-    /// Up to 64 items over up to a million columns.
+    /// Up to 64 items over up to four million columns.
     fn wide_tables(&mut self) {
         for _ in 0..WIDE_TABLES {
             let count = self.random.index(MOST_ITEMS + 1);
             let low = match self.random.index(2) {
                 0 => 0,
-                _ => self.random.between(0, 999_000),
+                _ => self.random.between(0, GREATEST - 1_000),
             };
             let high = match self.random.index(2) {
-                0 => GREATEST_COLUMN,
-                _ => self.random.between(low + 64, GREATEST_COLUMN),
+                0 => GREATEST,
+                _ => self.random.between(low + 64, GREATEST),
             };
             let table = self.any_table(low, high, count);
             self.compare_table(&table);
@@ -164,9 +164,9 @@ impl Run {
         for round in 0..EXTREME_TABLES {
             let count = self.random.index(9);
             let width = count as u32 + self.random.between(0, 20);
-            let low =
-                self.random
-                    .pick(&[0, 1, 1000, GREATEST_COLUMN - 100, GREATEST_COLUMN - width]);
+            let low = self
+                .random
+                .pick(&[0, 1, 1000, GREATEST - 100, GREATEST - width]);
             let table = self.any_table(low, low + width, count);
             let mut call = Call::with_any_places(&mut self.random, &table);
             let share = if round % 4 == 0 { 1 } else { 16 };
@@ -177,7 +177,7 @@ impl Run {
                 call.high = extreme(&mut self.random);
             }
             // Walks over many columns take long: only a few here.
-            let is_wide = call.high <= GREATEST_COLUMN && call.high > call.low.saturating_add(1000);
+            let is_wide = call.high <= GREATEST && call.high > call.low.saturating_add(1000);
             if is_wide && !self.random.one_in(32) {
                 call.low = call.high - self.random.between(0, 20);
             }
@@ -200,7 +200,8 @@ impl Run {
 
 fn extreme(random: &mut Random) -> u32 {
     let any = random.draw() as u32;
-    let around = random.pick(&[0, 4, 64, 1 << 16, 1_000_000, 1 << 31, u32::MAX, any]);
+    let limit = random.pick(&[1_000_000, GREATEST]);
+    let around = random.pick(&[0, 4, 64, 1 << 16, limit, 1 << 31, u32::MAX, any]);
     let away = random.between(0, 4);
     around.wrapping_add(away).wrapping_sub(2)
 }

@@ -1,12 +1,15 @@
 // The rows of the counts and the least count of each.
 
 use model::compare::{answer, under, Floor};
+use model::line::Caller;
+use model::sheet::practice::SHIFTS;
 
 /// What the rows stand under.
 pub mod section {
     pub const SHEETS: &str = "sheets";
     pub const PIECES: &str = "passed to the program";
     pub const ANSWERS: &str = "answers";
+    pub const CALLERS: &str = "accepted frames, by who sends them";
     pub const LINES: &str = "lines of nodes";
 }
 
@@ -20,7 +23,7 @@ pub mod kind {
     pub const CUT: &str = "short ones cut at every byte";
     pub const EDGES: &str = "length fields at their edges";
     pub const MANY: &str = "over 65,536 frames, at every shift";
-    pub const MILLION: &str = "1,000,000 accepted steps and more frames";
+    pub const MILLION: &str = "1,000,000 accepted steps of a console and more frames";
 }
 
 pub const WHOLE: &str = "in one piece";
@@ -31,6 +34,8 @@ pub const PIECES: [(&str, usize); 5] = [
     ("in pieces of 61 bytes", 61),
     ("in pieces of 4,096 bytes", 4_096),
 ];
+
+pub const AFTER_ANOTHERS_LAST: &str = "after 12 from another console";
 
 /// Lines of the text, by the first that they are.
 pub mod line {
@@ -67,8 +72,8 @@ pub fn all() -> Vec<Floor> {
         ],
     );
     floors.extend(under(section::SHEETS, 200, [kind::LIMITS, kind::LONG]));
-    floors.extend(under(section::SHEETS, 90, [kind::KEPT]));
-    floors.extend(under(section::SHEETS, 33, [kind::MANY]));
+    floors.extend(under(section::SHEETS, 120, [kind::KEPT]));
+    floors.extend(under(section::SHEETS, SHIFTS, [kind::MANY]));
     floors.extend(under(section::SHEETS, 1, [kind::MILLION]));
     floors.extend(under(section::PIECES, 20_000, [WHOLE]));
     floors.extend(under(section::PIECES, 1_000, PIECES.map(|(name, _)| name)));
@@ -76,8 +81,11 @@ pub fn all() -> Vec<Floor> {
     floors.extend(under(
         section::ANSWERS,
         20,
-        (1..=7).chain(9..=21).map(answer),
+        (1..=7).chain(9..=21).chain([25]).map(answer),
     ));
+    let callers = Caller::ALL.iter().map(Caller::to_string);
+    floors.extend(under(section::CALLERS, 20_000, callers));
+    floors.extend(under(section::CALLERS, 20, [AFTER_ANOTHERS_LAST]));
     let lines = line::KINDS.iter().map(|(name, _)| *name);
     floors.extend(under(section::LINES, 1_000, lines));
     floors

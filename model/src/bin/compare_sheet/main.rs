@@ -9,12 +9,14 @@ mod program;
 use std::path::Path;
 use std::{env, fs, io, thread};
 
+use model::answer::{ACCEPTED, STEPS_USED_UP};
 use model::compare::{self, answer, Counts};
+use model::line::Frame;
 use model::random::Random;
 use model::sheet::vectors::answers;
-use model::sheet::{practice, sheet, sheet_in_place};
+use model::sheet::{practice, sheet_in_place, sheet_told};
 
-use floors::{kind, line, section, PIECES, WHOLE};
+use floors::{kind, line, section, AFTER_ANOTHERS_LAST, PIECES, WHOLE};
 
 /// Each has its share of the sheets.
 const WORKERS: usize = 2;
@@ -25,7 +27,7 @@ const RAW: usize = 4_000;
 const LIMITS: usize = 200;
 const LONG: usize = 400;
 /// Short sheets: each is cut at every byte and has its length fields changed.
-const SHORT: usize = 40;
+const SHORT: usize = 60;
 const SHORT_LENGTH: usize = 160;
 /// No made-up sheet is passed in more pieces than these.
 const MOST_PIECES: usize = 1_300;
@@ -143,7 +145,11 @@ impl Work<'_> {
         input: &[u8],
         pieces: impl IntoIterator<Item = Piece>,
     ) {
-        let text = sheet(input);
+        let mut is_one_used_up = false;
+        let text = sheet_told(input, |frame, answer| {
+            is_one_used_up |= answer == STEPS_USED_UP;
+            self.count_frame(frame, answer, is_one_used_up);
+        });
         if sheet_in_place(input) != text {
             compare::fail(kind, "the model's two sheets differ", input);
         }
@@ -156,6 +162,17 @@ impl Work<'_> {
         }
         self.counts.add(section::SHEETS, kind);
         self.count_lines(&text);
+    }
+
+    fn count_frame(&mut self, frame: &[u8], answer: u32, is_one_used_up: bool) {
+        if answer != ACCEPTED {
+            return;
+        }
+        let (caller, _) = Frame::read(frame).expect("an accepted frame");
+        self.counts.add(section::CALLERS, caller.to_string());
+        if is_one_used_up {
+            self.counts.add(section::CALLERS, AFTER_ANOTHERS_LAST);
+        }
     }
 
     fn count_lines(&mut self, text: &[u8]) {

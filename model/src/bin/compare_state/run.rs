@@ -39,10 +39,11 @@ impl Run {
         lines
     }
 
-    /// The lines of the last steps that there can be.
+    /// The lines of the last steps that consoles can have.
     pub fn reach_last(&mut self, seed: u64, worn: &Line) {
         let mut random = Random::new(seed);
-        let lines = play_to_the_end(&mut random, &mut worn.clone());
+        let mut line = staged::worn_by_all(&mut random, worn);
+        let lines = play_to_the_end(&mut random, &mut line);
         self.reached(seed, &mut random, &lines);
     }
 

@@ -1,8 +1,10 @@
 // The rows of the counts and the least count of each.
 
+use std::fmt::Display;
+
 use model::compare::{answer, under, Floor};
 use model::line::practice::EVENTS;
-use model::line::Frame;
+use model::line::{Caller, Frame};
 use model::state::practice::{Kind, HARMLESS};
 
 /// What the rows stand under.
@@ -10,7 +12,10 @@ pub mod section {
     pub const CALLS: &str = "calls, by their states";
     pub const FRAMES: &str = "calls, by their frames";
     pub const ANSWERS: &str = "answers";
+    pub const VERSIONS: &str = "frames as long as their field says, by the version byte";
     pub const KINDS: &str = "frames of the right form on undamaged states";
+    pub const CALLERS: &str = "the same, by who sends them";
+    pub const FROM_ALL: &str = "the same step from every caller";
     pub const EVENTS: &str = "what steps do and why they are refused";
     pub const HARMLESS: &str = "undamaged states that no run leads to, each with every frame";
     pub const DAMAGED: &str = "damaged states";
@@ -21,7 +26,8 @@ pub const ALL: &str = "all";
 /// What the states of the calls are.
 pub mod on {
     pub const LOADED: &str = "on runs from Load";
-    pub const WORN: &str = "to the end of all steps";
+    pub const LATE: &str = "on runs from late times";
+    pub const WORN: &str = "to the end of a console's steps";
     pub const STAGED: &str = "on the fullest lines";
     pub const TORN: &str = "replays of what no run leaves";
     pub const CHANGED: &str = "undamaged, no run leads there";
@@ -39,7 +45,7 @@ pub mod with {
 
 pub fn all() -> Vec<Floor> {
     let mut floors = under(section::CALLS, 1_000_000, [ALL]);
-    floors.extend(under(section::CALLS, 300_000, [on::LOADED]));
+    floors.extend(under(section::CALLS, 300_000, [on::LOADED, on::LATE]));
     floors.extend(under(section::CALLS, 10_000, [on::WORN]));
     floors.extend(under(section::CALLS, 10_000, [on::STAGED]));
     floors.extend(under(section::CALLS, 300_000, [on::TORN, on::CHANGED]));
@@ -52,12 +58,19 @@ pub fn all() -> Vec<Floor> {
     floors.extend(under(
         section::ANSWERS,
         1_000,
-        (8..=21).chain([24]).map(answer),
+        (8..=21).chain([24, 25]).map(answer),
     ));
+    floors.extend(under(section::VERSIONS, 1_000, VERSIONS.map(version)));
+    floors.extend(under(section::VERSIONS, 1_000, [OTHER_VERSION]));
     let outcomes = KINDS
         .iter()
         .flat_map(|kind| [true, false].map(|is| outcome(kind, is)));
     floors.extend(under(section::KINDS, 2_000, outcomes));
+    let outcomes = Caller::ALL
+        .iter()
+        .flat_map(|caller| [true, false].map(|is| outcome(caller, is)));
+    floors.extend(under(section::CALLERS, 20_000, outcomes));
+    floors.extend(under(section::FROM_ALL, 1_000, FROM_ALL));
     let events = EVENTS.iter().map(|event| event.name);
     floors.extend(under(section::EVENTS, 100, events));
     let harmless = HARMLESS.iter().map(|harmless| harmless.name);
@@ -79,6 +92,23 @@ const DAMAGED: &[Kind] = &[
     Kind::Length,
 ];
 
+const VERSIONS: [u8; 5] = [0, 1, 2, 3, 255];
+const OTHER_VERSION: &str = "another version";
+
+pub fn version(byte: u8) -> String {
+    match VERSIONS.contains(&byte) {
+        true => format!("version {byte}"),
+        false => OTHER_VERSION.to_string(),
+    }
+}
+
+pub const FROM_ALL: [&str; 4] = [
+    "accepted from all",
+    "refused from all",
+    "12 from some, accepted from others",
+    "12 from some, refused from others",
+];
+
 const KINDS: [&str; 5] = ["Feed", "Send", "Take", "Crash", "Recover"];
 
 pub fn kind(frame: &Frame, is_accepted: bool) -> String {
@@ -92,7 +122,7 @@ pub fn kind(frame: &Frame, is_accepted: bool) -> String {
     outcome(KINDS[kind], is_accepted)
 }
 
-fn outcome(kind: &str, is_accepted: bool) -> String {
+pub fn outcome(of: impl Display, is_accepted: bool) -> String {
     let outcome = if is_accepted { "accepted" } else { "refused" };
-    format!("{kind}, {outcome}")
+    format!("{of}, {outcome}")
 }

@@ -1,6 +1,7 @@
 // Compares the engine's Step, and the model's own step in place, with the
-// model's step on lines: on runs from Load, on undamaged states that no run
-// leads to, and on damaged ones. Run in model/:
+// model's step on lines: on runs from Load and from late times, on undamaged
+// states that no run leads to, and on damaged ones; and the engine's Step with
+// itself, on the same step from every caller. Run in model/:
 //   cargo run --release --offline --features engine-state --bin compare_step [seed]
 
 mod floors;
@@ -10,10 +11,11 @@ mod states;
 use model::compare::seed;
 use model::state::practice::staged;
 
+use floors::on;
 use run::Run;
 
 const RUNS: u64 = 600;
-const CHANGED_RUNS: u64 = 50;
+const CHANGED_RUNS: u64 = 80;
 const LAST_RUNS: u64 = 200;
 const TORN: u64 = 18_000;
 
@@ -28,16 +30,21 @@ fn main() {
 
 fn one(run: &mut Run, seed: u64) {
     let lines = run.play(seed);
-    run.change(seed, &lines);
+    run.change(seed, on::LOADED, &lines);
+    let lines = run.play_late(seed);
+    run.change(seed, on::LATE, &lines);
     run.play_to_the_end(seed, &staged::worn());
     run.tear(seed);
 }
 
 fn all(run: &mut Run) {
     for seed in 0..RUNS {
-        let lines = run.play(seed);
+        let (kind, lines) = match seed % 2 {
+            0 => (on::LOADED, run.play(seed)),
+            _ => (on::LATE, run.play_late(seed)),
+        };
         if seed < CHANGED_RUNS {
-            run.change(seed, &lines);
+            run.change(seed, kind, &lines);
         }
     }
     let worn = staged::worn();

@@ -1,14 +1,15 @@
 // Calls on states and frames as they are drawn, counted.
 
-use model::answer::NO_REPLAY;
-use model::compare::{self, Counts};
+use model::answer::{ACCEPTED, FRAME_LENGTH, NO_REPLAY};
+use model::compare::{self, from_all, Counts};
+use model::engine;
 use model::line::practice::{
-    cut_frames, every_frame, random_frames, stray, torn, Practice, Stepped, EVENTS,
+    age, cut_frames, every_frame, random_frames, stray, torn, Practice, Stepped, EVENTS,
 };
 use model::line::{Frame, Line};
 use model::random::Random;
 use model::state::line_bytes;
-use model::state::practice::{self, any_plan, replay_on, staged, Case, Kind, Played};
+use model::state::practice::{self, any_plan, call, replay_on, staged, Case, Kind, Played};
 
 use crate::floors::{self, on, section, with};
 use crate::states::States;
@@ -17,6 +18,8 @@ use crate::states::States;
 const STAGED_RUNS: usize = 100;
 /// How often wrong frames are drawn for a state.
 const WRONG: usize = 8;
+/// One call in so many is made from every caller.
+const FROM_ALL: u32 = 64;
 
 pub struct Run {
     /// Of what is drawn for the calls, the practice's draws aside.
@@ -64,11 +67,22 @@ impl Run {
         practice::play(&mut random, &mut self.playing(states, on::LOADED))
     }
 
-    /// The last steps that there can be, and one more of each kind.
+    /// A run from late times.
+    pub fn play_late(&mut self, seed: u64) -> Vec<Line> {
+        self.seed = seed;
+        let mut random = Random::new(seed);
+        let mut line = Line::of(any_plan(&mut random));
+        age(&mut random, &mut line);
+        let states = States::of(&mut self.random, &line_bytes(&line));
+        practice::play(&mut random, &mut self.playing(states, on::LATE))
+    }
+
+    /// The last steps that consoles can have, and one more of each kind.
     pub fn play_to_the_end(&mut self, seed: u64, worn: &Line) {
         self.seed = seed;
         let mut random = Random::new(seed);
-        let states = States::of(&mut self.random, &line_bytes(worn));
+        let line = staged::worn_by_all(&mut random, worn);
+        let states = States::of(&mut self.random, &line_bytes(&line));
         let mut playing = self.playing(states, on::WORN);
         practice::play_to_the_end(&mut random, &mut playing);
         let mut states = playing.states;
@@ -85,13 +99,13 @@ impl Run {
 
     /// What is made of the lines: undamaged states that no run leads to, and
     /// damaged ones.
-    pub fn change(&mut self, seed: u64, lines: &[Line]) {
+    pub fn change(&mut self, seed: u64, kind: &'static str, lines: &[Line]) {
         self.seed = seed;
         let mut random = Random::new(!seed);
         for line in lines {
             let mut states = States::of(&mut self.random, &line_bytes(line));
-            self.try_every_frame(&mut random, &mut states, on::LOADED);
-            self.try_wrong_frames(&mut random, &mut states, on::LOADED);
+            self.try_every_frame(&mut random, &mut states, kind);
+            self.try_wrong_frames(&mut random, &mut states, kind);
         }
         let mut drawn = Random::new(seed);
         practice::damaged(&mut random, lines, &mut |case| {
@@ -140,7 +154,7 @@ impl Run {
         }
         let mut playing = self.playing(states, on::TORN);
         let node = router as u8;
-        playing.step(&Frame::Recover { node }.write());
+        call(&mut random, &mut playing, Frame::Recover { node });
         for _ in 0..random.pick(&[8, 150, 150]) {
             let taken = replay_on(&mut random, &mut playing);
             if taken.is_none_or(|answer| answer == NO_REPLAY) {
@@ -172,7 +186,7 @@ impl Run {
                 let states = States::of(&mut self.random, &state);
                 let mut playing = self.playing(states, on::STAGED);
                 for node in 0..line.nodes.len() as u8 {
-                    playing.step(&Frame::Recover { node }.write());
+                    call(&mut random, &mut playing, Frame::Recover { node });
                 }
                 while replay_on(&mut random, &mut playing).is_some() {}
             }
@@ -181,8 +195,9 @@ impl Run {
 
     fn try_every_frame(&mut self, random: &mut Random, states: &mut States, kind: &'static str) {
         let line = states.line.as_ref().expect("an undamaged state");
-        for frame in every_frame(random, line) {
-            self.call(states, kind, with::EVERY, &frame, false);
+        for versions in every_frame(random, line) {
+            let frame = &versions[random.index(versions.len())];
+            self.call(states, kind, with::EVERY, frame, false);
         }
     }
 
@@ -221,13 +236,21 @@ impl Run {
         self.counts.add(section::FRAMES, made);
         let answer = after.as_ref().err().copied().unwrap_or(0);
         self.counts.add(section::ANSWERS, compare::answer(answer));
-        if let (Some(before), Ok(frame)) = (&states.line, Frame::read(frame)) {
+        if Frame::read(frame) != Err(FRAME_LENGTH) {
+            let version = floors::version(frame[2]);
+            self.counts.add(section::VERSIONS, version);
+        }
+        if let (Some(before), Ok((caller, asked))) = (&states.line, Frame::read(frame)) {
             let outcome = after.as_ref().map(|(line, _)| line);
             self.count(&Stepped {
                 before,
-                frame,
+                caller,
+                frame: asked,
                 after: outcome.map_err(|&refusal| refusal),
             });
+            if self.random.one_in(FROM_ALL) {
+                self.call_from_all(before, &states.bytes, asked);
+            }
         }
         match after {
             Ok((line, bytes)) if goes_on => states.go_on(line, bytes),
@@ -237,9 +260,29 @@ impl Run {
         answer
     }
 
+    /// The engine does the same whoever sends the frame.
+    fn call_from_all(&mut self, line: &Line, state: &[u8], frame: Frame) {
+        let from = from_all(&mut self.random, engine::step, line, state, frame);
+        let from = from.unwrap_or_else(|wrong| {
+            let told = format!("seed {}, {frame:?} from every caller", self.seed);
+            compare::fail(&told, &wrong, state)
+        });
+        let [accepted, refused, some_accepted, some_refused] = floors::FROM_ALL;
+        let row = match (from.is_one_used_up, from.answer) {
+            (false, Some(ACCEPTED)) => accepted,
+            (false, _) => refused,
+            (true, Some(ACCEPTED)) => some_accepted,
+            (true, _) => some_refused,
+        };
+        self.counts.add(section::FROM_ALL, row);
+    }
+
     fn count(&mut self, step: &Stepped) {
-        let row = floors::kind(&step.frame, step.after.is_ok());
+        let is_accepted = step.after.is_ok();
+        let row = floors::kind(&step.frame, is_accepted);
         self.counts.add(section::KINDS, row);
+        let row = floors::outcome(step.caller, is_accepted);
+        self.counts.add(section::CALLERS, row);
         for event in EVENTS.iter().filter(|event| (event.is_it)(step)) {
             self.counts.add(section::EVENTS, event.name);
         }

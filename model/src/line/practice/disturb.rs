@@ -8,7 +8,15 @@ pub fn disturb(random: &mut Random, line: &mut Line) {
     let number = random.index(line.nodes.len());
     let channel = random.index(line.queues.len());
     let some_node = random.index(line.nodes.len());
-    let time = random.between(0, 12);
+    let early = random.between(0, 12);
+    // Where times are late: about that of the node, a parent or the channel's.
+    let known = [
+        line.nodes[number].time(),
+        line.nodes[line.plan.parents(number).next().unwrap_or(number)].time(),
+        line.queues[channel].mark,
+    ];
+    let near = (random.pick(&known) + 4).saturating_sub(random.between(0, 12));
+    let time = random.pick(&[early, near]);
     let material = random.pick(&[0, 1, 2, 3]);
     let node = &mut line.nodes[number];
     let queue = &mut line.queues[channel];

@@ -2,12 +2,15 @@
 
 use std::collections::BTreeSet;
 
-use crate::answer::{NO_REPLAY, NO_SPACE};
+use crate::answer::{NO_REPLAY, NO_SPACE, STEPS_USED_UP};
 use crate::line::replay::placed;
-use crate::line::{restart, Buffered, Entry, Frame, Line, Node, Origin, Restart, Status, Target};
+use crate::line::{
+    restart, stepped, Buffered, Caller, Entry, Frame, Line, Node, Origin, Restart, Status, Target,
+};
 
 pub struct Stepped<'a> {
     pub before: &'a Line,
+    pub caller: Caller,
     pub frame: Frame,
     /// The line after it, or the refusal.
     pub after: Result<&'a Line, u32>,
@@ -75,9 +78,29 @@ pub const EVENTS: &[Event] = &[
         step.ended()
             .is_some_and(|(_, _, ended)| ended.log.len() == Line::MOST_BUFFERED)
     }),
-    event("the last step", |step| {
+    event("replay ended above time 1,000,000", |step| {
+        step.ended().is_some_and(|(low, _, _)| low > 1_000_000)
+    }),
+    event("replay ended over more than 1,000,000 columns", |step| {
+        step.ended()
+            .is_some_and(|(low, _, ended)| ended.time() - low > 1_000_000)
+    }),
+    event("the last step of a console", |step| {
         step.after
-            .is_ok_and(|after| after.steps == Line::MOST_STEPS)
+            .is_ok_and(|after| after.steps[step.caller.console()] == Line::MOST_STEPS)
+    }),
+    event("the last step of all", |step| {
+        step.after
+            .is_ok_and(|after| after.steps == [Line::MOST_STEPS; Line::CONSOLES])
+    }),
+    event("12, accepted from another console", |step| {
+        step.after == Err(STEPS_USED_UP)
+            && Caller::ALL
+                .iter()
+                .any(|&other| stepped(step.before, &step.frame.sent_by(other)).is_ok())
+    }),
+    event("12, no console has steps left", |step| {
+        step.after == Err(STEPS_USED_UP) && step.before.steps == [Line::MOST_STEPS; Line::CONSOLES]
     }),
     event("21: a source's log is full", |step| {
         step.after == Err(NO_SPACE) && matches!(step.frame, Frame::Feed { .. })

@@ -1,7 +1,10 @@
 //! Routers down between sources and sinks whose logs no frames leave so. Their
 //! Recover finds targets that agree, that conflict, that are too many or whose
 //! rows are complete at once; what the sources then send can be placed, or not.
+//! In half of the cases times are late, in some those of the router far apart.
 
+use super::late::each_time;
+use super::{age, greatest_time, reach};
 use crate::line::{Entry, Line, Message, Node, Origin, Status};
 use crate::plan::{Channel, Plan};
 use crate::random::Random;
@@ -25,11 +28,6 @@ pub fn torn(random: &mut Random) -> (Line, usize) {
     let mut line = Line::of(plan(random, sources, sinks));
     let high = random.pick(&[2, 4, 8, 20, 100]);
     let made = drawn_made(random, sources, high);
-    line.steps = if random.one_in(16) {
-        Line::MOST_STEPS - 1
-    } else {
-        1_000
-    };
     for source in 0..sources {
         fill_source(random, &mut line.nodes[source], source, &made);
     }
@@ -46,6 +44,18 @@ pub fn torn(random: &mut Random) -> (Line, usize) {
     }
     line.nodes[sources].status = Status::Down;
     line.nodes[sources].crash_marked = true;
+    if random.one_in(24) {
+        let stride = 3_500_000 / high;
+        each_time(&mut line, &mut |node, time| {
+            *time *= if node == sources { stride } else { 1 };
+        });
+    }
+    if random.one_in(2) {
+        let accepted = greatest_time(&line).max(1_000);
+        reach(random, &mut line, accepted);
+    } else {
+        age(random, &mut line);
+    }
     (line, sources)
 }
 

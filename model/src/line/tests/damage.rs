@@ -61,19 +61,24 @@ fn damages() {
             line.plan.rules[0] = crate::rule::Rule::Cap { greatest: 0 };
         }),
         ("plan: order", |line| line.plan.channels.swap(0, 1)),
-        ("steps over the limit", |line| line.steps = 1_000_001),
+        ("first console's steps", |line| line.steps[0] = 1_000_001),
+        ("last console's steps", |line| line.steps[3] = 1_000_001),
         ("node's time passes the steps", |line| {
-            line.nodes[11].clock.time = line.steps + 1;
+            line.nodes[11].clock.time = line.accepted_steps() + 1;
+        }),
+        ("node's time passes all steps", |line| {
+            line.steps = [1_000_000; 4];
+            line.nodes[11].clock.time = 4_000_001;
         }),
         ("entry for a parent passes the steps", |line| {
-            line.steps = 3;
+            line.steps = [1, 0, 1, 1];
         }),
         ("heard time passes the steps", |line| {
-            let steps = line.steps;
-            line.nodes[11].clock.raise_heard(10, 9, steps + 1);
+            let accepted = line.accepted_steps();
+            line.nodes[11].clock.raise_heard(10, 9, accepted + 1);
         }),
         ("mark passes the steps", |line| {
-            line.queues[0].mark = line.steps + 1;
+            line.queues[0].mark = line.accepted_steps() + 1;
         }),
         ("record in a log", |line| {
             line.nodes[0].log[0].message.record.material = 16;
@@ -86,7 +91,7 @@ fn damages() {
         }),
         ("65 entries", |line| {
             let last = *line.nodes[0].log.last().unwrap();
-            line.steps = 1000;
+            line.steps = [250; 4];
             for time in 4..=65 {
                 let mut entry = last;
                 entry.message.time = time;
@@ -96,7 +101,7 @@ fn damages() {
         }),
         ("9 messages", |line| {
             let last = *line.queues[8].messages.last().unwrap();
-            line.steps = 1000;
+            line.steps = [250; 4];
             for time in 5..=10 {
                 line.queues[8].messages.push(Message { time, ..last });
             }
@@ -164,7 +169,7 @@ fn damages() {
             line.queues[8].messages[1].time = 2;
         }),
         ("message above the mark", |line| {
-            line.steps = 1000;
+            line.steps = [250; 4];
             line.queues[8].messages[2].time = 5;
         }),
         ("mark below the receiver's entry", |line| {
@@ -327,9 +332,16 @@ fn damages() {
 fn no_damages() {
     type Change = fn(&mut Line);
     let changes: &[(&str, Change)] = &[
-        ("steps nobody needed", |line| line.steps += 1),
+        ("steps nobody needed", |line| line.steps[3] += 1),
+        ("steps of other consoles", |line| {
+            line.steps = [0, line.steps[0] - 5, 5, 0];
+        }),
         ("mark above the sender's time", |line| {
-            line.queues[8].mark = line.steps;
+            line.queues[8].mark = line.accepted_steps();
+        }),
+        ("node's time at all steps", |line| {
+            line.steps = [1_000_000; 4];
+            line.nodes[11].clock.time = 4_000_000;
         }),
         ("a gap in log times", |line| {
             line.nodes[9].clock.time = 9;

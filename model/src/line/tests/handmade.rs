@@ -1,6 +1,7 @@
 //! Undamaged lines that no frames lead to: there 21 and 24 end a replay.
 
 use super::*;
+use crate::line::practice::age;
 
 /// A child's log entry made from a message of the router at `time`, which was
 /// made from the parent's at `parent_time`.
@@ -27,7 +28,7 @@ fn give_log(line: &mut Line, child: usize, router: usize, triples: &[(u32, usize
         node.log
             .push(child_entry(own_time, router, time, parent, parent_time));
     }
-    line.steps = 1000;
+    line.steps = [250; 4];
 }
 
 /// The line of P9, node 2 down, with such logs at 3 and 4.
@@ -231,4 +232,31 @@ fn restored_entries() {
             parent_time: 7,
         }]
     );
+}
+
+/// The ninth sheet where times are late: "placed at 2" is 2 later than low.
+#[test]
+fn late_replay() {
+    assert_eq!(4 * Line::MOST_STEPS, crate::placing::GREATEST);
+    let mut random = crate::random::Random::new(1);
+    let mut latest = 0;
+    for _ in 0..100 {
+        let mut line = ninth_replaying();
+        age(&mut random, &mut line);
+        assert!(!damaged(&line), "{line:?}");
+        let low = line.nodes[2].time();
+        let caller = Caller::ALL
+            .into_iter()
+            .find(|caller| line.steps[caller.console()] + 2 <= Line::MOST_STEPS);
+        let Some(caller) = caller else {
+            continue;
+        };
+        let frames = [Frame::Send { channel: 0 }, Frame::Take { channel: 0 }];
+        accept(&mut line, &frames.map(|frame| frame.sent_by(caller)));
+        let node = &line.nodes[2];
+        assert_eq!((node.status, node.time()), (Status::Up, low + 2));
+        assert_eq!(node.log[0].message.time, low + 2);
+        latest = latest.max(low);
+    }
+    assert!(latest > 3_000_000, "{latest}");
 }

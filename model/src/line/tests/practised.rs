@@ -5,24 +5,27 @@ use std::collections::BTreeMap;
 
 use super::*;
 use crate::answer::NO_REPLAY;
-use crate::line::practice::{any_plan, disturb, retarget, stray, Practice, Stepped, EVENTS};
+use crate::line::practice::{
+    age, any_plan, disturb, reach, retarget, stray, Practice, Stepped, EVENTS,
+};
 use crate::random::Random;
 
 /// How often each answer was given and each event met.
 #[derive(Debug, Default)]
 struct Seen {
-    answers: [usize; 25],
+    answers: [usize; 26],
     events: BTreeMap<&'static str, usize>,
 }
 
 impl Seen {
     fn look(&mut self, before: &Line, frame: &[u8], after: Result<&Line, u32>) {
         self.answers[after.err().unwrap_or(0) as usize] += 1;
-        let Ok(frame) = Frame::read(frame) else {
+        let Ok((caller, frame)) = Frame::read(frame) else {
             return;
         };
         let step = Stepped {
             before,
+            caller,
             frame,
             after,
         };
@@ -40,6 +43,9 @@ fn practised_lines_stay_undamaged() {
         let plan = any_plan(&mut random);
         assert_eq!(Plan::read(&plan.write()), Ok(plan.clone()));
         let mut line = Line::of(plan);
+        if random.one_in(2) {
+            age(&mut random, &mut line);
+        }
         let mut practice = Practice::new(&mut random);
         for _ in 0..random.between(50, 400) {
             let frame = practice.frame(&mut random, &line);
@@ -47,7 +53,10 @@ fn practised_lines_stay_undamaged() {
             let answer = step(&mut line, &frame);
             if answer == 0 {
                 assert!(!damaged(&line), "{frame:?} {before:?}");
-                assert_eq!(line.steps, before.steps + 1);
+                let (caller, _) = Frame::read(&frame).expect("an accepted frame");
+                let mut steps = before.steps;
+                steps[caller.console()] += 1;
+                assert_eq!(line.steps, steps);
                 seen.look(&before, &frame, Ok(&line));
             } else {
                 assert_eq!(line, before);
@@ -56,7 +65,7 @@ fn practised_lines_stay_undamaged() {
         }
     }
     println!("{seen:?}");
-    for answer in [0, 9, 10, 11, 13, 14, 15, 16, 17, 18, 19, 20, 21] {
+    for answer in [0, 9, 10, 11, 12, 13, 14, 15, 16, 17, 18, 19, 20, 21, 25] {
         assert!(seen.answers[answer] >= 20, "{answer} too seldom: {seen:?}");
     }
     assert_eq!(seen.answers[NO_REPLAY as usize], 0);
@@ -78,15 +87,19 @@ fn practised_lines_stay_undamaged() {
 fn undamaged_lines_stay_undamaged() {
     let mut random = Random::new(7);
     let mut starts = 0;
-    let mut answers = [0; 25];
+    let mut answers = [0; 26];
     for _ in 0..300 {
         let mut line = Line::of(any_plan(&mut random));
+        if random.one_in(2) {
+            age(&mut random, &mut line);
+        }
         let mut practice = Practice::new(&mut random);
         for _ in 0..random.between(30, 200) {
             let frame = practice.frame(&mut random, &line);
             step(&mut line, &frame);
         }
-        line.steps += 1_000;
+        let accepted = line.accepted_steps();
+        reach(&mut random, &mut line, accepted + 1_000);
         for _ in 0..60 {
             let mut other = line.clone();
             for _ in 0..random.between(1, 6) {

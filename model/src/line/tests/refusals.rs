@@ -1,4 +1,5 @@
-//! Refusals 9 to 21 that frames alone can lead to, in rising order.
+//! Refusals 9 to 21 and 25 that frames alone can lead to, in the order of the
+//! checks.
 
 use super::*;
 
@@ -23,7 +24,9 @@ fn frames() {
         assert_eq!(refuse(&line, frame), 9);
     }
     assert_eq!(refuse(&line, &[0, 5, 0, 2, 0]), 10);
-    assert_eq!(refuse(&line, &[0, 6, 2, 2, 0, 0]), 10);
+    for version in [0, 3, 255] {
+        assert_eq!(refuse(&line, &[0, 6, version, 2, 0, 0]), 10);
+    }
     assert_eq!(refuse(&line, &[0, 5, 1, 0, 0]), 11);
     assert_eq!(refuse(&line, &[0, 5, 1, 6, 0]), 11);
     assert_eq!(refuse(&line, &[0, 5, 1, 1, 0]), 11);
@@ -33,23 +36,94 @@ fn frames() {
     assert_eq!(refuse(&line, &long_send), 11);
 }
 
+/// 6 bytes, or 14, and one more or less.
+#[test]
+fn frames_of_version_two() {
+    let line = ninth_line();
+    let send = Frame::Send { channel: 0 };
+    assert_eq!(send.sent_by(Caller::Console(3)), [0, 6, 2, 2, 3, 0]);
+    let fed = Frame::Feed {
+        node: 1,
+        record: [0, 0, 0, 7, 1, 0, 0, 250],
+    };
+    let bytes = fed.sent_by(Caller::Console(2));
+    assert_eq!(bytes, [0, 14, 2, 1, 2, 1, 0, 0, 0, 7, 1, 0, 0, 250]);
+    assert_eq!(Frame::read(&bytes), Ok((Caller::Console(2), fed)));
+    accept(&mut line.clone(), std::slice::from_ref(&bytes));
+    assert_eq!(refuse(&line, &[0, 6, 2, 2, 0, 0]), 18);
+    assert_eq!(refuse(&line, &[0, 6, 2, 2, 0]), 9);
+    assert_eq!(refuse(&line, &[0, 5, 2, 2, 0]), 11);
+    assert_eq!(refuse(&line, &[0, 7, 2, 2, 0, 0, 0]), 11);
+    assert_eq!(refuse(&line, &[0, 6, 2, 0, 0, 0]), 11);
+    assert_eq!(refuse(&line, &[0, 6, 2, 6, 0, 0]), 11);
+    assert_eq!(refuse(&line, &[0, 6, 2, 1, 0, 0]), 11);
+    for (version, length) in [(1, 14), (2, 13), (2, 15)] {
+        let mut other = bytes.clone();
+        other.resize(length, 0);
+        (other[1], other[2]) = (length as u8, version);
+        assert_eq!(refuse(&line, &other), 11);
+    }
+}
+
+/// After 11 and before all that looks at the line.
+#[test]
+fn consoles() {
+    let mut line = ninth_line();
+    for _ in 0..2 {
+        for console in [4, 5, 127, 128, 255] {
+            assert_eq!(refuse(&line, &[0, 6, 2, 2, console, 24]), 25);
+            assert_eq!(refuse(&line, &[0, 6, 2, 6, console, 24]), 11);
+            assert_eq!(refuse(&line, &[0, 5, 2, 2, console]), 11);
+        }
+        assert_eq!(refuse(&line, &[0, 6, 2, 2, 3, 0]), 18);
+        line.steps = [Line::MOST_STEPS, Line::MOST_STEPS, Line::MOST_STEPS, 0];
+    }
+}
+
+/// 12 looks at the caller's count alone, and an accepted step raises that alone.
 #[test]
 fn steps_used_up() {
-    let mut line = ninth_line();
-    line.steps = Line::MOST_STEPS - 1;
-    accept(&mut line, &[feed(0, 1, 1)]);
-    assert_eq!(line.steps, Line::MOST_STEPS);
-    for frame in [feed(0, 1, 1), feed(9, 1, 1), send(0), send(24), crash(2)] {
-        assert_eq!(refuse(&line, &frame), 12);
+    let right = record(1, 1).write();
+    let fed = |node, record| Frame::Feed { node, record };
+    let frames = [
+        fed(0, right),
+        fed(9, right),
+        fed(0, UNSOUND),
+        Frame::Send { channel: 0 },
+        Frame::Send { channel: 24 },
+        Frame::Crash { node: 2 },
+    ];
+    for caller in Caller::ALL {
+        let console = caller.console();
+        for others in [0, Line::MOST_STEPS] {
+            let mut line = ninth_line();
+            line.steps = [others; Line::CONSOLES];
+            line.steps[console] = Line::MOST_STEPS - 1;
+            let mut used_up = line.steps;
+            used_up[console] = Line::MOST_STEPS;
+            accept(&mut line, &[frames[0].sent_by(caller)]);
+            assert_eq!(line.steps, used_up);
+            for frame in frames {
+                assert_eq!(refuse(&line, &frame.sent_by(caller)), 12);
+            }
+        }
     }
+    let mut line = ninth_line();
+    line.steps[0] = Line::MOST_STEPS;
     assert_eq!(refuse(&line, &[0, 5, 1, 6, 0]), 11);
+    assert_eq!(refuse(&line, &crash(2)), 12);
+    accept(
+        &mut line,
+        &[Frame::Crash { node: 2 }.sent_by(Caller::Console(1))],
+    );
+    assert_eq!(line.steps, [Line::MOST_STEPS, 1, 0, 0]);
 }
 
 /// A replaying node at the last step is no damage.
 #[test]
 fn last_step_while_replaying() {
     let mut line = ninth_replaying();
-    line.steps = Line::MOST_STEPS - 1;
+    line.steps[0] = Line::MOST_STEPS - 1;
     accept(&mut line, &[send(0)]);
     assert_eq!(refuse(&line, &take(0)), 12);
 }

@@ -16,7 +16,7 @@ use crate::plan::{Channel, Plan};
 use crate::record::Record;
 use crate::rule::Rule;
 
-/// "Step 8 to 21 and then 24."
+/// "Step 8 to 21 and then 24", with 25 after 11.
 pub fn step(state: &mut [u8], frame: &[u8]) -> u32 {
     match <&mut [u8; LENGTH]>::try_from(state) {
         Ok(state) if is_undamaged(state) => step_unchecked(state, frame),
@@ -44,9 +44,10 @@ struct InPlace<'a> {
 
 impl InPlace<'_> {
     fn step(&mut self, frame: &[u8]) -> Result<(), u32> {
-        let frame = Frame::read(frame)?;
-        let steps = number_at(self.state, STEPS);
-        if steps >= Line::MOST_STEPS {
+        let (caller, frame) = Frame::read(frame)?;
+        let count = steps(caller.console());
+        let accepted = number_at(self.state, count);
+        if accepted >= Line::MOST_STEPS {
             return Err(STEPS_USED_UP);
         }
         match frame {
@@ -56,7 +57,7 @@ impl InPlace<'_> {
             Frame::Crash { node } => self.crash(node.into()),
             Frame::Recover { node } => self.recover(node.into()),
         }?;
-        put_number(self.state, STEPS, steps + 1);
+        put_number(self.state, count, accepted + 1);
         Ok(())
     }
 

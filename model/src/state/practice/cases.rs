@@ -4,7 +4,7 @@ use super::change::Change;
 use super::fields::{self, Fields};
 use super::{places, Case, Kind, Place, Visit, CLAUSES, HARMLESS, SCRAMBLES, SHUFFLES};
 use crate::answer::{ACCEPTED, STATE};
-use crate::line::practice::{disturb, retarget};
+use crate::line::practice::{disturb, reach, retarget};
 use crate::line::Line;
 use crate::random::Random;
 use crate::state::{check, line_bytes, LENGTH};
@@ -35,7 +35,7 @@ pub fn made_of(random: &mut Random, line: &Line, visit: Visit) {
     for _ in 0..FIELDS {
         let place = fields.any(random);
         fields::neighbours(&mut state, place, visit);
-        fields::edge(random, &mut state, place, line.steps, visit);
+        fields::edge(random, &mut state, place, line.accepted_steps(), visit);
     }
     for _ in 0..BYTES {
         noise(random, &mut state, &used, visit);
@@ -166,7 +166,7 @@ fn lengths(random: &mut Random, state: &[u8], visit: Visit) {
 /// undamaged. The last undamaged line.
 pub fn disturbed(random: &mut Random, line: &Line, visit: Visit) -> Line {
     let mut last = line.clone();
-    last.steps = (last.steps + 20).min(Line::MOST_STEPS);
+    reach(random, &mut last, line.accepted_steps() + 20);
     for _ in 0..DISTURBED {
         let mut next = last.clone();
         for _ in 0..random.between(1, 4) {

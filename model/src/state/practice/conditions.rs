@@ -18,6 +18,7 @@ mod zeros;
 
 use super::pick;
 use super::places::places;
+use crate::line::practice::reach;
 use crate::line::Line;
 use crate::random::Random;
 use crate::state::line_bytes;
@@ -91,6 +92,11 @@ impl Condition {
             }
         }
     }
+}
+
+/// So that nothing but the condition is damaged, where that can be.
+fn more_steps(random: &mut Random, line: &mut Line, more: u32) {
+    reach(random, line, line.accepted_steps() + more);
 }
 
 pub const CLAUSES: &[Clause] = &[

@@ -1,5 +1,6 @@
 //! What a line may have in it that a practice must not miss.
 
+use crate::line::practice::greatest_time;
 use crate::line::{Line, Node, Status};
 
 pub struct Feature {
@@ -41,10 +42,24 @@ pub const FEATURES: &[Feature] = &[
     feature("a node recovered with a log", |line| {
         has_node(line, |node| is_recovered(node) && !node.log.is_empty())
     }),
-    feature("at most 100 steps left", |line| {
-        Line::MOST_STEPS - line.steps <= 100
+    feature("a console with few steps left", |line| {
+        let few = Line::MOST_STEPS - 100..Line::MOST_STEPS;
+        line.steps.iter().any(|steps| few.contains(steps))
     }),
-    feature("no step left", |line| line.steps == Line::MOST_STEPS),
+    feature("a console with no step left, another with some", |line| {
+        line.steps.contains(&Line::MOST_STEPS) && line.steps != [Line::MOST_STEPS; Line::CONSOLES]
+    }),
+    feature("no step left", |line| {
+        line.steps == [Line::MOST_STEPS; Line::CONSOLES]
+    }),
+    feature("a time above 1,000,000", |line| {
+        greatest_time(line) > 1_000_000
+    }),
+    feature("a replay above time 1,000,000", |line| {
+        has_node(line, |node| {
+            node.status == Status::Replaying && node.time() > 1_000_000
+        })
+    }),
 ];
 
 fn has_node(line: &Line, is_such: impl Fn(&Node) -> bool) -> bool {

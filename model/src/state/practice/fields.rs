@@ -67,6 +67,8 @@ fn edges(value: u32, width: usize, steps: u32) -> Vec<u32> {
             steps + 1,
             1_000_000,
             1_000_001,
+            4_000_000,
+            4_000_001,
             u32::MAX,
             value.swap_bytes(),
         ],

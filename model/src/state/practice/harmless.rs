@@ -4,6 +4,7 @@
 use super::conditions::replays::made::{complete_rows, greatest_target};
 use super::runs::any_record;
 use super::{pick, staged};
+use crate::line::practice::{drawn_steps, greatest_time, reach};
 use crate::line::{restart, Line, Status};
 use crate::random::Random;
 use crate::rule::Rule;
@@ -22,9 +23,14 @@ const fn harmless(
 }
 
 pub const HARMLESS: &[Harmless] = &[
-    harmless("more steps", |random, line| {
-        let any = random.between(line.steps, Line::MOST_STEPS);
-        line.steps = random.pick(&[any, Line::MOST_STEPS]);
+    harmless("other steps that no time exceeds", |random, line| {
+        line.steps = drawn_steps(random, greatest_time(line));
+        Some(())
+    }),
+    harmless("all steps and the latest time", |random, line| {
+        line.steps = [Line::MOST_STEPS; Line::CONSOLES];
+        let node = pick::node_that_is(random, line, Status::Up)?;
+        line.nodes[node].clock.time = line.accepted_steps();
         Some(())
     }),
     harmless("another rule", |random, line| {
@@ -68,13 +74,18 @@ pub const HARMLESS: &[Harmless] = &[
     }),
     harmless("time above the log", |random, line| {
         let node = pick::node_that_is(random, line, Status::Up)?;
-        let time = random.between(line.nodes[node].time(), line.steps);
-        line.nodes[node].clock.time = random.pick(&[time, line.steps]);
+        let time = random.between(line.nodes[node].time(), line.accepted_steps());
+        line.nodes[node].clock.time = time;
+        Some(())
+    }),
+    harmless("time that is the sum of the steps", |random, line| {
+        let node = pick::node_that_is(random, line, Status::Up)?;
+        line.nodes[node].clock.time = line.accepted_steps();
         Some(())
     }),
     harmless("gap in log times", |random, line| {
         let node = pick::node(random, line, |_, node| !node.log.is_empty())?;
-        let time = random.between(line.nodes[node].time(), line.steps);
+        let time = random.between(line.nodes[node].time(), line.accepted_steps());
         line.nodes[node].clock.time = time;
         line.nodes[node].log.last_mut()?.message.time = time;
         Some(())
@@ -106,8 +117,9 @@ pub const HARMLESS: &[Harmless] = &[
     }),
     harmless("higher mark", |random, line| {
         let channel = pick::live_channel(random, line, |_| true)?;
-        let mark = random.between(line.queues[channel].mark, line.steps);
-        line.queues[channel].mark = random.pick(&[mark, line.steps]);
+        let accepted = line.accepted_steps();
+        let mark = random.between(line.queues[channel].mark, accepted);
+        line.queues[channel].mark = random.pick(&[mark, accepted]);
         Some(())
     }),
     harmless("mark at the receiver's entry", |random, line| {
@@ -152,18 +164,19 @@ pub const HARMLESS: &[Harmless] = &[
             random,
             line.plan.parents(line.plan.channels[channel].sender),
         )?;
-        let time = random.between(1, line.steps);
+        let accepted = line.accepted_steps();
+        let time = random.between(1, accepted);
         let origin = line.queues[channel].messages[index].made_from.as_mut()?;
         origin.sender = sender;
-        origin.time = random.pick(&[time, line.steps]);
+        origin.time = random.pick(&[time, accepted]);
         Some(())
     }),
     harmless("higher time heard of a parent's parent", |random, line| {
         let node = pick::node(random, line, |_, node| node.status != Status::Down)?;
         let parent = pick::any(random, line.plan.parents(node))?;
         let before = pick::any(random, line.plan.parents(parent))?;
-        let steps = line.steps;
-        line.nodes[node].clock.raise_heard(parent, before, steps);
+        let accepted = line.accepted_steps();
+        line.nodes[node].clock.raise_heard(parent, before, accepted);
         Some(())
     }),
     harmless("a held record less", |random, line| {
@@ -204,10 +217,10 @@ pub const HARMLESS: &[Harmless] = &[
         let entering: Vec<usize> = line.plan.entering(node).collect();
         for channel in entering {
             let sender = line.plan.channels[channel].sender;
-            let steps = line.steps;
-            line.nodes[node].clock.raise_taken(sender, steps);
+            let accepted = line.accepted_steps();
+            line.nodes[node].clock.raise_taken(sender, accepted);
             line.queues[channel].messages.clear();
-            line.queues[channel].mark = steps;
+            line.queues[channel].mark = accepted;
         }
         Some(())
     }),
@@ -244,7 +257,7 @@ pub const HARMLESS: &[Harmless] = &[
     }),
     harmless("four channels into and out of nodes", |random, line| {
         *line = Line::of(staged::routers_plan());
-        line.steps = random.between(0, Line::MOST_STEPS);
+        line.steps = drawn_steps(random, greatest_time(line));
         Some(())
     }),
 ];
@@ -253,11 +266,11 @@ pub const HARMLESS: &[Harmless] = &[
 /// parent.
 pub fn hold_most(random: &mut Random, line: &mut Line) -> Option<()> {
     let (node, index) = pick::held(random, line, |_, _| true)?;
-    let steps = line.steps + Line::MOST_BUFFERED as u32;
-    if steps > Line::MOST_STEPS {
+    let needed = line.accepted_steps() + Line::MOST_BUFFERED as u32;
+    reach(random, line, needed);
+    if line.accepted_steps() < needed {
         return None;
     }
-    line.steps = steps;
     let first = line.nodes[node].buffered[index];
     let sender = first.made_from.sender;
     let channel = pick::channel_between(line, sender, node);
@@ -268,8 +281,8 @@ pub fn hold_most(random: &mut Random, line: &mut Line) -> Option<()> {
         held.made_from.time = time;
         node.buffered.push(held);
     }
-    node.clock.raise_taken(sender, steps);
+    node.clock.raise_taken(sender, needed);
     line.queues[channel].messages.clear();
-    line.queues[channel].mark = steps;
+    line.queues[channel].mark = needed;
     Some(())
 }

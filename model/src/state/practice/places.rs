@@ -21,6 +21,14 @@ impl Place {
     }
 }
 
+/// One a console.
+const STEPS: [&str; Line::CONSOLES] = [
+    "steps: console 0",
+    "steps: console 1",
+    "steps: console 2",
+    "steps: console 3",
+];
+
 pub fn places(line: &Line) -> Vec<Place> {
     let mut walk = Walk {
         at: 0,
@@ -89,7 +97,9 @@ impl Walk {
             self.used("channel: remainder", 1);
         }
         self.unused("after the plan", 512 - self.at);
-        self.used("steps", 4);
+        for console in STEPS {
+            self.used(console, 4);
+        }
         self.unused("after the steps", 4096 - self.at);
     }
 

@@ -2,9 +2,9 @@
 
 use std::cmp::Reverse;
 
-use super::pick;
+use super::{pick, staged};
 use crate::answer::ACCEPTED;
-use crate::line::practice::{self, tear, Practice};
+use crate::line::practice::{self, age, caller, tear, Practice};
 use crate::line::{step, Frame, Line, Status};
 use crate::plan::{Channel, Plan};
 use crate::random::Random;
@@ -28,9 +28,18 @@ impl Played for Line {
     }
 }
 
-/// Lines on the way of one run.
+/// The answer to a frame from any console, in either version.
+pub fn call(random: &mut Random, played: &mut dyn Played, frame: Frame) -> u32 {
+    let caller = caller(random, played.line());
+    played.step(&frame.sent_by(caller))
+}
+
+/// Lines on the way of one run, from Load or from late times.
 pub fn lines(random: &mut Random) -> Vec<Line> {
     let mut line = Line::of(any_plan(random));
+    if random.one_in(2) {
+        age(random, &mut line);
+    }
     play(random, &mut line)
 }
 
@@ -43,11 +52,13 @@ pub fn play(random: &mut Random, played: &mut dyn Played) -> Vec<Line> {
     }
 }
 
-/// Lines on the way to the end of all steps, and the last.
+/// Lines on the way to where no console has few steps left, but some, and the
+/// last.
 pub fn play_to_the_end(random: &mut Random, played: &mut dyn Played) -> Vec<Line> {
     let mut practice = Practice::new(random);
     let mut lines = Vec::new();
-    while played.line().steps < Line::MOST_STEPS {
+    let few = Line::MOST_STEPS - staged::STEPS_LEFT..Line::MOST_STEPS;
+    while played.line().steps.iter().any(|steps| few.contains(steps)) {
         let frame = practice.frame(random, played.line());
         if played.step(&frame) == ACCEPTED && random.one_in(16) {
             lines.push(played.line().clone());
@@ -133,9 +144,10 @@ fn filled(random: &mut Random, played: &mut dyn Played) -> Vec<Line> {
         if random.one_in(8) {
             continue;
         }
-        let crashed = played.step(&Frame::Crash { node: node as u8 }.write()) == ACCEPTED;
+        let node = node as u8;
+        let crashed = call(random, played, Frame::Crash { node }) == ACCEPTED;
         if crashed && !random.one_in(4) {
-            played.step(&Frame::Recover { node: node as u8 }.write());
+            call(random, played, Frame::Recover { node });
         }
     }
     lines.push(played.line().clone());
@@ -172,7 +184,7 @@ fn fill(random: &mut Random, played: &mut dyn Played, lazy: u32) {
                 }
                 Frame::Take { channel }
             };
-            is_stuck &= played.step(&frame.write()) != ACCEPTED;
+            is_stuck &= call(random, played, frame) != ACCEPTED;
         }
         if is_stuck {
             return;
@@ -189,8 +201,8 @@ pub fn replay_on(random: &mut Random, played: &mut dyn Played) -> Option<u32> {
         line.nodes[receiver].status == Status::Replaying
     });
     let channel = replaying? as u8;
-    played.step(&Frame::Send { channel }.write());
-    Some(played.step(&Frame::Take { channel }.write()))
+    call(random, played, Frame::Send { channel });
+    Some(call(random, played, Frame::Take { channel }))
 }
 
 fn shuffled(random: &mut Random, count: usize) -> Vec<usize> {

@@ -18,12 +18,12 @@ pub const SCRAMBLES: &[Change] = &[
         Some(())
     }),
     change("all behind the right steps", |random, _, state| {
-        random.fill(&mut state[BEHIND_STEPS..]);
+        random.fill(&mut state[STEPS_END..]);
         Some(())
     }),
     change("all behind other steps", |random, _, state| {
-        put_number(state, STEPS, random.between(0, Line::MOST_STEPS));
-        random.fill(&mut state[BEHIND_STEPS..]);
+        other_steps(random, state);
+        random.fill(&mut state[STEPS_END..]);
         Some(())
     }),
     change("all used behind the right steps", |random, line, state| {
@@ -31,7 +31,7 @@ pub const SCRAMBLES: &[Change] = &[
         Some(())
     }),
     change("all used behind other steps", |random, line, state| {
-        put_number(state, STEPS, random.between(0, Line::MOST_STEPS));
+        other_steps(random, state);
         fill_used(random, line, state);
         Some(())
     }),
@@ -66,13 +66,16 @@ pub const SCRAMBLES: &[Change] = &[
     }),
 ];
 
-const BEHIND_STEPS: usize = STEPS + NUMBER;
+fn other_steps(random: &mut Random, state: &mut [u8]) {
+    for console in 0..Line::CONSOLES {
+        put_number(state, steps(console), random.between(0, Line::MOST_STEPS));
+    }
+}
 
 /// The unused bytes stay 0.
 fn fill_used(random: &mut Random, line: &Line, state: &mut [u8]) {
-    let behind = |at: usize| at >= BEHIND_STEPS;
     for place in places(line) {
-        if place.is_used && behind(place.at) {
+        if place.is_used && place.at >= STEPS_END {
             random.fill(&mut state[place.range()]);
         }
     }

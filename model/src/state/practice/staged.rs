@@ -3,8 +3,10 @@
 
 use super::pick::channel_between;
 use super::Played;
+use crate::line::practice::make_late;
 use crate::line::{Frame, Line, Status};
 use crate::plan::{Channel, Plan};
+use crate::random::Random;
 use crate::record::Record;
 use crate::rule::Rule;
 
@@ -134,9 +136,12 @@ fn replaying_by<T: Staged>(take: fn(&mut T, usize, usize), held: usize) -> T {
     line
 }
 
-/// All steps but about fifty are used up: a router between a source and two sinks,
-/// one of which has taken more than the other, crashes, recovers, replays and
-/// goes on, time and again.
+/// How many steps a worn line's console has left at the most.
+pub const STEPS_LEFT: u32 = 60;
+
+/// Of console 0 all steps but about fifty are used up: a router between a source
+/// and two sinks, one of which has taken more than the other, crashes, recovers,
+/// replays and goes on, time and again.
 pub fn worn<T: Staged>() -> T {
     let mut line: T = plan_of(4, vec![(0, 1), (1, 2), (1, 3)]).into();
     for piece in 0..4 {
@@ -145,13 +150,27 @@ pub fn worn<T: Staged>() -> T {
     for channel in [0, 1, 0, 1, 0, 1, 2] {
         pass(&mut line, channel);
     }
-    while line.line().steps < Line::MOST_STEPS - 60 {
+    while line.line().steps[0] < Line::MOST_STEPS - STEPS_LEFT {
         restart(&mut line, 1);
         for _ in 0..3 {
             pass(&mut line, 0);
         }
         accept(&mut line, Frame::Send { channel: 2 });
     }
+    line
+}
+
+/// The worn line, by hand as worn by the other consoles, or more; some have all of
+/// their steps left. Times are late.
+pub fn worn_by_all(random: &mut Random, worn: &Line) -> Line {
+    let mut line = worn.clone();
+    let is_spared = random.one_in(4);
+    for count in &mut line.steps[1..] {
+        let few = Line::MOST_STEPS - random.between(0, STEPS_LEFT);
+        let spared = if is_spared { 0 } else { few };
+        *count = random.pick(&[few, few, few, spared]);
+    }
+    make_late(random, &mut line);
     line
 }
 

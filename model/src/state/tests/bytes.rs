@@ -1,6 +1,6 @@
 //! Where the bytes stand, spelled out.
 
-use crate::line::{step, Frame, Line, Origin};
+use crate::line::{step, Caller, Frame, Line, Origin};
 use crate::record::Record;
 use crate::state::layout;
 use crate::state::practice::{places, staged};
@@ -10,6 +10,8 @@ use crate::state::{line_bytes, read_line, LENGTH};
 #[test]
 fn places_of_the_layout() {
     assert_eq!(LENGTH, 61_440);
+    assert_eq!([0, 1, 2, 3].map(layout::steps), [512, 516, 520, 524]);
+    assert_eq!(layout::STEPS_END, 528);
     assert_eq!((layout::node(0), layout::node(11)), (4096, 49_152));
     assert_eq!((layout::channel(0), layout::channel(23)), (53_248, 60_608));
     assert_eq!(layout::tail(), 60_928);
@@ -78,7 +80,15 @@ fn first_marked_sheet() {
     expected[8192 + 12..8192 + 29]
         .copy_from_slice(&[0, 0, 0, 7, 1, 0, 0, 250, 0, 0, 0, 1, 1, 0, 0, 0, 1]);
     assert_eq!(line_bytes(&line), expected);
-    assert_eq!(read_line(&expected), Some(line));
+
+    // A Feed more from each console.
+    for (console, at) in [515, 519, 523, 527].into_iter().enumerate() {
+        let fed = frames[0].sent_by(Caller::Console(console as u8));
+        assert_eq!(step(&mut line, &fed), 0);
+        expected[at] += 1;
+    }
+    assert_eq!(line_bytes(&line)[..4096], expected[..4096]);
+    assert_eq!(read_line(&line_bytes(&line)), Some(line));
 }
 
 /// A line with every part in it, some of its bytes spelled out.

@@ -7,7 +7,7 @@ use crate::line::Line;
 use crate::random::Random;
 use crate::state::practice::{self, staged, Case, Kind, CLAUSES, HARMLESS, SHUFFLES};
 use crate::state::tests::runs;
-use crate::state::{check, direct, LENGTH};
+use crate::state::{check, direct, line_bytes, LENGTH};
 
 const RUNS: usize = 120;
 
@@ -77,15 +77,30 @@ fn every_unused_byte() {
         compare(case, &mut counts)
     });
     let cases: usize = counts.values().map(|(cases, _)| cases).sum();
-    assert_eq!(cases, LENGTH - 19 - 4 - 2 * 18 - 12);
+    assert_eq!(cases, LENGTH - 19 - 16 - 2 * 18 - 12);
 }
 
-/// A step count above the limit is damage even where no time needs it.
+/// A step count above the limit is damage even where no time needs it and the
+/// others have room.
 #[test]
 fn limits_of_the_steps() {
-    let mut line: Line = staged::fresh();
-    line.steps = Line::MOST_STEPS;
-    assert_eq!(check(&crate::state::line_bytes(&line)), 0);
-    line.steps += 1;
-    assert_eq!(check(&crate::state::line_bytes(&line)), 8);
+    for console in 0..Line::CONSOLES {
+        for others in [0, Line::MOST_STEPS] {
+            let mut line: Line = staged::fresh();
+            line.steps = [others; Line::CONSOLES];
+            line.steps[console] = Line::MOST_STEPS;
+            line.nodes[0].clock.time = line.accepted_steps();
+            assert_eq!(check_both(&line), 0);
+            line.nodes[0].clock.time += 1;
+            assert_eq!(check_both(&line), 8);
+            line.steps[console] += 1;
+            assert_eq!(check_both(&line), 8);
+        }
+    }
+}
+
+fn check_both(line: &Line) -> u32 {
+    let state = line_bytes(line);
+    assert_eq!(direct::check(&state), check(&state));
+    check(&state)
 }

@@ -8,7 +8,7 @@ pub const PASSED: Clause = Clause {
         line("time of an entry's sender", |random, line| {
             let (node, index) =
                 pick::entry(random, line, |_, entry| entry.message.made_from.is_some())?;
-            line.steps += 1000;
+            more_steps(random, line, 1000);
             let input = line.nodes[node].log[index].message.made_from?;
             let raised = pass_taken(random, line, node, input);
             line.nodes[node].log[index].message.made_from = Some(raised);
@@ -17,7 +17,7 @@ pub const PASSED: Clause = Clause {
         line("time of an entry's input's sender", |random, line| {
             let (node, index) =
                 pick::entry(random, line, |_, entry| entry.input_made_from.is_some())?;
-            line.steps += 1000;
+            more_steps(random, line, 1000);
             let entry = line.nodes[node].log[index];
             let sender = entry.message.made_from?.sender;
             let raised = pass_heard(random, line, node, sender, entry.input_made_from?);
@@ -26,7 +26,7 @@ pub const PASSED: Clause = Clause {
         }),
         line("time of a held record's sender", |random, line| {
             let (node, index) = pick::held(random, line, |_, _| true)?;
-            line.steps += 1000;
+            more_steps(random, line, 1000);
             let input = line.nodes[node].buffered[index].made_from;
             let raised = pass_taken(random, line, node, input);
             line.nodes[node].buffered[index].made_from = raised;
@@ -36,7 +36,7 @@ pub const PASSED: Clause = Clause {
             let (node, index) = pick::held(random, line, |node, index| {
                 line.nodes[node].buffered[index].input_made_from.is_some()
             })?;
-            line.steps += 1000;
+            more_steps(random, line, 1000);
             let held = line.nodes[node].buffered[index];
             let sender = held.made_from.sender;
             let raised = pass_heard(random, line, node, sender, held.input_made_from?);

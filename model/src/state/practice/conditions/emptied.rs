@@ -1,4 +1,5 @@
 use super::*;
+use crate::line::practice::reach;
 use crate::line::{Buffered, Entry, Message, Origin, Status, Target};
 use crate::state::practice::runs::any_record;
 
@@ -9,13 +10,13 @@ pub const HOLDING: Clause = Clause {
     conditions: &[
         line("down: time", |random, line| {
             let node = down(random, line)?;
-            line.nodes[node].clock.time = random.between(1, line.steps);
+            line.nodes[node].clock.time = random.between(1, line.accepted_steps());
             Some(())
         }),
         line("down: entry for a parent", |random, line| {
             let node = down(random, line)?;
             let parent = pick::any(random, line.plan.parents(node))?;
-            let time = random.between(1, line.steps);
+            let time = random.between(1, line.accepted_steps());
             line.nodes[node].clock.raise_taken(parent, time);
             Some(())
         }),
@@ -23,7 +24,7 @@ pub const HOLDING: Clause = Clause {
             let node = down(random, line)?;
             let parent = pick::any(random, line.plan.parents(node))?;
             let before = pick::any(random, line.plan.parents(parent))?;
-            let time = random.between(1, line.steps);
+            let time = random.between(1, line.accepted_steps());
             line.nodes[node].clock.raise_heard(parent, before, time);
             Some(())
         }),
@@ -59,7 +60,7 @@ pub const HOLDING: Clause = Clause {
         line("down: entering mark", |random, line| {
             let node = down(random, line)?;
             let channel = pick::any(random, line.plan.entering(node))?;
-            line.queues[channel].mark = random.between(1, line.steps);
+            line.queues[channel].mark = random.between(1, line.accepted_steps());
             Some(())
         }),
         line("down: leaving mark", |random, line| {
@@ -67,7 +68,7 @@ pub const HOLDING: Clause = Clause {
             let channel = pick::any(random, line.plan.leaving(node))?;
             let child = line.plan.channels[channel].receiver;
             let entry = line.nodes[child].clock.taken(node);
-            line.queues[channel].mark = random.between(entry.max(1), line.steps);
+            line.queues[channel].mark = random.between(entry.max(1), line.accepted_steps());
             Some(())
         }),
         line("down: entering message", |random, line| {
@@ -126,7 +127,7 @@ pub const HOLDING: Clause = Clause {
 };
 
 fn down(random: &mut Random, line: &mut Line) -> Option<usize> {
-    line.steps = line.steps.max(1);
+    reach(random, line, 1);
     pick::node_that_is(random, line, Status::Down)
 }
 
@@ -172,11 +173,11 @@ fn logged(held: Buffered, time: u32) -> Entry {
 
 fn aim(random: &mut Random, line: &mut Line, node: usize) -> Option<()> {
     let parent = pick::any(random, line.plan.parents(node))?;
-    line.steps = line.steps.max(1);
+    reach(random, line, 1);
     let target = Target {
-        time: random.between(1, line.steps),
+        time: random.between(1, line.accepted_steps()),
         parent,
-        parent_time: random.between(1, line.steps),
+        parent_time: random.between(1, line.accepted_steps()),
     };
     line.nodes[node].targets.push(target);
     Some(())
@@ -186,8 +187,8 @@ fn aim(random: &mut Random, line: &mut Line, node: usize) -> Option<()> {
 fn put_message(random: &mut Random, line: &mut Line, channel: usize) {
     let ends = line.plan.channels[channel];
     let entry = line.nodes[ends.receiver].clock.taken(ends.sender);
-    line.steps = line.steps.max(entry + 1);
-    let time = random.between(entry + 1, line.steps);
+    reach(random, line, entry + 1);
+    let time = random.between(entry + 1, line.accepted_steps().max(entry + 1));
     let before = pick::any(random, line.plan.parents(ends.sender));
     let message = Message {
         record: any_record(random),

@@ -15,8 +15,22 @@ pub const OUTSIDE: Clause = Clause {
             state[node(number) + CRASH_MARK] = random.pick(&[2, 3, 128, 129, 255]);
             Some(())
         }),
-        line("steps", |random, line| {
-            line.steps = random.pick(&[1_000_001, 1_000_256, 1 << 24, u32::MAX]);
+        line("steps of a console", |random, line| {
+            let console = random.index(Line::CONSOLES);
+            line.steps[console] = random.pick(&[1_000_001, 1_000_256, 1 << 24, u32::MAX]);
+            Some(())
+        }),
+        line("steps of a console, the sum as before", |random, line| {
+            let total = line.accepted_steps();
+            line.steps = [0; Line::CONSOLES];
+            line.steps[random.index(Line::CONSOLES)] = total;
+            (total > Line::MOST_STEPS).then_some(())
+        }),
+        line("steps of two consoles whose sum wraps", |random, line| {
+            let half = 1 << 31;
+            let first = random.index(Line::CONSOLES);
+            let second = (first + 1) % Line::CONSOLES;
+            (line.steps[first], line.steps[second]) = (line.steps[first] + half, half);
             Some(())
         }),
         bytes("entries in a log", |random, line, state| {

@@ -27,7 +27,7 @@ pub const NOT_RISING: Clause = Clause {
         }),
         line("the last time is higher", |random, line| {
             let node = pick::node(random, line, |_, node| !node.log.is_empty())?;
-            line.steps += 1000;
+            more_steps(random, line, 1000);
             let node = &mut line.nodes[node];
             let above = random.pick(&[1, 1, 255, 256, 1000]);
             node.log.last_mut()?.message.time = node.clock.time + above;

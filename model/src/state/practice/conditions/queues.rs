@@ -45,9 +45,9 @@ pub const UNSOUND: Clause = Clause {
         line("message above the mark", |random, line| {
             let (channel, _) = pick::message(random, line, |_, _| true)?;
             let entry = taken(line, channel);
+            more_steps(random, line, 1000);
             let queue = &mut line.queues[channel];
             if random.one_in(2) {
-                line.steps += 1000;
                 queue.messages.last_mut()?.time = queue.mark + random.pick(&[1, 1, 256]);
             } else {
                 let last = queue.messages.last()?.time;

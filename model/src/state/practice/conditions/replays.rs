@@ -10,9 +10,9 @@ pub const NOT_RECOVERED: Clause = Clause {
     conditions: &[
         line("time", |random, line| {
             let node = replaying(random, line)?;
-            line.steps += 1;
+            more_steps(random, line, 1);
             let low = line.nodes[node].time();
-            let any = random.between(0, line.steps);
+            let any = random.between(0, line.accepted_steps());
             let other = random.pick(&[low + 1, low.wrapping_sub(1).min(low + 1), any]);
             line.nodes[node].clock.time = other;
             (other != low).then_some(())
@@ -29,11 +29,11 @@ pub const NOT_RECOVERED: Clause = Clause {
         }),
         line("a target more", |random, line| {
             let (node, index) = target(random, line)?;
+            more_steps(random, line, 10);
             let targets = &mut line.nodes[node].targets;
             if targets.len() == Line::MOST_TARGETS {
                 return None;
             }
-            line.steps += 10;
             let last = targets[targets.len() - 1];
             let more = random.pick(&[
                 targets[index],
@@ -56,7 +56,7 @@ pub const NOT_RECOVERED: Clause = Clause {
         }),
         line("another time of a target", |random, line| {
             let (node, index) = target(random, line)?;
-            line.steps += 1;
+            more_steps(random, line, 1);
             let other = shifted(random, line.nodes[node].targets[index].time);
             line.nodes[node].targets[index].time = other;
             Some(())
@@ -70,7 +70,7 @@ pub const NOT_RECOVERED: Clause = Clause {
         }),
         line("another time of a target's parent", |random, line| {
             let (node, index) = target(random, line)?;
-            line.steps += 1;
+            more_steps(random, line, 1);
             let other = shifted(random, line.nodes[node].targets[index].parent_time);
             line.nodes[node].targets[index].parent_time = other;
             Some(())
@@ -125,7 +125,7 @@ pub const NOT_RECOVERED: Clause = Clause {
         }),
         line("a child's entry gives another low", |random, line| {
             let node = replaying(random, line)?;
-            line.steps += 1;
+            more_steps(random, line, 1);
             let low = line.nodes[node].time();
             let leaving: Vec<usize> = line.plan.leaving(node).collect();
             for channel in leaving {

@@ -1,4 +1,5 @@
 use super::*;
+use crate::line::practice::{greatest_time, share_steps};
 use crate::line::Status;
 
 /// What must reach as far as the time is raised with it, so that nothing but
@@ -7,9 +8,10 @@ pub const EXCEEDED: Clause = Clause {
     words: "a time exceeds the accepted steps",
     conditions: &[
         line("steps too few", |random, line| {
-            let greatest = times(line).into_iter().max()?;
-            let below = random.between(0, greatest.checked_sub(1)?);
-            line.steps = random.pick(&[greatest - 1, below]);
+            let most = greatest_time(line).checked_sub(1)?;
+            let below = random.between(0, most);
+            let total = random.pick(&[most, most, below]);
+            line.steps = share_steps(random, total);
             Some(())
         }),
         line("node's time", |random, line| {
@@ -133,8 +135,9 @@ pub const EXCEEDED: Clause = Clause {
 };
 
 fn over(random: &mut Random, line: &Line) -> u32 {
-    let next = line.steps + 1;
-    random.pick(&[next, next, next + 256, next.max(1_000_001), u32::MAX])
+    let next = line.accepted_steps() + 1;
+    let limits = [1_000_001, 4_000_001].map(|limit| next.max(limit));
+    random.pick(&[next, next, next + 256, limits[0], limits[1], u32::MAX])
 }
 
 /// The receiver has taken up to the time, and nothing waits.
@@ -145,32 +148,4 @@ fn take_up_to(line: &mut Line, channel: usize, time: u32) {
         .raise_taken(ends.sender, time);
     line.queues[channel].messages.clear();
     line.queues[channel].mark = time;
-}
-
-/// Every time in the line.
-fn times(line: &Line) -> Vec<u32> {
-    let mut times = Vec::new();
-    for node in &line.nodes {
-        times.extend(node.clock.times());
-        for entry in &node.log {
-            times.push(entry.message.time);
-            times.extend(entry.message.made_from.map(|input| input.time));
-            times.extend(entry.input_made_from.map(|origin| origin.time));
-        }
-        for held in &node.buffered {
-            times.push(held.made_from.time);
-            times.extend(held.input_made_from.map(|origin| origin.time));
-        }
-        for target in &node.targets {
-            times.extend([target.time, target.parent_time]);
-        }
-    }
-    for queue in &line.queues {
-        times.push(queue.mark);
-        for message in &queue.messages {
-            times.push(message.time);
-            times.extend(message.made_from.map(|origin| origin.time));
-        }
-    }
-    times
 }

@@ -2,6 +2,7 @@
 
 use super::pick;
 use crate::clock::Clock;
+use crate::line::practice::{reach, share_steps};
 use crate::line::{restart, Entry, Line, Message, Node, Origin, Restart, Status};
 use crate::random::Random;
 use crate::state::practice::runs::any_record;
@@ -56,7 +57,8 @@ pub fn complete_rows(
             time,
         };
         log_input(random, &mut line.nodes[child], input, origin);
-        line.steps = line.steps.max(line.nodes[child].time());
+        let time = line.nodes[child].time();
+        reach(random, line, time);
     }
     Some(())
 }
@@ -88,7 +90,7 @@ fn log_input(random: &mut Random, node: &mut Node, input: Origin, origin: Origin
 /// tell; the third has heard nothing.
 pub fn too_many(random: &mut Random) -> Line {
     let mut line = Line::of(plan_of(5, vec![(0, 1), (1, 2), (1, 3), (1, 4)]));
-    line.steps = 1000;
+    line.steps = share_steps(random, 1000);
     let alone = random.between(1, 65);
     for time in 1..=65 {
         let child = if time == alone { 3 } else { 2 };
