@@ -19,7 +19,7 @@ use Rattle.line.specs.Step.{stepAnswer, stepLeft}
 abbrev pub SameOutside : List ℕ → List ℕ → Type 0
 SameOutside s t = (take stepsAt s ≡ take stepsAt t) × (drop (stepsAt + stepsSize) s ≡ drop (stepsAt + stepsSize) t)
 
--- An accepted call raises the caller's count, and no call another's.
+-- An accepted call raises its caller's count by one, and no call another's.
 abbrev pub CountsCallerOnBytes : List ℕ → List ℕ → Type 0
 CountsCallerOnBytes s f = (c : ℕ) → c < consoleCount → wordAt (stepsOfAt c) (stepLeft s f) ≡ wordAt (stepsOfAt c) s + cond (eqb (stepAnswer s f) 0 && eqb c (frameConsole f)) 1 0
 

@@ -22,7 +22,7 @@ pub record SameAsked (f g : List ℕ) : Type 0 where
   pub formed-too : frameRefusal g ≡ 0
   pub asked : frameOf f ≡ frameOf g
 
--- An accepted step raises the caller's count, and no step another's.
+-- An accepted step raises its caller's count by one, and no step another's.
 unfoldable pub countsOne : Line → List ℕ → ℕ → ℕ
 unfolding refusal frameConsole
 countsOne l f c = cond (eqb (refusal l f) 0 && eqb c (frameConsole f)) 1 0
@@ -36,7 +36,7 @@ pub record SameDone (k l : Line) (f g : List ℕ) : Type 0 where
   pub counts : CountsCaller k f
   pub counts-too : CountsCaller l g
 
--- Of damaged lines it is not said: a time is bounded by the counts.
+-- Of undamaged lines: Step answers 8 to the others, and whether a line is damaged does depend on its counts, which bound its times.
 abbrev pub WhoeverSends : Type 0
 WhoeverSends =
     (k l : Line) (f g : List ℕ) → damaged k ≡ false → damaged l ≡ false → SameButCounts k l → SameAsked f g
