@@ -11,7 +11,7 @@ use Rattle.plan.specs.Plan.{planOf, planNodes, planChannels, nodeCount, channel
 use Rattle.plan.specs.Check.{planFits}
 use Rattle.plan.proofs.FitsLaws.{fitting}
 use Rattle.plan.proofs.PlanLaws.{node-count, channel-count}
-use Rattle.rules.specs.Line.{logLimit, queueLimit, heldLimit, targetLimit, Node, Lane, Line, freshNode, noLane, nodeAt, laneAt, withNode, withLane, consoleCount, stepsFrom}
+use Rattle.rules.specs.Line.{logLimit, queueLimit, heldLimit, targetLimit, Node, Lane, Line, freshNode, noLane, nodeAt, laneAt, withNode, withLane, consoleCount, stepsFrom, withSteps}
 use Rattle.rules.proofs.line.LineLaws.{node-there, plan-kept, lane-there, plan-same}
 use Rattle.state.specs.Sizes.{countSize, pageAt, logAt, heldAt, targetsAt, blockAt, queueAt, stepsOfAt}
 use Rattle.state.specs.Node.{logLayout, heldListLayout, targetsLayout, nodeLayout}
@@ -25,7 +25,7 @@ use Rattle.state.proofs.InPlace.{line-plan}
 use Rattle.state.proofs.SpelledLaws.{Sane}
 use Rattle.state.proofs.AcceptedState.{sane-fits}
 use Rattle.state.proofs.Swapped.{Swapped, swap-in, swap-from, swap-put, counts-long, list-counted}
-use Rattle.state.proofs.Written.{node-log, node-held, node-targets, lane-queue, withSteps, line-node-swap, line-lane-swap, fits-node, fits-lane, line-count-swap, fits-count}
+use Rattle.state.proofs.Written.{node-log, node-held, node-targets, lane-queue, line-node-swap, line-lane-swap, fits-node, fits-lane, line-count-swap, fits-count}
 use Rattle.buffer.specs.Holds.{Holds, AtNode, AtLane, NodeNow, LaneNow, Undamaged}
 
 -- ---- where they come from

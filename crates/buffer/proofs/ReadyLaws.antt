@@ -19,10 +19,10 @@ use Rattle.state.specs.Sizes.{pageAt, stepsOfAt}
 use Rattle.state.specs.Node.{statusOf, crashOf}
 use Rattle.state.specs.Lane.{heardCount}
 use Rattle.state.specs.State.{lineOf}
-use Rattle.state.proofs.InPlace.{Counted, line-counts}
+use Rattle.state.proofs.InPlace.{Counted, line-counts, countsIn}
 use Rattle.state.proofs.OffsetLaws.{line-status, line-crashed}
 use Rattle.buffer.specs.Ready.{Ready, OnChannel}
-use Rattle.state.specs.Right.{wordAt, countsIn}
+use Rattle.state.specs.Right.{wordAt}
 
 pub counted : {s : List ℕ} → Ready s → Counted s
 counted r = record { nodes = r .nodes; channels = r .channels }

@@ -1,4 +1,5 @@
 // Where the parts of a line lie in its buffer (docs/LAYOUT.md).
+use crate::Line;
 
 // A number, such as a list's count, which stands in front of its slots.
 pub const COUNT: usize = 4;
@@ -51,6 +52,6 @@ pub const TARGET_SIZE: usize = 12;
 pub const MESSAGE_SIZE: usize = 20;
 
 // What is unused behind the steps, and at the end.
-pub const STEPS_REST: usize = STEPS + 4 * COUNT;
+pub const STEPS_REST: usize = STEPS + Line::CONSOLES * COUNT;
 
 pub const TAIL: usize = 60_928;

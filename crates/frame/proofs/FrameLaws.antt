@@ -15,21 +15,22 @@ use Rattle.plan.specs.Layout.{spelled}
 use Rattle.plan.specs.Record.{recordWidths, recordOf, recordLayout, recordFits, materialFits}
 use Rattle.plan.proofs.LayoutLaws.{fields-front}
 use Rattle.rules.specs.Line.{consoleCount, Line}
-use Rattle.rules.specs.Frame.{frameFront, frontNumber, frameVersion, frameKind, consoleBytes, frameConsole, frameOfKind, frameOf, badFrameLength, badFrameVersion, badKind, badConsole, frameRefusal}
+use Rattle.rules.specs.Frame.{frameHead, frameNumber, frameVersion, frameKind, consoleBytes, frameConsole, frameOfKind, frameOf, badFrameLength, badFrameVersion, badKind, badConsole, frameRefusal}
 use Rattle.rules.specs.Step.{noStepsLeft, lineRefusal, refusal}
+use Rattle.rules.proofs.restart.Frames.{formed-refusal}
 
 -- ---- the head
 
-pub size-field : (f : List ℕ) → spelled 0 (take 2 (drop 0 f)) ≡ frontNumber 0 f
-unfolding frameFront
+pub size-field : (f : List ℕ) → spelled 0 (take 2 (drop 0 f)) ≡ frameNumber 0 f
+unfolding frameHead
 size-field f = refl
 
 pub version-field : (f : List ℕ) → spelled 0 (take 1 (drop 2 f)) ≡ frameVersion f
-unfolding frameFront
+unfolding frameHead
 version-field f = refl
 
 pub kind-field : (f : List ℕ) → spelled 0 (take 1 (drop 3 f)) ≡ frameKind f
-unfolding frameFront
+unfolding frameHead
 kind-field f = rw drop-drop
 
 -- What it asks, by its kind.
@@ -75,7 +76,7 @@ by-tests f ea eb ec ed = λ i. elim (ea i) [ true ↦ 9 | false ↦ elim (eb i) 
 
 pub long-enough : (f : List ℕ) → badFrameLength f ≡ false → 5 ≤ length f
 unfolding badFrameLength
-long-enough f e = ltb-false (length f) 5 (neither-true (ltb (length f) 5) (not (eqb (frontNumber 0 f) (length f))) e .0)
+long-enough f e = ltb-false (length f) 5 (neither-true (ltb (length f) 5) (not (eqb (frameNumber 0 f) (length f))) e .0)
 
 -- The length that the kind and the version ask for: a head at least, and a Feed's record.
 kind-long : (f : List ℕ) → badKind f ≡ false → length f ≡ cond (eqb (frameKind f) 1) 13 5 + consoleBytes f
@@ -100,5 +101,4 @@ unfolding refusal
 frame-refused f r e some l = rw (ne-eqb (frameRefusal f) 0 (λ z. some (sym e ∙ z)), refusal) e
 
 pub frame-passed : (f : List ℕ) → frameRefusal f ≡ 0 → (l : Line) → refusal l f ≡ (elim (noStepsLeft l (frameConsole f)) [ true ↦ 12 | false ↦ lineRefusal l (frameOf f) ])
-unfolding refusal
-frame-passed f z l = rw (eq-eqb (frameRefusal f) 0 z, refusal)
+frame-passed f z l = formed-refusal l (record { formed = z; from = refl; asks = refl })

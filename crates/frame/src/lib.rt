@@ -65,11 +65,11 @@ pub fn console_of(frame: &[u8]) -> usize
 }
 
 // The number of a node or a channel, behind so many bytes for the console.
-fn number_of(frame: &[u8], console: usize) -> usize
-    requires { ⌜ (5 + console ≤ length (now frame)) × (console ≤ 1) ⌝ }
-    ensures { λ r. ⌜ (r ≡ getD (now (frame .entry)) (4 + console) 0) × (r < 256) ⌝ }
+fn number_of(frame: &[u8], extra: usize) -> usize
+    requires { ⌜ (5 + extra ≤ length (now frame)) × (extra ≤ 1) ⌝ }
+    ensures { λ r. ⌜ (r ≡ getD (now (frame .entry)) (4 + extra) 0) × (r < 256) ⌝ }
 {
-    look::index(bytes::get8(frame, 4 + console))
+    look::index(bytes::get8(frame, 4 + extra))
 }
 
 // 9: shorter than a head, or another length than its length field says.
@@ -160,10 +160,10 @@ pub fn frame_of(frame: &[u8]) -> Frame
     requires { ⌜ frameRefusal (now frame) ≡ 0 ⌝ }
     ensures { λ r. ⌜ Asks r (frameOf (now (frame .entry))) ⌝ }
 {
-    let console = console_bytes(frame);
-    let n = number_of(frame, console);
+    let extra = console_bytes(frame);
+    let n = number_of(frame, extra);
     match kind_of(frame) {
-        1 => feed_of(frame, n, HEAD + console),
+        1 => feed_of(frame, n, HEAD + extra),
         2 => Frame::Send(n),
         3 => Frame::Take(n),
         4 => Frame::Crash(n),

@@ -1,18 +1,16 @@
 -- What the line does with a step does not depend on who sent it, on bytes: the rules' statement, carried to the states that hold the lines.
 use Prim.Native.Nat.{ℕ, _+_, _<_}
 use mathlib.Core.Path.{_≡_, refl, sym, ap, ap₂, _∙_}
-use mathlib.Core.Bool.{cond, _&&_}
 use mathlib.Core.List.{List, _++_}
-use lib.Dec.{eqb}
 use lib.ListN.{length, take, drop}
 use lib.Seq.{take-at, drop-at, drop-drop}
 use Rattle.plan.specs.Layout.{fields, writeFields}
 use Rattle.plan.specs.Lawful.{Bytes}
-use Rattle.rules.specs.Line.{consoleCount, Line, stepsFrom}
+use Rattle.rules.specs.Line.{consoleCount, Line, stepsFrom, withSteps}
 use Rattle.rules.specs.Frame.{frameConsole}
 use Rattle.rules.specs.Step.{step}
 use Rattle.rules.specs.Console.{SameButCounts, SameAsked, countsOne}
-use Rattle.rules.proofs.console.Counted.{step-number, counts-caller}
+use Rattle.rules.proofs.console.Counted.{counts-caller}
 use Rattle.rules.proofs.console.WhoeverSends.{whoever-sends}
 use Rattle.state.specs.Sizes.{stepsAt, stepsOfAt, stepsWidths, stepsSize}
 use Rattle.state.specs.Right.{wordAt}
@@ -23,7 +21,7 @@ use Rattle.state.proofs.SoundLaws.{fields-sound}
 use Rattle.state.proofs.SpelledLaws.{Sane, state-sane}
 use Rattle.state.proofs.AcceptedState.{sane-fits}
 use Rattle.state.proofs.Swapped.{Swapped}
-use Rattle.state.proofs.Written.{withSteps, line-steps-swap, fits-steps}
+use Rattle.state.proofs.Written.{line-steps-swap, fits-steps}
 use Rattle.buffer.proofs.ReadyLaws.{count-read}
 use Rattle.buffer.proofs.HoldsLaws.{sane-undamaged}
 use Rattle.line.specs.Step.{stepAnswer, stepLeft}
@@ -92,13 +90,11 @@ module _ (s f : List ℕ) (bytes : Bytes f) (z : stateAnswer s ≡ 0) where
   next = state-sane (stepLeft s f) .0 (call .accepted)
 
   counts-on-bytes : CountsCallerOnBytes s f
-  unfolding countsOne
   counts-on-bytes c inside =
       let now = count-read (stepLeft s f) (sane-undamaged (stepLeft s f) next .holds .ready) c inside in
       let was = count-read s (sane-undamaged s sane .holds .ready) c inside in
-      let number = call .number ∙ step-number (lineOf s) f in
       sym now ∙ ap (λ (l : Line). stepsFrom l c) (call .line) ∙ counts-caller (lineOf s) f (sane .undamaged) c
-      ∙ ap₂ (λ (a n : ℕ). a + cond (eqb n 0 && eqb c (frameConsole f)) 1 0) was (sym number)
+      ∙ ap₂ (λ (a n : ℕ). a + countsOne n (frameConsole f) c) was (sym (call .number))
 
 pub whoever-sends-on-bytes : WhoeverSendsOnBytes
 whoever-sends-on-bytes s t f g bf bg zs zt outside asked left left-too =

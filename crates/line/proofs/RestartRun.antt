@@ -11,7 +11,7 @@ use Rattle.plan.specs.Plan.{Plan, channelCount, entering}
 use Rattle.plan.proofs.FitsLaws.{fitting}
 use Rattle.rules.specs.Line.{consoleCount, Status, up, down, replay, Line, nodeAt}
 use Rattle.rules.specs.Claim.{Story, named}
-use Rattle.rules.specs.Restart.{Caller, unnamed, console, consoleOf, frameFrom, OnEntering, no-more, send-next, take-next, Restarting, ComesBack, NeverStuck}
+use Rattle.rules.specs.Restart.{OnEntering, no-more, send-next, take-next, Restarting, ComesBack, NeverStuck}
 use Rattle.rules.proofs.AlwaysBack.{always-back}
 use Rattle.rules.proofs.lists.Members.{any-in}
 use Rattle.rules.proofs.line.Joins.{entering-in}
@@ -26,6 +26,7 @@ use Rattle.line.specs.Restart.{ComesBackOnBytes, NeverStuckOnBytes, Alwa
 use Rattle.line.proofs.LoadLaws.{load-accepted}
 use Rattle.line.proofs.StepLaws.{answer-undamaged, refusal-not-eight}
 use Rattle.line.proofs.StepRun.{as-told, run-of-lines}
+use Rattle.rules.specs.Frame.{Caller, unnamed, console, consoleOf, frameFrom}
 
 -- The frames of a restart are made of bytes.
 frame-bytes : (w : Caller) → consoleOf w < consoleCount → (kind x : ℕ) → kind < 256 → x < 256 → Bytes (frameFrom w kind x)

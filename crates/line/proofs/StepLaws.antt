@@ -13,7 +13,7 @@ use Rattle.rules.specs.Line.{Line}
 use Rattle.rules.specs.Frame.{Frame, frameOf}
 use Rattle.rules.specs.Step.{noSuch, wrongNode, wrongStatus, besideCrashed, badRecord, nothingThere, queueFull, rowDone, noSpace, noPlacing, lineRefusal, refusal, accepted, step}
 use Rattle.rules.specs.Damaged.{damaged}
-use Rattle.rules.proofs.theorem.Accepted.{step-refused as rules-refused, heard}
+use Rattle.rules.proofs.theorem.Accepted.{step-refused as rules-refused, admitted}
 use Rattle.rules.proofs.undamaged.StepSound.{step-undamaged}
 use Rattle.state.specs.State.{lineBytes, lineOf, stateAnswer}
 use Rattle.state.proofs.LineLaws.{line-read}
@@ -54,7 +54,7 @@ line-not-eight l f =
     (beyond (noPlacing l f) 24 0 (omega arith) (λ e. omega arith))))))))))
 
 pub refusal-not-eight : (l : Line) (f : List ℕ) → refusal l f ≢ 8
-refusal-not-eight l f e = line-not-eight l (frameOf f) (heard l f 8 (λ z. omega arith, (λ z. omega arith, (λ z. omega arith, (λ z. omega arith, (λ z. omega arith, tt))))) e .answer)
+refusal-not-eight l f e = line-not-eight l (frameOf f) (admitted l f 8 (λ z. omega arith, (λ z. omega arith, (λ z. omega arith, (λ z. omega arith, (λ z. omega arith, tt))))) e .answer)
 
 -- ---- Step
 

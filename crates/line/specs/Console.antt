@@ -2,14 +2,12 @@
 use Prim.Native.Nat.{ℕ, _+_, _<_}
 use mathlib.Core.Path.{_≡_}
 use mathlib.Core.Logic.{_≢_}
-use mathlib.Core.Bool.{cond, _&&_}
 use mathlib.Core.List.{List}
 use lib.ListN.{take, drop}
-use lib.Dec.{eqb}
 use Rattle.plan.specs.Lawful.{Bytes}
 use Rattle.rules.specs.Line.{consoleCount}
 use Rattle.rules.specs.Frame.{frameConsole}
-use Rattle.rules.specs.Console.{SameAsked}
+use Rattle.rules.specs.Console.{SameAsked, countsOne}
 use Rattle.state.specs.Sizes.{stepsAt, stepsOfAt, stepsSize}
 use Rattle.state.specs.Right.{wordAt}
 use Rattle.state.specs.State.{stateAnswer}
@@ -21,7 +19,7 @@ SameOutside s t = (take stepsAt s ≡ take stepsAt t) × (drop (stepsAt + stepsS
 
 -- An accepted call raises its caller's count by one, and no call another's.
 abbrev pub CountsCallerOnBytes : List ℕ → List ℕ → Type 0
-CountsCallerOnBytes s f = (c : ℕ) → c < consoleCount → wordAt (stepsOfAt c) (stepLeft s f) ≡ wordAt (stepsOfAt c) s + cond (eqb (stepAnswer s f) 0 && eqb c (frameConsole f)) 1 0
+CountsCallerOnBytes s f = (c : ℕ) → c < consoleCount → wordAt (stepsOfAt c) (stepLeft s f) ≡ wordAt (stepsOfAt c) s + countsOne (stepAnswer s f) (frameConsole f) c
 
 pub record SameDoneOnBytes (s t f g : List ℕ) : Type 0 where
   pub number : stepAnswer s f ≡ stepAnswer t g

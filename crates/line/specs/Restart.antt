@@ -9,11 +9,12 @@ use Rattle.plan.specs.Lawful.{Each, Bytes}
 use Rattle.rules.specs.Lists.{isEmpty}
 use Rattle.rules.specs.Line.{stepLimit, consoleCount, stepsFrom, up, down, replay, nodeAt, laneAt, receiverOf}
 use Rattle.rules.specs.Recover.{rowComplete}
-use Rattle.rules.specs.Restart.{Caller, consoleOf, takeFrame, recoverFrame, unlessUsedUp, Restarting, restartSteps}
+use Rattle.rules.specs.Restart.{takeFrame, recoverFrame, unlessUsedUp, Restarting, restartSteps}
 use Rattle.state.specs.State.{lineOf}
 use Rattle.line.specs.Load.{loadAnswer, loadLeft}
 use Rattle.line.specs.Step.{stepAnswer}
 use Rattle.line.specs.Order.{stateAfter, storyOf}
+use Rattle.rules.specs.Frame.{Caller, consoleOf}
 
 -- Frames of one caller's that bring node n back, each passed to Step with the state that the last call left: all are answered 0, and in the bytes at the end the node is up.
 pub record ComesBackOnBytes (state : List ℕ) (w : Caller) (n : ℕ) : Type 0 where

@@ -9,8 +9,7 @@ use Rattle.plan.specs.Check.{planFits}
 use Rattle.plan.specs.Narrow.{narrowed}
 use Rattle.plan.proofs.FitsLaws.{fits-accepted}
 use Rattle.plan.proofs.AcceptedLaws.{rule-narrow}
-use Rattle.placing.specs.Table.{greatest}
-use Rattle.rules.specs.Line.{nodeAt}
+use Rattle.rules.specs.Line.{nodeAt, timeLimit}
 use Rattle.rules.proofs.line.Consoles.{counts-most}
 use Rattle.rules.proofs.undamaged.Undamaged.{undamaged-sound}
 use Rattle.state.specs.State.{lineOf}
@@ -40,7 +39,7 @@ pub at-receiver : {s : List ℕ} {b : ℕ} {n : ℕ} → AtLane s b → n ≡ ch
 at-receiver {s} {b} at e = record { holds = at .holds; inside = rw e (receiver-inside s b (on-channel at)) }
 
 -- A node's time.
-pub time-within : {s : List ℕ} {n : ℕ} → Undamaged s → n < planNodes s → nodeAt (lineOf s) n .time ≤ greatest
+pub time-within : {s : List ℕ} {n : ℕ} → Undamaged s → n < planNodes s → nodeAt (lineOf s) n .time ≤ timeLimit
 time-within {s} {n} u h =
     let standing = undamaged-sound (lineOf s) (u .undamaged) .standing in
     omega (arith, standing .nodes n (node-inside (at-node u h)) .fits .time, counts-most (standing .counts))

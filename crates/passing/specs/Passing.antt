@@ -6,10 +6,8 @@ use mathlib.Core.List.{List}
 use mathlib.Core.Option.{Option, none, some}
 use lib.ListN.{length}
 use Rattle.plan.specs.Plan.{planChannels}
-use Rattle.placing.specs.Table.{greatest}
 use Rattle.rules.specs.Line as line
-use Rattle.placing.specs.Table.{greatest}
-use Rattle.rules.specs.Line.{logLimit, nodeAt, laneAt, receiverOf}
+use Rattle.rules.specs.Line.{logLimit, nodeAt, laneAt, receiverOf, timeLimit}
 use Rattle.rules.specs.Step.{endDown, replaying}
 use Rattle.state.specs.State.{lineOf}
 use Rattle.buffer.specs.Holds.{AtNode, Undamaged}
@@ -25,7 +23,7 @@ nextIs Nothing = none
 pub record Loggable (s : List ℕ) (n : ℕ) : Type 0 where
   pub at : AtNode s n
   pub room : length (nodeAt (lineOf s) n .log) < logLimit
-  pub time : nodeAt (lineOf s) n .time ≤ greatest
+  pub time : nodeAt (lineOf s) n .time ≤ timeLimit
 
 -- A channel with something to take, whose receiver is up.
 pub record Taking (s : List ℕ) (b : ℕ) : Type 0 where

@@ -1,4 +1,4 @@
--- What Crash and Recover answer is the rules' number where steps are left.
+-- What Crash and Recover answer is the rules' number.
 use Prim.Native.Nat.{ℕ, _<_}
 use mathlib.Core.Path.{_≡_, refl, sym, ap, _∙_}
 use mathlib.Core.Logic.{_≢_}

@@ -1,4 +1,4 @@
--- The numbers that Crash and Recover answer where steps are left, 0 for none.
+-- The numbers that Crash and Recover answer, 0 for none.
 use Prim.Native.Nat.{ℕ}
 use mathlib.Core.Bool.{Bool, true, false, not, _&&_, _||_}
 use mathlib.Core.List.{List}

@@ -7,7 +7,7 @@ use mathlib.Core.List.{List}
 use lib.Dec.{eqb}
 use Rattle.rules.specs.Line.{Line, stepsFrom}
 use Rattle.rules.specs.Frame.{frameConsole, frameOf, frameRefusal}
-use Rattle.rules.specs.Step.{refusal, step}
+use Rattle.rules.specs.Step.{step}
 use Rattle.rules.specs.Damaged.{damaged}
 
 -- Two lines that differ in their counts alone.
@@ -22,13 +22,12 @@ pub record SameAsked (f g : List ℕ) : Type 0 where
   pub formed-too : frameRefusal g ≡ 0
   pub asked : frameOf f ≡ frameOf g
 
--- An accepted step raises its caller's count by one, and no step another's.
-unfoldable pub countsOne : Line → List ℕ → ℕ → ℕ
-unfolding refusal frameConsole
-countsOne l f c = cond (eqb (refusal l f) 0 && eqb c (frameConsole f)) 1 0
+-- An accepted step raises its caller's count by one, and no step another's: what a step with a number, of console `who`, adds to console c's.
+abbrev pub countsOne : ℕ → ℕ → ℕ → ℕ
+countsOne number who c = cond (eqb number 0 && eqb c who) 1 0
 
 abbrev pub CountsCaller : Line → List ℕ → Type 0
-CountsCaller l f = (c : ℕ) → stepsFrom (step l f .line) c ≡ stepsFrom l c + countsOne l f c
+CountsCaller l f = (c : ℕ) → stepsFrom (step l f .line) c ≡ stepsFrom l c + countsOne (step l f .number) (frameConsole f) c
 
 pub record SameDone (k l : Line) (f g : List ℕ) : Type 0 where
   pub number : step k f .number ≡ step l g .number

@@ -7,7 +7,7 @@ use lib.ListN.{replicate}
 use Rattle.plan.specs.declared.Record.{Record}
 use Rattle.plan.specs.declared.Rule.the-variants.{Keep}
 use Rattle.plan.specs.declared.Channel.{Channel}
-use Rattle.rules.specs.Line.{Origin, fed, made, Message, Entry, Held, Target, Status, replay, Node, Lane, Line, freshNode, noLane, nodeAt, laneAt, withNode, withLane, initialLine, onlyCount, acceptedSteps}
+use Rattle.rules.specs.Line.{Origin, fed, made, Message, Entry, Held, Target, Status, replay, Node, Lane, Line, freshNode, noLane, nodeAt, laneAt, withNode, withLane, withSteps, initialLine, onlyCount, acceptedSteps}
 use Rattle.rules.specs.Lists.{isEmpty, joined, upTo}
 use Rattle.rules.specs.Claim.{Story, startOf, storyFrom, told}
 use Rattle.rules.specs.Marked.{channel, feedFrame, frame, moved as twoSteps, replayPlan, replayBegun, replayEnded}
@@ -97,11 +97,8 @@ node n f l = withNode n (f (nodeAt l n)) l
 abbrev lane : ℕ → (Lane → Lane) → Line → Line
 lane b f l = withLane b (f (laneAt l b)) l
 
-abbrev counts : List ℕ → Line → Line
-counts ks l = record { plan = l .plan; steps = ks; nodes = l .nodes; lanes = l .lanes }
-
 abbrev steps : ℕ → Line → Line
-steps k l = counts (onlyCount k) l
+steps k l = withSteps (onlyCount k) l
 
 abbrev pub piece : ℕ → ℕ → Record
 piece k m = record { piece = k; material = m; mass = 0 }
@@ -203,7 +200,7 @@ trials =
     trial begun []
     ∷ trial ended []
     ∷ trial fallen []
-    ∷ trial (counts (replicate 4 1_000_000) begun) []
+    ∷ trial (withSteps (replicate 4 1_000_000) begun) []
     ∷ trial (node 2 (holds (held 1 1 ∷ [])) (lane 0 (moved 1 1) begun)) []
     -- a down node's child keeps its clock
     ∷ trial (lane 2 (moved 0 2) fallen) []
@@ -211,7 +208,7 @@ trials =
     ∷ trial (record { plan = record { rules = begun .plan .rules; channels = map (λ (c : Channel). record { sender = c .sender; receiver = c .receiver; mask = c .mask; modulus = 0; remainder = 0 }) (begun .plan .channels) }; steps = begun .steps; nodes = begun .nodes; lanes = begun .lanes }) (1 ∷ [])
     ∷ trial (lane 0 (λ (s : Lane). record { mark = s .mark; taken = s .taken; heard = 0 ∷ s .heard; queue = s .queue }) begun) (2 ∷ [])
     ∷ trial (steps 1_000_001 begun) (3 ∷ [])
-    ∷ trial (counts (0 ∷ 0 ∷ 0 ∷ 1_000_001 ∷ []) begun) (3 ∷ [])
+    ∷ trial (withSteps (0 ∷ 0 ∷ 0 ∷ 1_000_001 ∷ []) begun) (3 ∷ [])
     -- a node
     ∷ trial (node 3 (logs (of (piece 1 16))) ended) (4 ∷ [])
     ∷ trial (node 3 (logs (before (made 3 1))) ended) (5 ∷ [])
@@ -254,10 +251,10 @@ parts =
     ∷ trial (deepHeld (made 0 2)) []
     ∷ trial chainFallen []
     -- a count for each console
-    ∷ trial (counts (2 ∷ 2 ∷ 7 ∷ []) begun) (2 ∷ [])
+    ∷ trial (withSteps (2 ∷ 2 ∷ 7 ∷ []) begun) (2 ∷ [])
     -- each console's count
-    ∷ trial (counts (11 ∷ 1_000_001 ∷ 0 ∷ 0 ∷ []) begun) (3 ∷ [])
-    ∷ trial (counts (11 ∷ 0 ∷ 1_000_001 ∷ 0 ∷ []) begun) (3 ∷ [])
+    ∷ trial (withSteps (11 ∷ 1_000_001 ∷ 0 ∷ 0 ∷ []) begun) (3 ∷ [])
+    ∷ trial (withSteps (11 ∷ 0 ∷ 1_000_001 ∷ 0 ∷ []) begun) (3 ∷ [])
     -- a node for each rule, a lane for each channel
     ∷ trial (shaped (begun .nodes ++ freshNode ∷ []) (begun .lanes) begun) (2 ∷ [])
     ∷ trial (shaped (begun .nodes) (begun .lanes ++ noLane ∷ []) begun) (2 ∷ [])
@@ -292,10 +289,10 @@ parts =
     ∷ trial (lane 2 (moved 0 100) fallen) (19 ∷ [])
     ∷ trial (lane 2 (hears (100 ∷ 0 ∷ [])) ended) (19 ∷ [])
     -- "bounded by the sum of the four": 4,000,000 and one more, the sum and one more, whoever did the steps
-    ∷ trial (counts (replicate 4 1_000_000) (node 0 (timed 4_000_000) ended)) []
-    ∷ trial (counts (replicate 4 1_000_000) (node 0 (timed 4_000_001) ended)) (6 ∷ [])
-    ∷ trial (counts (20 ∷ 30 ∷ 10 ∷ 40 ∷ []) (lane 0 (moved 100 1) ended)) []
-    ∷ trial (counts (20 ∷ 30 ∷ 10 ∷ 39 ∷ []) (lane 0 (moved 100 1) ended)) (19 ∷ [])
+    ∷ trial (withSteps (replicate 4 1_000_000) (node 0 (timed 4_000_000) ended)) []
+    ∷ trial (withSteps (replicate 4 1_000_000) (node 0 (timed 4_000_001) ended)) (6 ∷ [])
+    ∷ trial (withSteps (20 ∷ 30 ∷ 10 ∷ 40 ∷ []) (lane 0 (moved 100 1) ended)) []
+    ∷ trial (withSteps (20 ∷ 30 ∷ 10 ∷ 39 ∷ []) (lane 0 (moved 100 1) ended)) (19 ∷ [])
     -- "a message's, a held record's or a named sender's time is 0"
     ∷ trial (node 3 (logs (at 0)) ended) (7 ∷ 9 ∷ [])
     ∷ trial (node 3 (logs (origin (made 2 0))) ended) (7 ∷ [])

@@ -8,7 +8,8 @@ use Rattle.plan.specs.declared.Rule.the-variants.{Keep}
 use Rattle.plan.specs.Plan.{Plan}
 use Rattle.plan.specs.Check.{planRefusal}
 use Rattle.rules.specs.Lists.{keep, joined}
-use Rattle.rules.specs.Line.{fed, made, Lane, initialLine, onlyCount}
+use Rattle.rules.specs.Line.{fed, made, Lane, withSteps, initialLine, onlyCount}
+use Rattle.rules.specs.Frame.{console, frameFrom}
 use Rattle.rules.specs.Clock.{raiseHeard, takenFrom}
 use Rattle.rules.specs.Plain.{Receipt}
 use Rattle.rules.specs.Claim.{Story, startOf, storyFrom, told}
@@ -36,9 +37,7 @@ chain = record { rules = Keep ∷ Keep ∷ Keep ∷ Keep ∷ []; channels = chan
 -- What a list of frames does on a plan, from a number of steps of each console on; the answers, where console 0 alone has done steps; the same on the chain.
 unfoldable pub storyOn : Plan → List ℕ → List (List ℕ) → Story
 unfolding initialLine told
-storyOn p counts frames =
-    let l = initialLine p in
-    storyFrom (startOf (record { plan = l .plan; steps = counts; nodes = l .nodes; lanes = l .lanes })) frames
+storyOn p counts frames = storyFrom (startOf (withSteps counts (initialLine p))) frames
 
 unfoldable pub answersOn : Plan → ℕ → List (List ℕ) → List ℕ
 unfolding storyOn
@@ -55,10 +54,7 @@ countedFrom counts frames =
     let s = storyOn chain counts frames in
     s .numbers ++ s .line .steps
 
--- A frame of version 2 of a kind other than Feed, and a Feed.
-abbrev consoleFrame : ℕ → ℕ → ℕ → List ℕ
-consoleFrame c kind number = 0 ∷ 6 ∷ 2 ∷ kind ∷ c ∷ number ∷ []
-
+-- A Feed of version 2.
 abbrev consoleFeed : ℕ → ℕ → ℕ → ℕ → List ℕ
 consoleFeed c node piece material = 0 ∷ 14 ∷ 2 ∷ 1 ∷ c ∷ node ∷ 0 ∷ 0 ∷ 0 ∷ piece ∷ material ∷ 0 ∷ 0 ∷ 0 ∷ []
 
@@ -102,14 +98,14 @@ exampleTable =
     ∷ record { given = length (keep (eqb 0) (replayAfter .numbers)) ∷ replayAfter .line .steps; expected = 25 ∷ 25 ∷ 0 ∷ 0 ∷ 0 ∷ [] }
     -- 2026-01, 11: a version 2 frame of 5 bytes, a Feed of 13, kind 6; a version 1 frame of 6 bytes, a Feed of 14; 11 comes before 25
     ∷ record {
-      given = answers 0 ((0 ∷ 5 ∷ 2 ∷ 2 ∷ 0 ∷ []) ∷ (0 ∷ 13 ∷ 2 ∷ 1 ∷ 0 ∷ replicate 8 0) ∷ consoleFrame 0 6 0 ∷ (0 ∷ 6 ∷ 1 ∷ 2 ∷ 0 ∷ 0 ∷ []) ∷ (0 ∷ 14 ∷ 1 ∷ 1 ∷ 0 ∷ replicate 9 0) ∷ (0 ∷ 5 ∷ 2 ∷ 2 ∷ 9 ∷ []) ∷ []);
+      given = answers 0 ((0 ∷ 5 ∷ 2 ∷ 2 ∷ 0 ∷ []) ∷ (0 ∷ 13 ∷ 2 ∷ 1 ∷ 0 ∷ replicate 8 0) ∷ frameFrom (console 0) 6 0 ∷ (0 ∷ 6 ∷ 1 ∷ 2 ∷ 0 ∷ 0 ∷ []) ∷ (0 ∷ 14 ∷ 1 ∷ 1 ∷ 0 ∷ replicate 9 0) ∷ (0 ∷ 5 ∷ 2 ∷ 2 ∷ 9 ∷ []) ∷ []);
       expected = replicate 6 11;
     }
-    -- 25: "a console above 3", before 12 and 13; console 3 gets as far as 13; in version 1 the fifth byte is no console
-    ∷ record { given = answers 1_000_000 (consoleFrame 4 4 1 ∷ consoleFrame 255 4 99 ∷ consoleFeed 4 9 1 16 ∷ consoleFrame 3 4 99 ∷ []) ++ answers 0 (frame 4 99 ∷ []); expected = 25 ∷ 25 ∷ 25 ∷ 13 ∷ 13 ∷ [] }
+    -- 25: "a console above 3", before 13 and 17; console 3 gets as far as 13; in version 1 the fifth byte is no console
+    ∷ record { given = answers 1_000_000 (frameFrom (console 4) 4 1 ∷ frameFrom (console 255) 4 99 ∷ consoleFeed 4 9 1 16 ∷ frameFrom (console 3) 4 99 ∷ []) ++ answers 0 (frame 4 99 ∷ []); expected = 25 ∷ 25 ∷ 25 ∷ 13 ∷ 13 ∷ [] }
     -- "refusal 12 looks only at the caller's": console 1's steps are used up, then console 0's, in either version; an accepted step raises the caller's count alone
     ∷ record {
-      given = countedFrom (999_999 ∷ 1_000_000 ∷ 0 ∷ 7 ∷ []) (consoleFrame 1 4 2 ∷ consoleFeed 3 0 1 1 ∷ feedFrame 0 1 1 ∷ feedFrame 0 1 1 ∷ consoleFrame 0 2 0 ∷ consoleFrame 2 2 0 ∷ consoleFrame 3 4 0 ∷ []);
+      given = countedFrom (999_999 ∷ 1_000_000 ∷ 0 ∷ 7 ∷ []) (frameFrom (console 1) 4 2 ∷ consoleFeed 3 0 1 1 ∷ feedFrame 0 1 1 ∷ feedFrame 0 1 1 ∷ frameFrom (console 0) 2 0 ∷ frameFrom (console 2) 2 0 ∷ frameFrom (console 3) 4 0 ∷ []);
       expected = 12 ∷ 0 ∷ 0 ∷ 12 ∷ 12 ∷ 0 ∷ 14 ∷ 1_000_000 ∷ 1_000_000 ∷ 1 ∷ 8 ∷ [];
     }
     -- a clock entry is raised: the greatest time heard stays

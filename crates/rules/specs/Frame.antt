@@ -16,22 +16,22 @@ pub data Frame : Type 0 where
   recover : ℕ → Frame
 
 -- "A frame: length of the frame (2 bytes), version 1, kind, node number (belt number for kinds 2 and 3); kind 1 adds a record." 2026-01: "Frames of version 2 carry a console number 0..3 after the kind and are one byte longer". Frames of both versions begin alike.
-unfoldable pub frameFront : Layout (List ℕ)
+unfoldable pub frameHead : Layout (List ℕ)
 unfolding fields
-frameFront = fields (2 ∷ 1 ∷ 1 ∷ [])
+frameHead = fields (2 ∷ 1 ∷ 1 ∷ [])
 
-abbrev pub frontNumber : ℕ → List ℕ → ℕ
-frontNumber k f = getD (frameFront .read f) k 0
+abbrev pub frameNumber : ℕ → List ℕ → ℕ
+frameNumber k f = getD (frameHead .read f) k 0
 
 abbrev pub frameVersion : List ℕ → ℕ
-frameVersion f = frontNumber 1 f
+frameVersion f = frameNumber 1 f
 
 abbrev pub frameKind : List ℕ → ℕ
-frameKind f = frontNumber 2 f
+frameKind f = frameNumber 2 f
 
 -- How many bytes a frame has for its console.
 unfoldable pub consoleBytes : List ℕ → ℕ
-unfolding frameFront
+unfolding frameHead
 consoleBytes f = cond (eqb (frameVersion f) 2) 1 0
 
 -- "version 1 frames are console 0"
@@ -48,12 +48,12 @@ frameOf f = frameOfKind (frameKind f) (getD f (4 + consoleBytes f) 0) (drop (5 +
 
 -- 9: "frame under 5 bytes, or not its length field"
 unfoldable pub badFrameLength : List ℕ → Bool
-unfolding frameFront
-badFrameLength f = ltb (length f) 5 || not (eqb (frontNumber 0 f) (length f))
+unfolding frameHead
+badFrameLength f = ltb (length f) 5 || not (eqb (frameNumber 0 f) (length f))
 
 -- 10: "frame version"
 unfoldable pub badFrameVersion : List ℕ → Bool
-unfolding frameFront
+unfolding frameHead
 badFrameVersion f = not (eqb (frameVersion f) 1 || eqb (frameVersion f) 2)
 
 -- 11: "kind not 1..5, or length not the kind's": "13 bytes for kind 1, else 5", one more in version 2
@@ -80,3 +80,17 @@ frameRefusal f =
         ]
       ]
     ]
+
+-- Who passes a frame: one who types version 1, or a console that says its number.
+pub data Caller : Type 0 where
+  unnamed : Caller
+  console : ℕ → Caller
+
+abbrev pub consoleOf : Caller → ℕ
+consoleOf unnamed = 0
+consoleOf (console c) = c
+
+-- A caller's frame of a kind without a record, for a node or a channel.
+abbrev pub frameFrom : Caller → ℕ → ℕ → List ℕ
+frameFrom unnamed kind n = 0 ∷ 5 ∷ 1 ∷ kind ∷ n ∷ []
+frameFrom (console c) kind n = 0 ∷ 6 ∷ 2 ∷ kind ∷ c ∷ n ∷ []

@@ -1,5 +1,6 @@
 -- The line: its nodes and channels as they are (document 01, "The line" and "Clocks and steps"). In these modules n is a node and b a channel; in Recover and Replay b is the paper's node B and c a channel.
-use Prim.Native.Nat.{ℕ, suc}
+use Prim.Native.Nat.{ℕ, suc, _*_}
+use mathlib.Core.Path.{_≡_, refl}
 use mathlib.Core.Bool.{Bool, true, false}
 use mathlib.Core.List.{List, [], _∷_, map}
 use lib.ListN.{length, getD, set, replicate}
@@ -28,6 +29,13 @@ stepLimit = 1_000_000
 -- 2026-01: "a console number 0..3".
 abbrev pub consoleCount : ℕ
 consoleCount = 4
+
+-- So many steps can be accepted in all: no time is later.
+abbrev pub timeLimit : ℕ
+timeLimit = 4_000_000
+
+pub all-consoles : consoleCount * stepLimit ≡ timeLimit
+all-consoles = refl
 
 -- What something was made from: nothing at a source, else a sender and its time.
 pub data Origin : Type 0 where
@@ -149,8 +157,11 @@ withLane b x l = record { plan = l .plan; steps = l .steps; nodes = l .nodes; la
 abbrev pub oneMore : ℕ → List ℕ → List ℕ
 oneMore c counts = set counts c (suc (getD counts c 0))
 
+abbrev pub withSteps : List ℕ → Line → Line
+withSteps counts l = record { plan = l .plan; steps = counts; nodes = l .nodes; lanes = l .lanes }
+
 unfoldable pub counted : ℕ → Line → Line
-counted c l = record { plan = l .plan; steps = oneMore c (l .steps); nodes = l .nodes; lanes = l .lanes }
+counted c l = withSteps (oneMore c (l .steps)) l
 
 -- One change for each of some channels.
 abbrev pub withLanes : (ℕ → Lane → Lane) → List ℕ → Line → Line

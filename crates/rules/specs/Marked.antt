@@ -13,6 +13,7 @@ use Rattle.rules.specs.Recover.{lowOf, highOf}
 use Rattle.rules.specs.Plain.{Receipt}
 use Rattle.rules.specs.Claim.{Story, startOf, storyFrom, told, receivedBy}
 use Rattle.rules.specs.Sheet.{sheet}
+use Rattle.rules.specs.Frame.{unnamed, frameFrom}
 
 -- A sheet's number, what the rules give and what the paper marks, in lists of numbers.
 pub record Row : Type 0 where
@@ -59,7 +60,7 @@ abbrev pub feedFrame : ℕ → ℕ → ℕ → List ℕ
 feedFrame node piece material = 0 ∷ 13 ∷ 1 ∷ 1 ∷ node ∷ 0 ∷ 0 ∷ 0 ∷ piece ∷ material ∷ 0 ∷ 0 ∷ 0 ∷ []
 
 abbrev pub frame : ℕ → ℕ → List ℕ
-frame kind number = 0 ∷ 5 ∷ 1 ∷ kind ∷ number ∷ []
+frame kind number = frameFrom unnamed kind number
 
 -- A Send and a Take on a channel.
 abbrev pub moved : ℕ → List (List ℕ)

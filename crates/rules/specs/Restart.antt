@@ -12,20 +12,7 @@ use Rattle.rules.specs.Line.{stepLimit, consoleCount, Status, up, down, 
 use Rattle.rules.specs.Recover.{rowComplete}
 use Rattle.rules.specs.Step.{noStepsLeft, refusal}
 use Rattle.rules.specs.Claim.{named, startOf, storyFrom}
-
--- Who passes a frame: one who types version 1, or a console that says its number.
-pub data Caller : Type 0 where
-  unnamed : Caller
-  console : ℕ → Caller
-
-abbrev pub consoleOf : Caller → ℕ
-consoleOf unnamed = 0
-consoleOf (console c) = c
-
--- A caller's frame of a kind without a record, for a node or a channel.
-abbrev pub frameFrom : Caller → ℕ → ℕ → List ℕ
-frameFrom unnamed kind n = 0 ∷ 5 ∷ 1 ∷ kind ∷ n ∷ []
-frameFrom (console c) kind n = 0 ∷ 6 ∷ 2 ∷ kind ∷ c ∷ n ∷ []
+use Rattle.rules.specs.Frame.{Caller, consoleOf, frameFrom}
 
 -- A Send and a Take on channel b, and a Recover of node n.
 abbrev pub sendFrame : Caller → ℕ → List ℕ

@@ -20,7 +20,7 @@ use Rattle.state.proofs.SoundLaws.{slots-sound, pair-sound, fields-soun
 use Rattle.state.proofs.BlockLaws.{node-sound, lane-sound}
 use Rattle.state.proofs.LineLaws.{plan-sound, plan-part-sound, steps-part-sound, nodes-part-sound, lanes-part-sound}
 use Rattle.state.proofs.ReadLaws.{padded-read, pair-read}
-use Rattle.state.specs.Right.{wordAt, countsIn}
+use Rattle.state.specs.Right.{wordAt}
 
 -- ---- the parts
 
@@ -105,6 +105,10 @@ page-start k = omega arith
 
 block-start : (b : ℕ) → blocksAt + b * blockSize ≡ blockAt b
 block-start b = omega arith
+
+-- The counts of steps, one console's behind the other's.
+abbrev pub countsIn : List ℕ → List ℕ
+countsIn s = wordAt (stepsOfAt 0) s ∷ wordAt (stepsOfAt 1) s ∷ wordAt (stepsOfAt 2) s ∷ wordAt (stepsOfAt 3) s ∷ []
 
 module _ (s : List ℕ) where
   abbrev n : ℕ

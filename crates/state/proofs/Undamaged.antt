@@ -18,14 +18,13 @@ use Rattle.plan.specs.Check.{planFits}
 use Rattle.plan.specs.Fits.{RecordFits}
 use Rattle.plan.proofs.FitsLaws.{fitting}
 use Rattle.rules.specs.Lists.{anyOf, joined, upTo}
-use Rattle.rules.specs.Line.{logLimit, queueLimit, heldLimit, targetLimit, consoleCount, acceptedSteps, Origin, fed, made, Message, Entry, Held, Target, Node, Lane, Line, nodeAt, laneAt, senderOf, parents}
+use Rattle.rules.specs.Line.{logLimit, queueLimit, heldLimit, targetLimit, consoleCount, acceptedSteps, Origin, fed, made, Message, Entry, Held, Target, Node, Lane, Line, nodeAt, laneAt, senderOf, parents, timeLimit}
 use Rattle.rules.specs.Replay.{entryAt}
 use Rattle.rules.specs.Damaged.{someNode, someChannel, planBroken, misshapen, stepsPast, workedOn, recordPastLimits, nodePastLimits, channelPastLimits, isParent, notParent, beforeNotParent, nodeWrongParent, channelWrongParent, originTimes, nodeNamedTimes, nodeOtherTimes, channelNamedTimes, channelOtherTimes, nodeTimePast, channelTimePast, nodeTimeZero, channelTimeZero, originWrong, beforeWrong, nodeMakerWrong, channelMakerWrong, logWrong, pastClock, heldWrong, heldNotPassed, queueWrong, markMissing, markOnEnd, marksJoined, replayWrong, nodeHolds, channelHolds, nodeDamaged, channelDamaged, damaged}
 use Rattle.rules.proofs.steps.PlanOrder.{ordered-channels}
 use Rattle.state.specs.Lane.{heardCount}
 use Rattle.state.specs.Fits.{TimeFits, OriginFits, MessageFits, EntryFits, HeldFits, TargetFits, NodeFits, LaneFits, LineFits}
 use Rattle.state.proofs.ListLaws.{each-map, each-imply, each-split, each-joined, each-unmap, each-both, found-each, none-each, none-numbered, each-known}
-use Rattle.placing.specs.Table.{greatest}
 use Rattle.rules.proofs.line.Consoles.{CountsFit, counts-most}
 use Rattle.rules.proofs.undamaged.Undamaged.{undamaged-sound}
 use Rattle.state.specs.Sizes.{stepsWidths}
@@ -58,7 +57,7 @@ module _ (p : Plan) (e : planFits p ≡ true) where
 
   -- ---- what something was made from
 
-  module _ (steps : ℕ) (below : steps ≤ greatest) where
+  module _ (steps : ℕ) (below : steps ≤ timeLimit) where
     abbrev Within : ℕ → Type 0
     Within t = t ≤ steps
 

@@ -11,7 +11,7 @@ use Rattle.plan.specs.Layout.{bytesOf, writeFields, fields, sumOf}
 use Rattle.plan.specs.Plan.{nodeCount, channelCount, channelAt, headNumbers}
 use Rattle.plan.proofs.NumberLaws.{length-bytesOf}
 use Rattle.plan.proofs.FitsLaws.{fitting}
-use Rattle.rules.specs.Line.{Entry, Held, Target, Message, Status, Node, Lane, Line, nodeAt, laneAt, freshNode, noLane, withNode, withLane, consoleCount, stepsFrom}
+use Rattle.rules.specs.Line.{Entry, Held, Target, Message, Status, Node, Lane, Line, nodeAt, laneAt, freshNode, noLane, withNode, withLane, consoleCount, stepsFrom, withSteps}
 use Rattle.state.specs.Sizes.{stepsAt, stepsRest, pageSize, pageAt, nodePages, blockSize, blockAt, laneBlocks, tailSize, statusAt, crashedAt, timeAt, logAt, heldAt, targetsAt, nodeRest, markAt, takenAt, heardAt, parentLimit, queueAt, laneRest, stepsWidths, stepsOfAt, countSize}
 use Rattle.state.specs.Node.{statusNumber, crashNumber, nodeWidths, nodeHeadNumbers, logLayout, heldListLayout, targetsLayout, nodeLayout}
 use Rattle.state.specs.Lane.{heardWidths, laneWidths, withHeard, padHeard, queueLayout, laneLayout, heardCount}
@@ -192,9 +192,6 @@ count-place (suc zero) h = (refl, refl)
 count-place (suc (suc zero)) h = (refl, refl)
 count-place (suc (suc (suc zero))) h = (refl, refl)
 count-place (suc (suc (suc (suc c)))) h = let no : ⊥ = omega arith in absurd no
-
-abbrev pub withSteps : List ℕ → Line → Line
-withSteps k l = record { plan = l .plan; steps = k; nodes = l .nodes; lanes = l .lanes }
 
 module _ (l : Line) (fits : LineFits l) where
   abbrev n : ℕ

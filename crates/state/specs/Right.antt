@@ -1,13 +1,13 @@
 -- Right bytes, said part by part: what the check of a state looks at besides the line itself. Each piece lies at an offset in some bytes.
 use Prim.Native.Nat.{ℕ, _+_, _*_, _-_, _≤_, _<_}
 use mathlib.Core.Path.{_≡_}
-use mathlib.Core.List.{List, [], _∷_}
+use mathlib.Core.List.{List}
 use lib.ListN.{getD, take, drop}
 use Rattle.plan.specs.Layout.{spelled}
 use Rattle.plan.specs.Lawful.{Zeros}
 use Rattle.plan.specs.Plan.{planOf, planBytes, planSize, planNodes, planChannels, channelAt}
 use Rattle.rules.specs.Line.{logLimit, queueLimit, heldLimit, targetLimit}
-use Rattle.state.specs.Sizes.{pageSize, planArea, stepsAt, stepsOfAt, countSize, stepsSize, stepsRest, nodePages, pageAt, laneBlocks, blockSize, blockAt, tailAt, tailSize, statusAt, crashedAt, logAt, entrySize, heldAt, heldSize, targetsAt, targetSize, nodeRestAt, nodeRest, heardAt, parentLimit, queueAt, messageSize, laneRestAt, laneRest}
+use Rattle.state.specs.Sizes.{pageSize, planArea, stepsAt, countSize, stepsSize, stepsRest, nodePages, pageAt, laneBlocks, blockSize, blockAt, tailAt, tailSize, statusAt, crashedAt, logAt, entrySize, heldAt, heldSize, targetsAt, targetSize, nodeRestAt, nodeRest, heardAt, parentLimit, queueAt, messageSize, laneRestAt, laneRest}
 use Rattle.state.specs.Lane.{heardCount}
 
 -- So many bytes at an offset are 0.
@@ -17,10 +17,6 @@ ZerosAt a n s = Zeros (take n (drop a s))
 -- A number of four bytes.
 abbrev pub wordAt : ℕ → List ℕ → ℕ
 wordAt a s = spelled 0 (take 4 (drop a s))
-
--- The counts of steps, a console's behind the other's.
-abbrev pub countsIn : List ℕ → List ℕ
-countsIn s = wordAt (stepsOfAt 0) s ∷ wordAt (stepsOfAt 1) s ∷ wordAt (stepsOfAt 2) s ∷ wordAt (stepsOfAt 3) s ∷ []
 
 -- A record's zero byte is 0.
 abbrev pub RecordRight : ℕ → List ℕ → Type 0

@@ -14,7 +14,7 @@ use Rattle.rules.specs.Line.{Line, oneMore, counted}
 use Rattle.rules.specs.Frame.{frameConsole, frameOf}
 use Rattle.rules.specs.Step.{accepted, refusal, step}
 use Rattle.rules.specs.Damaged.{damaged}
-use Rattle.rules.specs.Console.{countsOne, CountsCaller}
+use Rattle.rules.specs.Console.{CountsCaller}
 use Rattle.rules.proofs.line.Consoles.{own-more}
 use Rattle.rules.proofs.theorem.Accepted.{passed, step-accepted, step-refused}
 use Rattle.rules.proofs.theorem.Unmoved.{effect-steps}
@@ -32,12 +32,12 @@ module _ (l : Line) (f : List ℕ) where
       ap (λ (k : Line). k .steps) (step-accepted l f e .1 ∙ ap (accepted (frameConsole f) l) (p .leads)) ∙ ap (oneMore (frameConsole f)) (effect-steps l (frameOf f) (p .leads))
 
   pub counts-caller : damaged l ≡ false → CountsCaller l f
-  unfolding countsOne
   counts-caller whole c =
-      elim (ℕ-discrete (refusal l f) 0) [
+      rw step-number
+      (elim (ℕ-discrete (refusal l f) 0) [
         | yes e ↦ rw (counted-one e, eq-eqb (refusal l f) 0 e) (own e)
         | no d ↦ rw (step-refused l f d .1, ne-eqb (refusal l f) 0 d, add-zero)
-      ]
+      ])
     where
       own : refusal l f ≡ 0 → getD (oneMore (frameConsole f) (l .steps)) c 0 ≡ getD (l .steps) c 0 + cond (eqb c (frameConsole f)) 1 0
       own e =

@@ -7,9 +7,8 @@ use native.Mathlib.Decide.{ℕ-discrete}
 use lib.ListN.{length, getD, length-set}
 use lib.Seq.{getD-set-same, getD-set-other}
 use Rattle.basics.specs.Replicate.{replicate-default}
-use Rattle.placing.specs.Table.{greatest}
 use Rattle.plan.specs.Layout.{sumOf}
-use Rattle.rules.specs.Line.{stepLimit, consoleCount, onlyCount, oneMore}
+use Rattle.rules.specs.Line.{stepLimit, consoleCount, onlyCount, oneMore, timeLimit}
 
 pub record CountsFit (counts : List ℕ) : Type 0 where
   pub four : length counts ≡ consoleCount
@@ -28,7 +27,7 @@ sum-most : (counts : List ℕ) → ((c : ℕ) → getD counts c 0 ≤ stepLimit)
 sum-most [] h = omega arith
 sum-most (k ∷ ks) h = let ih = sum-most ks (λ c. h (suc c)) in omega (arith, h 0)
 
-pub counts-most : {counts : List ℕ} → CountsFit counts → sumOf counts ≤ greatest
+pub counts-most : {counts : List ℕ} → CountsFit counts → sumOf counts ≤ timeLimit
 counts-most {counts} f = omega (arith, sum-most counts (f .within), f .four)
 
 -- A console that has steps left.
@@ -52,5 +51,5 @@ module _ {counts : List ℕ} (f : CountsFit counts) {c : ℕ} (inside : c < cons
   own-more = getD-set-same counts c (suc (getD counts c 0)) 0 there
 
   -- All of them together have one left, too.
-  pub counts-left : sumOf counts < greatest
+  pub counts-left : sumOf counts < timeLimit
   counts-left = omega (arith, counts-rise, counts-most more-fit)

@@ -13,13 +13,13 @@ use borrow.Author.Tests.{leb-false, lt-leb, le-leb, lt-ltb, ltb-true, eq-eqb}
 use Rattle.plan.specs.Plan.{Plan, channelAt, channelCount, entering}
 use Rattle.rules.specs.Lists.{isEmpty}
 use Rattle.rules.specs.Line.{stepLimit, consoleCount, stepsFrom, queueLimit, Message, Entry, up, down, replay, Lane, Line, noLane, nodeAt, laneAt, withLane, oneMore, counted, senderOf, receiverOf, parents}
-use Rattle.rules.specs.Frame.{Frame, send, take}
+use Rattle.rules.specs.Frame.{Frame, send, take, Caller, consoleOf}
 use Rattle.rules.specs.Clock.{messageOf, sentOn, raiseHeard}
 use Rattle.rules.specs.Recover.{rowGoal, rowComplete, rowsComplete}
 use Rattle.rules.specs.Replay.{endedIfComplete}
 use Rattle.rules.specs.Step.{noStepsLeft, sendable, isNothing, sentLine, takenLane, takenReplaying, effect, accepted, refusal, step}
 use Rattle.rules.specs.Claim.{named}
-use Rattle.rules.specs.Restart.{Caller, consoleOf, sendFrame, takeFrame, unlessUsedUp, OnEntering, send-next, take-next}
+use Rattle.rules.specs.Restart.{sendFrame, takeFrame, unlessUsedUp, OnEntering, send-next, take-next}
 use Rattle.rules.proofs.lists.ListLaws.{empty-none}
 use Rattle.rules.proofs.lists.Rising.{until, past}
 use Rattle.rules.proofs.lists.Members.{In, here, in-none, in-keep, keep-in}

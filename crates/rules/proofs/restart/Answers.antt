@@ -1,4 +1,4 @@
--- Recover of a down node, and a Take and a Send in a replay, are refused by nothing but the step limit.
+-- Recover of a down node, and a Take and a Send in a replay, are refused by nothing but the caller's step limit.
 use Prim.Native.Nat.{ℕ, _<_}
 use mathlib.Core.Path.{_≡_, refl, sym, ap, _∙_}
 use mathlib.Core.Logic.{_≢_}
@@ -13,10 +13,10 @@ use borrow.Author.Tests.{leb-false, lt-leb, le-ltb}
 use Rattle.plan.specs.Plan.{nodeCount, channelCount, channelAt}
 use Rattle.rules.specs.Lists.{isEmpty}
 use Rattle.rules.specs.Line.{stepLimit, consoleCount, stepsFrom, heldLimit, targetLimit, Status, down, replay, Line, noLane, nodeAt, laneAt, receiverOf, isDown}
-use Rattle.rules.specs.Frame.{Frame, take, recover}
+use Rattle.rules.specs.Frame.{Frame, take, recover, Caller, consoleOf}
 use Rattle.rules.specs.Recover.{targetsOf, rowComplete}
 use Rattle.rules.specs.Step.{noStepsLeft, noSuch, wrongNode, wrongStatus, besideCrashed, badRecord, nothingThere, queueFull, rowDone, takeLacks, noSpace, effect, noPlacing, lineRefusal, refusal}
-use Rattle.rules.specs.Restart.{Caller, consoleOf, takeFrame, recoverFrame, unlessUsedUp}
+use Rattle.rules.specs.Restart.{takeFrame, recoverFrame, unlessUsedUp}
 use Rattle.rules.proofs.lists.Members.{in-keep}
 use Rattle.rules.proofs.lists.Counts.{in-long}
 use Rattle.rules.proofs.line.Consoles.{counts-left}

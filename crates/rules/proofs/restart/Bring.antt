@@ -11,7 +11,7 @@ use Rattle.rules.specs.Line.{stepLimit, consoleCount, stepsFrom, Target,
 use Rattle.rules.specs.Recover.{targetsOf, rowComplete, rowsComplete, recovered, statusOf}
 use Rattle.rules.specs.Step.{accepted, refusal, step}
 use Rattle.rules.specs.Claim.{Story, startOf, told, storyFrom}
-use Rattle.rules.specs.Restart.{Caller, consoleOf, recoverFrame, OnEntering, no-more, Restarting, restartSteps, ComesBack}
+use Rattle.rules.specs.Restart.{recoverFrame, OnEntering, no-more, Restarting, restartSteps, ComesBack}
 use Rattle.rules.proofs.lists.ListLaws.{nil-right}
 use Rattle.rules.proofs.lists.Members.{In, not-all}
 use Rattle.rules.proofs.line.Joins.{entering-in}
@@ -26,6 +26,7 @@ use Rattle.rules.proofs.restart.NeverUnplaced.{recover-goes}
 use Rattle.rules.proofs.restart.Answers.{recover-unrefused, recovers}
 use Rattle.rules.proofs.restart.RowsLeft.{rowsLeft, row-most, total-most}
 use Rattle.rules.proofs.restart.Advance.{Advances, some-left, advance-at, left-zero}
+use Rattle.rules.specs.Frame.{Caller, consoleOf}
 
 -- A story goes on from its line, and its numbers from those that it has.
 story-line : (fs : List (List ℕ)) (s : Story) → storyFrom s fs .line ≡ storyFrom (startOf (s .line)) fs .line

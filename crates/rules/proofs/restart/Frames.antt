@@ -6,9 +6,9 @@ use mathlib.Core.List.{List}
 use lib.Dec.{leb, eqb}
 use borrow.Author.Tests.{lt-leb}
 use Rattle.rules.specs.Line.{consoleCount, Line}
-use Rattle.rules.specs.Frame.{Frame, send, take, recover, frameConsole, frameOf, frameRefusal}
+use Rattle.rules.specs.Frame.{Frame, send, take, recover, frameConsole, frameOf, frameRefusal, Caller, unnamed, console, consoleOf}
 use Rattle.rules.specs.Step.{noStepsLeft, lineRefusal, refusal, effect, accepted, step}
-use Rattle.rules.specs.Restart.{Caller, unnamed, console, consoleOf, sendFrame, takeFrame, recoverFrame}
+use Rattle.rules.specs.Restart.{sendFrame, takeFrame, recoverFrame}
 use Rattle.rules.proofs.theorem.Accepted.{step-accepted}
 
 -- A well-formed frame of console c that asks f.

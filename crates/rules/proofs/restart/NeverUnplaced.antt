@@ -5,8 +5,7 @@ use mathlib.Core.Logic.{_≢_, inl, inr}
 use mathlib.Core.List.{List}
 use mathlib.Core.Option.{some}
 use Rattle.plan.specs.Plan.{channelAt}
-use Rattle.placing.specs.Table.{greatest}
-use Rattle.rules.specs.Line.{acceptedSteps, replay, Line, nodeAt}
+use Rattle.rules.specs.Line.{acceptedSteps, replay, Line, nodeAt, timeLimit}
 use Rattle.rules.specs.Frame.{Frame, feed, send, take, crash, recover, frameOf}
 use Rattle.rules.specs.Recover.{recovered}
 use Rattle.rules.specs.Step.{takenLane, takenReplaying, effect, refusal}
@@ -34,7 +33,7 @@ module _ (l : Line) (known : Known l) where
   again-here b can replays =
       again l ghost cut base fed receipts crashes inv b (can .here) (can .message) (can .rest) (can .first) (sender-gives l ghost cut base fed receipts crashes inv b (can .message) (can .rest) (can .here) (can .first)) replays (can .below-goal replays)
 
-  take-again : (b : ℕ) (can : CanTake l b) → nodeAt l (channelAt (l .plan) b .receiver) .status ≡ replay → acceptedSteps l < greatest → (k : Line) × (effect l (take b) ≡ some k)
+  take-again : (b : ℕ) (can : CanTake l b) → nodeAt l (channelAt (l .plan) b .receiver) .status ≡ replay → acceptedSteps l < timeLimit → (k : Line) × (effect l (take b) ≡ some k)
   take-again b can replays left =
       let n = channelAt (l .plan) b .receiver in
       let r = takenReplaying b (can .message) (takenLane b (can .message) (can .rest) l) in
@@ -43,7 +42,7 @@ module _ (l : Line) (known : Known l) where
       let (k, e) = goes-on r ghost cut base fed _ crashes (a .kept) n (a .status) limits (rw (a .steps) left) (rw (a .plan) (rows n (inv .ordered .inside b (can .here)))) in
       (k, again-is l ghost cut base fed receipts crashes inv b can replays ∙ e)
 
-  pub take-goes : (b : ℕ) → CanTake l b → acceptedSteps l < greatest → (k : Line) × (effect l (take b) ≡ some k)
+  pub take-goes : (b : ℕ) → CanTake l b → acceptedSteps l < timeLimit → (k : Line) × (effect l (take b) ≡ some k)
   take-goes b can left =
       elim (up-or-replay (nodeAt l (channelAt (l .plan) b .receiver) .status) (can .receiver)) [
         | inl alive ↦ (_, taken-is l ghost cut base fed receipts crashes inv b can alive)

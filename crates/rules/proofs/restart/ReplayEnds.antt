@@ -10,12 +10,12 @@ use lib.Dec.{eqb, ltb, leb}
 use borrow.Author.Tests.{eq-eqb, lt-ltb, le-leb}
 use Rattle.plan.specs.Plan.{channelAt, entering}
 use Rattle.placing.specs.Item.{Item}
-use Rattle.placing.specs.Table.{greatest, tableFits}
+use Rattle.placing.specs.Table.{tableFits}
 use Rattle.placing.specs.Answer.{unplaceable, chosenColumns}
 use Rattle.placing.specs.Rules.{KeepsRules}
 use Rattle.placing.proofs.Promise.{none-exists}
 use Rattle.rules.specs.Lists.{joined}
-use Rattle.rules.specs.Line.{acceptedSteps, Message, Held, Target, replay, Line, nodeAt, laneAt, withNode}
+use Rattle.rules.specs.Line.{acceptedSteps, Message, Held, Target, replay, Line, nodeAt, laneAt, withNode, timeLimit}
 use Rattle.rules.specs.Recover.{highOf, rowGoal, rowsComplete}
 use Rattle.rules.specs.Replay.{heldByRow, itemsByRow, isHeld, placing, nodePlaced, replayEnd, endedIfComplete}
 use Rattle.rules.specs.Plain.{Act, Receipt}
@@ -72,7 +72,7 @@ module _ (l : Line) (g : Ghost) (cut base : ℕ → ℕ) (fed : List Act) (recei
         subst (λ (x : Target). isHeld (nodeAt l n .held) x ≡ true) (sym is)
         (any-by (λ (x : Held). eqb (x .sender) A && eqb (x .time) (m .time)) held (rw (eq-eqb A A refl, eq-eqb (m .time) (m .time) refl)))
 
-    module _ (limits : Limits 1 l) (steps : acceptedSteps l < greatest) (four : length (entering (l .plan) n) ≤ 4) where
+    module _ (limits : Limits 1 l) (steps : acceptedSteps l < timeLimit) (four : length (entering (l .plan) n) ≤ 4) where
       abbrev rows : List (List Held)
       rows = heldByRow (nodeAt l n .held) l (entering (l .plan) n)
 
@@ -88,7 +88,7 @@ module _ (l : Line) (g : Ghost) (cut base : ℕ → ℕ) (fed : List Act) (recei
           rw (all-by (isHeld (nodeAt l n .held)) (nodeAt l n .targets) target-held, replayEnd, given-columns low high items columns fits keeps, replayEnd) (withNode n (nodePlaced l n (joined rows) (chosenColumns low high items)) l, refl)
 
   -- Complete or not, there is a line to go on with.
-  pub goes-on : Limits 1 l → acceptedSteps l < greatest → length (entering (l .plan) n) ≤ 4 → (k : Line) × (endedIfComplete n l ≡ some k)
+  pub goes-on : Limits 1 l → acceptedSteps l < timeLimit → length (entering (l .plan) n) ≤ 4 → (k : Line) × (endedIfComplete n l ≡ some k)
   unfolding endedIfComplete
   goes-on limits steps four = go (rowsComplete l n) refl
     where

@@ -15,7 +15,7 @@ use Rattle.plan.specs.Plan.{ruleAt, channelAt, entering}
 use Rattle.plan.specs.Mask.{taking}
 use Rattle.placing.specs.Table.{mostItems, greatest, tableFits, boundsFit, itemFits, fixedFits, comesAfter, itemsFit}
 use Rattle.rules.specs.Lists.{keep, joined}
-use Rattle.rules.specs.Line.{acceptedSteps, Message, Held, Line, replay, nodeAt, laneAt}
+use Rattle.rules.specs.Line.{acceptedSteps, Message, Held, Line, replay, nodeAt, laneAt, timeLimit}
 use Rattle.rules.specs.Recover.{highOf}
 use Rattle.rules.specs.Replay.{fixedAt, floorOf, itemOf, heldByRow, itemsByRow}
 use Rattle.rules.specs.Plain.{Act, Receipt}
@@ -64,7 +64,7 @@ rising-linked Rising.none = none
 rising-linked (Rising.more h r) = more (λ c i. in-above r i) (rising-linked r)
 
 module _ (l : Line) (g : Ghost) (cut base : ℕ → ℕ) (fed : List Act) (receipts : List Receipt) (crashes : List ℕ) (inv : Inv l g cut base fed receipts crashes) (n : ℕ) (replaying : nodeAt l n .status ≡ replay)
-    (limits : Limits 1 l) (steps : acceptedSteps l < greatest) (four : length (entering (l .plan) n) ≤ 4) where
+    (limits : Limits 1 l) (steps : acceptedSteps l < timeLimit) (four : length (entering (l .plan) n) ≤ 4) where
   few : length (itemsByRow l n 0 (heldByRow (nodeAt l n .held) l (entering (l .plan) n))) ≤ mostItems
   few =
       let senders : Linked (Other l) (entering (l .plan) n) =

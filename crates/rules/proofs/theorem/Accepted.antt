@@ -48,7 +48,10 @@ none-of ts n e = only-last 0 ts n (never-zero ts) e
     never-zero ((t, k) ∷ ts) = (λ z. omega arith, never-zero ts)
 
 -- The refusals in their order, before the line's own.
-pub refusal-first : (l : Line) (f : List ℕ) → refusal l f ≡ firstOf ((badFrameLength f, 8) ∷ (badFrameVersion f, 9) ∷ (badKind f, 10) ∷ (badConsole f, 24) ∷ (noStepsLeft l (frameConsole f), 11) ∷ []) (lineRefusal l (frameOf f))
+abbrev pub firstTests : Line → List ℕ → List (Bool × ℕ)
+firstTests l f = (badFrameLength f, 8) ∷ (badFrameVersion f, 9) ∷ (badKind f, 10) ∷ (badConsole f, 24) ∷ (noStepsLeft l (frameConsole f), 11) ∷ []
+
+pub refusal-first : (l : Line) (f : List ℕ) → refusal l f ≡ firstOf (firstTests l f) (lineRefusal l (frameOf f))
 unfolding refusal
 refusal-first l f = go (badFrameLength f) (badFrameVersion f) (badKind f) (badConsole f)
   where
@@ -63,15 +66,15 @@ refusal-first l f = go (badFrameLength f) (badFrameVersion f) (badKind f) (badCo
     go false false false false = refl
 
 -- A frame that gets as far as the line: it is well formed, and its console has steps left.
-pub record Heard (l : Line) (f : List ℕ) (number : ℕ) : Type 0 where
+pub record Admitted (l : Line) (f : List ℕ) (number : ℕ) : Type 0 where
   pub console : frameConsole f < consoleCount
   pub steps-left : stepsFrom l (frameConsole f) < stepLimit
   pub answer : lineRefusal l (frameOf f) ≡ number
 
-pub heard : (l : Line) (f : List ℕ) (number : ℕ) → NoneIs number ((badFrameLength f, 8) ∷ (badFrameVersion f, 9) ∷ (badKind f, 10) ∷ (badConsole f, 24) ∷ (noStepsLeft l (frameConsole f), 11) ∷ []) → refusal l f ≡ number → Heard l f number
+pub admitted : (l : Line) (f : List ℕ) (number : ℕ) → NoneIs number (firstTests l f) → refusal l f ≡ number → Admitted l f number
 unfolding badConsole noStepsLeft
-heard l f number apart e =
-    let ((_, (_, (_, (console, (steps, _))))), last) = only-last number ((badFrameLength f, 8) ∷ (badFrameVersion f, 9) ∷ (badKind f, 10) ∷ (badConsole f, 24) ∷ (noStepsLeft l (frameConsole f), 11) ∷ []) (lineRefusal l (frameOf f)) apart (sym (refusal-first l f) ∙ e) in
+admitted l f number apart e =
+    let ((_, (_, (_, (console, (steps, _))))), last) = only-last number (firstTests l f) (lineRefusal l (frameOf f)) apart (sym (refusal-first l f) ∙ e) in
     record { console = leb-false consoleCount (frameConsole f) console; steps-left = leb-false stepLimit (stepsFrom l (frameConsole f)) steps; answer = last }
 
 -- A frame of console c that is not refused: steps are left, no number from 13 on applies, and it leads to a line.
@@ -94,7 +97,7 @@ pub passed : (l : Line) (frame : List ℕ) → refusal l frame ≡ 0 → Passed 
 unfolding lineRefusal noPlacing
 passed l frame e =
     let f = frameOf frame in
-    let h = heard l frame 0 (λ z. omega arith, (λ z. omega arith, (λ z. omega arith, (λ z. omega arith, (λ z. omega arith, tt))))) e in
+    let h = admitted l frame 0 (λ z. omega arith, (λ z. omega arith, (λ z. omega arith, (λ z. omega arith, (λ z. omega arith, tt))))) e in
     let tests : List (Bool × ℕ) =
     (noSuch l f, 12) ∷ (wrongNode l f, 13) ∷ (wrongStatus l f, 14) ∷ (besideCrashed l f, 15) ∷ (badRecord f, 16) ∷ (nothingThere l f, 17) ∷ (queueFull l f, 18) ∷ (rowDone l f, 19) ∷ (noSpace l f, 20)
     ∷ (noPlacing l f, 23) ∷ [] in
@@ -131,7 +134,7 @@ pub unplaced : (l : Line) (frame : List ℕ) → refusal l frame ≡ 24 → Unpl
 unfolding lineRefusal noPlacing
 unplaced l frame e =
     let f = frameOf frame in
-    let h = heard l frame 24 (λ z. omega arith, (λ z. omega arith, (λ z. omega arith, (λ z. omega arith, (λ z. omega arith, tt))))) e in
+    let h = admitted l frame 24 (λ z. omega arith, (λ z. omega arith, (λ z. omega arith, (λ z. omega arith, (λ z. omega arith, tt))))) e in
     let tests : List (Bool × ℕ) =
     (noSuch l f, 12) ∷ (wrongNode l f, 13) ∷ (wrongStatus l f, 14) ∷ (besideCrashed l f, 15) ∷ (badRecord f, 16) ∷ (nothingThere l f, 17) ∷ (queueFull l f, 18) ∷ (rowDone l f, 19) ∷ (noSpace l f, 20) ∷ [] in
     let apart : NoneIs 24 tests =
