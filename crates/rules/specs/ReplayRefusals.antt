@@ -1,4 +1,4 @@
--- Refusals 21 and 24 of a replay, on undamaged lines that no sheet is known to lead to, and a floor that decides. Each row has damaged before, the answer, damaged after, and node 2's status, time and logged times.
+-- Refusals 21 and 24 of a replay, on undamaged lines that no sheet leads to, and a floor that decides. Each row has damaged before, the answer, damaged after, and node 2's status, time and logged times.
 use Prim.Native.Nat.{ℕ, zero, suc, _+_}
 use mathlib.Core.Path.{_≡_, refl}
 use mathlib.Core.Bool.{Bool, true, false}
