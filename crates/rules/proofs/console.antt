@@ -2,4 +2,5 @@
 pub mod Recounted
 pub mod Counted
 pub mod WhoeverSends
+pub mod TablesWithin
 pub mod AsBefore
