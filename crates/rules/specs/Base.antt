@@ -13,7 +13,7 @@ use Rattle.plan.specs.Check.{planRefusal}
 use Rattle.plan.specs.Lawful.{Bytes}
 use Rattle.placing.specs.Item.{Item}
 use Rattle.rules.specs.Lists.{isEmpty, allOf}
-use Rattle.rules.specs.Line.{stepLimit, consoleCount, Message, Line, initialLine, nodeAt, laneAt, stepsFrom, onlyCount, acceptedSteps, receiverOf}
+use Rattle.rules.specs.Line.{stepLimit, consoleCount, Message, Line, initialLine, nodeAt, laneAt, stepsFrom, onlyCount, acceptedSteps, receiverOf, withSteps}
 use Rattle.rules.specs.Frame.{Frame, feed, send, take, crash, recover, frameVersion, frameOfKind}
 use Rattle.rules.specs.Recover.{highOf, targetsOf, conflict, rowsComplete, recovered}
 use Rattle.rules.specs.Replay.{itemOf, heldByRow, itemsByRow, endedIfComplete}
@@ -97,12 +97,9 @@ baseRefusal l f =
       ]
     ]
 
-abbrev pub baseCounted : ℕ → Line → Line
-baseCounted k l = record { plan = l .plan; steps = onlyCount k; nodes = l .nodes; lanes = l .lanes }
-
 abbrev pub baseAccepted : Line → Option Line → Line
 baseAccepted l none = l
-baseAccepted l (some k) = baseCounted (suc (countOf l)) k
+baseAccepted l (some k) = withSteps (onlyCount (suc (countOf l))) k
 
 unfoldable pub baseStep : Line → List ℕ → Answer
 unfolding baseRefusal baseFrame baseEffect
@@ -110,7 +107,7 @@ baseStep l f =
     let n = baseRefusal l f in
     elim (eqb n 0) [ true ↦ record { number = 0; line = baseAccepted l (baseEffect l (baseFrame f)) } | false ↦ record { number = n; line = l } ]
 
--- What "Damaged" reads of the counts is what it read of the one: that there are as many as there should be, the limit, and the bound on times.
+-- What "Damaged" reads of the counts is what it read of the one: that there are as many as there should be, the limit, and the bound on times. (It asks what Recover would give, too; there nothing is held, so no table's limits decide.)
 pub record DamagedAsBefore (l : Line) (k : ℕ) : Type 0 where
   pub shape : length (l .steps) ≡ consoleCount
   pub past : stepsPast l ≡ ltb stepLimit k
