@@ -12,3 +12,5 @@ pub mod OrderExamples
 pub mod RestartRun
 -- A step does not depend on who sent it, on bytes.
 pub mod ConsoleRun
+-- Frames that are not of version 2 are answered as before there were consoles, on bytes.
+pub mod BaseRun

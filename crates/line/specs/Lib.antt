@@ -3,6 +3,7 @@ pub mod Load
 pub mod Order
 pub mod Restart
 pub mod Console
+pub mod Base
 pub mod Step
 pub mod Whole
 pub mod Write
