@@ -1,5 +1,5 @@
 -- Where no more than 1,000,000 steps are counted, the tables of an undamaged line's replays are within the base's limits, so its effects are as they are now.
-use Prim.Native.Nat.{ℕ, zero, suc, _<_, _≤_}
+use Prim.Native.Nat.{ℕ, zero, suc, _≤_}
 use mathlib.Core.Path.{_≡_, refl, sym, ap, subst, _∙_}
 use mathlib.Core.Logic.{inl, inr}
 use mathlib.Core.Bool.{Bool, true, false, cond, not, _&&_, true≢false}
@@ -7,7 +7,7 @@ use mathlib.Core.List.{List, [], _∷_, _++_, map}
 use mathlib.Core.Option.{Option, none, some}
 use native.Mathlib.Omega.{arith}
 use native.Mathlib.Decide.{decLt}
-use lib.ListN.{length, getD, set, List·getD-eq-default}
+use lib.ListN.{getD, set, List·getD-eq-default}
 use lib.Dec.{leb, eqb}
 use borrow.Author.Tests.{le-leb, ne-eqb}
 use Rattle.plan.specs.Plan.{nodeCount, channelCount, channelAt, entering, leaving}
@@ -17,7 +17,7 @@ use Rattle.rules.specs.Lists.{isEmpty, keep, allOf, greatestOf}
 use Rattle.rules.specs.Line.{Message, Held, Node, Lane, Line, freshNode, noLane, nodeAt, laneAt, withNode, withLane, withLanes, freshLane, receiverOf, acceptedSteps}
 use Rattle.rules.specs.Frame.{Frame, feed, send, take, crash, recover}
 use Rattle.rules.specs.Clock.{takenFrom}
-use Rattle.rules.specs.Recover.{childTimes, highOf, restored, targetsOf, conflict, rowsComplete, recovered}
+use Rattle.rules.specs.Recover.{childTimes, highOf, targetsOf, conflict, rowsComplete, recovered}
 use Rattle.rules.specs.Replay.{passedOn, holding, fixedAt, floorOf, itemOf, heldByRow, itemsByRow, entryAt, endedIfComplete}
 use Rattle.rules.specs.Step.{isNothing, replaying, madeBy, takenLane, takenReplaying, takenUp, takenFirst, takenLine, recoveredLine, effect, noSuch, wrongNode, wrongStatus, besideCrashed, badRecord, nothingThere, queueFull, rowDone, noSpace, noPlacing, lineRefusal}
 use Rattle.rules.specs.Base.{baseGreatest, baseTable, baseEnded, baseTaken, baseRecovered, baseEffect, baseLineRefusal}
