@@ -113,7 +113,7 @@ pub record DamagedAsBefore (l : Line) (k : ℕ) : Type 0 where
   pub past : stepsPast l ≡ ltb stepLimit k
   pub bound : acceptedSteps l ≡ k
 
--- A step by a frame that is not of version 2. Its line has one count again, and is undamaged, so this holds of every list of such frames.
+-- A step by a frame that is not of version 2. Its line has one count again, and a frame of bytes leaves it undamaged, so this holds of every list of such frames.
 abbrev pub StepAsBefore : Type 0
 StepAsBefore =
     (l : Line) (k : ℕ) (f : List ℕ) → damaged l ≡ false → l .steps ≡ onlyCount k → not (eqb (frameVersion f) 2) ≡ true
