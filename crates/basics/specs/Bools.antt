@@ -14,6 +14,10 @@ pub neither-true : (a b : Bool) → (a || b) ≡ false → (a ≡ false) × (b �
 neither-true false b e = (refl, e)
 neither-true true b e = absurd (true≢false e)
 
+pub either-true : (a b : Bool) → (a || b) ≡ true → (a ≡ true) ⊎ (b ≡ true)
+either-true true b e = inl refl
+either-true false b e = inr e
+
 pub below-or-not : (a b : ℕ) → (a < b) ⊎ (b ≤ a)
 below-or-not a b = go (ltb a b) refl
   where

@@ -11,11 +11,10 @@ use lib.Dec.{eqb}
 use lib.ListN.{length, getD, drop, drop-of-length-le}
 use lib.Seq.{drop-cons}
 use Rattle.plan.specs.declared.Channel.{Channel}
-use Rattle.plan.specs.Plan.{Plan, planOf, planChannels, channelAt, channelCount, noChannel, keepIf, numbersFrom}
+use Rattle.plan.specs.Plan.{Plan, planOf, planChannels, channelFrom, channelAt, channelCount, noChannel, keepIf, numbersFrom}
 use Rattle.plan.proofs.ReadLaws.{channel-at}
 use Rattle.rules.proofs.lists.Options.{none-some, some-same}
 use Rattle.items.specs.Items.{fromSender, placeFrom}
-use Rattle.buffer.specs.Look.{channelFrom}
 
 -- Those of the channels from b on that pass a test.
 abbrev pub numbersOn : Plan → (Channel → Bool) → ℕ → List ℕ

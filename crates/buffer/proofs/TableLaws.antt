@@ -12,7 +12,8 @@ use lib.ListN.{length, getD, set, take, drop, replicate, length-set, getD-replic
 use lib.Seq.{getD-set-same, getD-set-other, getD-take, getD-append-add}
 use Rattle.basics.specs.Bools.{both-true}
 use Rattle.plan.specs.declared.Channel.{Channel}
-use Rattle.plan.specs.Plan.{Plan, planOf, planChannels, nodeCount, channelAt, channelCount, keepIf, isNone, entering, isSource}
+use Rattle.plan.specs.Channel.{channelSize}
+use Rattle.plan.specs.Plan.{Plan, planOf, planVersion, planChannels, channelFrom, nodeCount, channelAt, channelCount, keepIf, isNone, entering, isSource}
 use Rattle.plan.proofs.PlanLaws.{channel-count}
 use Rattle.plan.proofs.FitsLaws.{fitting}
 use Rattle.plan.proofs.AcceptedLaws.{four-at}
@@ -23,7 +24,7 @@ use Rattle.rules.proofs.line.Joins.{entering-in}
 use Rattle.items.specs.Items.{fromSender, placeFrom, ifFound}
 use Rattle.items.proofs.Lookup.{found-in, sender-found, sender-placed}
 use Rattle.buffer.specs.Ready.{Ready}
-use Rattle.buffer.specs.Look.{numberOr, channelFrom}
+use Rattle.buffer.specs.Look.{numberOr}
 use Rattle.buffer.specs.Table.{Table, placeOf, codeOr, emptyTable}
 use Rattle.buffer.proofs.LookLaws.{numbersOn, numbers-turn, numbers-end, foundOn, found-turn, found-end, placeOn, place-found, place-turn, place-below, sender-byte, receiver-byte}
 
@@ -184,11 +185,11 @@ module _ (s : List ℕ) (ready : Ready s) where
         (λ v. ap (λ (x : ℕ). getD t (144 + x) 0) (eqb-true (channelAt p b .receiver) n (both-true (eqb (channelAt p b .sender) q) (eqb (channelAt p b .receiver) n) v .1)))
         (now .joins q n h k))
 
-    pub filled-turn : Filled s next (at + 6) (suc b)
-    filled-turn =
+    pub filled-turn : (size : ℕ) → size ≡ channelSize (planVersion s) → Filled s next (at + size) (suc b)
+    filled-turn size is =
         record {
           within = here;
-          there = omega (arith, now .there);
+          there = omega (arith, now .there, is);
           long = length-set (set t (12 * to + from) (b + 32 * place)) (144 + to) (place + 1) ∙ length-set t (12 * to + from) (b + 32 * place) ∙ now .long;
           counts = λ n h. omega (arith, next-count n h, length-turn n, now .counts n h);
           joins = next-seen;

@@ -11,9 +11,10 @@ use lib.Dec.{leb}
 use lib.ListN.{length, getD, take, length-take}
 use Rattle.basics.specs.Bools.{both-true, and-left}
 use Rattle.plan.specs.Lawful.{Bytes}
-use Rattle.plan.specs.Plan.{planSize, planNodes, planChannels}
+use Rattle.plan.specs.Channel.{channelSize}
+use Rattle.plan.specs.Plan.{sizeByHead, planVersion, planNodes, planChannels}
 use Rattle.plan.specs.Check.{planRefusal}
-use Rattle.plan.proofs.PlanLaws.{plan-size}
+use Rattle.plan.proofs.PlanLaws.{plan-size, head-size}
 use Rattle.plan.proofs.ReadLaws.{nodes-byte, channels-byte}
 use Rattle.rules.specs.Lists.{allOf, upTo}
 use Rattle.rules.specs.Line.{stepLimit, stepsFrom, acceptedSteps}
@@ -34,10 +35,10 @@ use Rattle.state.proofs.InPlace.{Counted, line-counts}
 use Rattle.items.proofs.Tests.{all-at}
 
 -- The stored plan: the part of the state from 0 up to its size.
-pub plan-sized : (s : List ℕ) (n m : ℕ) → n ≡ getD s 3 0 → m ≡ getD s 4 0 → 5 + 4 * n + 6 * m ≡ planSize (planNodes s) (planChannels s)
-plan-sized s n m e f = sym (plan-size (planNodes s) (planChannels s) ∙ rw (nodes-byte, channels-byte, e, f))
+pub plan-sized : (s : List ℕ) (n m size : ℕ) → n ≡ getD s 3 0 → m ≡ getD s 4 0 → size ≡ channelSize (planVersion s) → 5 + 4 * n + size * m ≡ sizeByHead s
+plan-sized s n m size e f g = sym (head-size s ∙ plan-size (planVersion s) (planNodes s) (planChannels s) ∙ rw (nodes-byte, channels-byte, e, f, g))
 
-module _ (s : List ℕ) (size : ℕ) (is : size ≡ planSize (planNodes s) (planChannels s)) where
+module _ (s : List ℕ) (size : ℕ) (is : size ≡ sizeByHead s) where
   abbrev front : List ℕ
   front = take (size - 0) s
 
@@ -48,7 +49,7 @@ module _ (s : List ℕ) (size : ℕ) (is : size ≡ planSize (planNodes s) (plan
   unfolding planExact
   plan-bad r e h = rw (← front-stored, ← e, ne-eqb r 0 h)
 
-  pub plan-within : length s ≡ stateSize → size ≤ 2555 → planRefusal front ≡ 0 → size ≤ planArea
+  pub plan-within : length s ≡ stateSize → size ≤ 3575 → planRefusal front ≡ 0 → size ≤ planArea
   plan-within long few z = omega (arith, plan-short front z, length-take (size - 0) s)
 
   pub plan-good : planRefusal front ≡ 0 → zeroAt size (planArea - size) s ≡ planExact s

@@ -9,10 +9,10 @@ use lib.Dec.{eqb}
 use lib.ListN.{length, take, drop, replicate, drop-of-length-le}
 use lib.Seq.{take-append-seam}
 use Rattle.plan.specs.Lawful.{Bytes}
-use Rattle.plan.specs.Plan.{planOf, planNodes, planChannels}
+use Rattle.plan.specs.Plan.{planOf, planVersion, planNodes, planChannels}
 use Rattle.plan.specs.Check.{planRefusal}
 use Rattle.plan.proofs.CheckLaws.{accepted}
-use Rattle.plan.proofs.PlanLaws.{plan-size}
+use Rattle.plan.proofs.PlanLaws.{head-size, plan-size-most}
 use Rattle.rules.specs.Line.{Line, initialLine}
 use Rattle.rules.proofs.undamaged.StartSound.{start-undamaged}
 use Rattle.state.specs.Sizes.{stateSize, planArea}
@@ -30,7 +30,7 @@ abbrev leftBy : Bool → List ℕ → List ℕ → List ℕ
 leftBy done line state = elim done [ true ↦ line | false ↦ state ]
 
 pub plan-short : (plan : List ℕ) → planRefusal plan ≡ 0 → length plan ≤ planArea
-plan-short plan z = let a = accepted plan z in omega (arith, a .sized, plan-size (planNodes plan) (planChannels plan))
+plan-short plan z = let a = accepted plan z in omega (arith, a .sized, a .nodesMost, a .channelsMost, head-size plan, plan-size-most (planVersion plan) (planNodes plan) (planChannels plan))
 
 module _ (plan state : List ℕ) where
   answer-is : loadAnswer plan state ≡ answerBy (eqb (planRefusal plan) 0) (eqb (length state) stateSize) (planRefusal plan)

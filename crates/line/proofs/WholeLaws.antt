@@ -8,7 +8,7 @@ use lib.ListN.{length, take}
 use lib.Dec.{eqb}
 use borrow.Author.Tests.{eq-eqb}
 use Rattle.plan.specs.Lawful.{Bytes}
-use Rattle.plan.specs.Plan.{Plan, planOf, planBytes, planSize, planNodes, planChannels, nodeCount, channelCount, channelAt}
+use Rattle.plan.specs.Plan.{Plan, planOf, planBytes, sizeByHead, planNodes, planChannels, nodeCount, channelCount, channelAt}
 use Rattle.plan.specs.Check.{planRefusal, planFits}
 use Rattle.plan.proofs.PlanLaws.{node-count, channel-count}
 use Rattle.basics.specs.Bools.{both-true}
@@ -98,7 +98,7 @@ module _ (s : List ℕ) (fits : planFits (planOf s) ≡ true) where
       (zero-stands tailAt tailSize s)
 
   abbrev size : ℕ
-  size = planSize (planNodes s) (planChannels s)
+  size = sizeByHead s
 
   found-right : planBytes (planOf s) ≡ take size s → ZerosAt size (planArea - size) s → Found → StateRight s × (damaged l ≡ false)
   unfolding nodeChecked channelChecked
@@ -147,9 +147,9 @@ checked-parts s =
     same : {b : Bool} → Stands b (b ≡ true)
     same = (λ e. e, λ e. e)
 
-pub plan-stands : (s : List ℕ) → Stands (planExact s) ((planRefusal (storedPlan s) ≡ 0) × ZerosAt (planSize (planNodes s) (planChannels s)) (planArea - planSize (planNodes s) (planChannels s)) s)
+pub plan-stands : (s : List ℕ) → Stands (planExact s) ((planRefusal (storedPlan s) ≡ 0) × ZerosAt (sizeByHead s) (planArea - sizeByHead s) s)
 unfolding planExact
-plan-stands s = and-stands (eqb-stands (planRefusal (storedPlan s)) 0) (zero-stands (planSize (planNodes s) (planChannels s)) (planArea - planSize (planNodes s) (planChannels s)) s)
+plan-stands s = and-stands (eqb-stands (planRefusal (storedPlan s)) 0) (zero-stands (sizeByHead s) (planArea - sizeByHead s) s)
 
 -- The check finds nothing exactly where the answer is 0.
 pub check-answer : (s : List ℕ) → length s ≡ stateSize → Bytes s → Stands (stateChecked s) (stateAnswer s ≡ 0)

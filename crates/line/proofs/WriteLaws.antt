@@ -1,6 +1,6 @@
 -- The check's answer and Write by cases, and that Write gives back what was loaded.
 use Prim.Native.Nat.{ℕ, _-_, _≤_, _<_}
-use mathlib.Core.Path.{_≡_, refl, sym, ap, ap₂, _∙_}
+use mathlib.Core.Path.{_≡_, refl, sym, ap, _∙_}
 use mathlib.Core.Bool.{Bool, true, false, true≢false}
 use mathlib.Core.List.{List, _++_}
 use native.Mathlib.Omega.{arith}
@@ -8,8 +8,8 @@ use borrow.Author.Tests.{eq-eqb, ne-eqb, le-leb, lt-leb}
 use lib.Dec.{leb, eqb}
 use lib.ListN.{length, take, drop}
 use Rattle.plan.specs.Lawful.{Bytes}
-use Rattle.plan.specs.Plan.{Plan, planOf, planBytes, planSize, planNodes, planChannels}
-use Rattle.plan.proofs.PlanLaws.{plan-length, plan-written, node-count, channel-count}
+use Rattle.plan.specs.Plan.{Plan, planOf, planBytes, planSize, sizeByHead}
+use Rattle.plan.proofs.PlanLaws.{head-size, plan-length, plan-written, version-of, node-count, channel-count}
 use Rattle.rules.specs.Line.{Line, initialLine}
 use Rattle.state.specs.Sizes.{stateSize}
 use Rattle.state.specs.State.{stateAnswer}
@@ -38,8 +38,8 @@ state-wrong s long bytes e = sym (answer-eight s (λ a. absurd (true≢false (sy
 loaded-stored : (s : List ℕ) → Bytes s → stateAnswer s ≡ 0 → loadedPlan s ≡ storedPlan s
 loaded-stored s bytes z = ap planBytes (line-plan s) ∙ stored-accepted s bytes .0 (state-checked s (state-sane s .0 z .long) bytes .0 z .0) .1
 
-pub loaded-long : (s : List ℕ) → length (loadedPlan s) ≡ planSize (planNodes s) (planChannels s)
-loaded-long s = ap (λ (p : Plan). length (planBytes p)) (line-plan s) ∙ plan-length (planOf s) ∙ ap₂ planSize (node-count s) (channel-count s)
+pub loaded-long : (s : List ℕ) → length (loadedPlan s) ≡ sizeByHead s
+loaded-long s = ap (λ (p : Plan). length (planBytes p)) (line-plan s) ∙ plan-length (planOf s) ∙ (λ i. planSize (version-of s i) (node-count s i) (channel-count s i)) ∙ sym (head-size s)
 
 abbrev answerBy : Bool → Bool → ℕ → ℕ
 answerBy whole long refusal = elim whole [ true ↦ elim long [ true ↦ 0 | false ↦ 23 ] | false ↦ refusal ]
@@ -73,7 +73,7 @@ module _ (state plan : List ℕ) where
       (sym a, sym (left-is ∙ rw a refl))
 
   -- What the code writes: so many of the state's first bytes.
-  pub write-front : (size : ℕ) → size ≡ planSize (planNodes state) (planChannels state) → Bytes state → stateAnswer state ≡ 0 → take (size - 0) state ≡ loadedPlan state
+  pub write-front : (size : ℕ) → size ≡ sizeByHead state → Bytes state → stateAnswer state ≡ 0 → take (size - 0) state ≡ loadedPlan state
   write-front size is bytes z = front-stored state size is ∙ sym (loaded-stored state bytes z)
 
 -- What was loaded is written again: the same bytes, and past them what was there.

@@ -4,6 +4,7 @@ pub mod Order
 pub mod Restart
 pub mod Console
 pub mod Base
+pub mod Versions
 pub mod Step
 pub mod Whole
 pub mod Write

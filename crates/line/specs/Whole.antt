@@ -4,7 +4,7 @@ use mathlib.Core.Bool.{Bool, _&&_}
 use mathlib.Core.List.{List}
 use lib.ListN.{take}
 use lib.Dec.{eqb}
-use Rattle.plan.specs.Plan.{planOf, planSize, planNodes, planChannels, channelAt}
+use Rattle.plan.specs.Plan.{planOf, sizeByHead, planNodes, planChannels, channelAt}
 use Rattle.plan.specs.Check.{planRefusal}
 use Rattle.rules.specs.Lists.{allOf, upTo}
 use Rattle.state.specs.Sizes.{planArea, stepsAt, stepsSize, stepsRest, pageAt, pageSize, nodePages, blockAt, blockSize, laneBlocks, tailAt, tailSize}
@@ -17,7 +17,7 @@ use Rattle.buffer.specs.Exact.{zeroAt, pageExact, blockExact}
 -- The stored plan would not be refused, and nothing stands behind it.
 unfoldable pub planExact : List ℕ → Bool
 planExact s =
-    let size = planSize (planNodes s) (planChannels s) in
+    let size = sizeByHead s in
     eqb (planRefusal (take size s)) 0 && zeroAt size (planArea - size) s
 
 -- Nothing stands behind the counts of steps, in the pages of nodes and the blocks of channels that the plan does not have, and at the end.

@@ -2,7 +2,7 @@
 ghost use mathlib.Core.Path.{_≡_};
 ghost use Prim.Native.Nat.{_≤_};
 ghost use lib.ListN.{length};
-ghost use Rattle.plan.specs.Plan.{planSize, planNodes, planChannels};
+ghost use Rattle.plan.specs.Plan.{sizeByHead, planNodes, planChannels};
 ghost use Rattle.state.specs.Sizes.{stateSize, nodePages, laneBlocks};
 ghost use Rattle.line.specs.Whole.{planExact, restExact};
 use buffer::Line;
@@ -10,14 +10,14 @@ use buffer::bytes;
 use buffer::layout;
 use buffer::look;
 
-// How long the stored plan is, by its own counts.
+// How long the stored plan is, by its head.
 pub fn plan_size(s: &[u8]) -> usize
     requires { ⌜ 5 ≤ length (now s) ⌝ }
-    ensures { λ r. ⌜ (r ≡ planSize (planNodes (now (s .entry))) (planChannels (now (s .entry)))) × (r ≤ 2555) ⌝ }
+    ensures { λ r. ⌜ (r ≡ sizeByHead (now (s .entry))) × (r ≤ 3575) ⌝ }
 {
     let n = look::index(s[3]);
     let m = look::index(s[4]);
-    5 + 4 * n + 6 * m
+    5 + 4 * n + plan::bytes::channel_size(s) * m
 }
 
 // Whether the stored plan would not be refused, and nothing stands behind it.

@@ -70,7 +70,9 @@ fits-forward n c e =
     let inside : Bool = ltb (c .receiver) n in
     let mask : Bool = leb 1 (c .mask) in
     let modulus : Bool = leb 1 (c .modulus) in
-    let ends = both-true forward inside (and-left (forward && inside) mask (and-left (forward && inside && mask) modulus (and-left (forward && inside && mask && modulus) (ltb (c .remainder) (c .modulus)) e))) in
+    let remainder : Bool = ltb (c .remainder) (c .modulus) in
+    let rest = and-left (forward && inside && mask && modulus && remainder) (leb (c .least) (c .greatest)) e in
+    let ends = both-true forward inside (and-left (forward && inside) mask (and-left (forward && inside && mask) modulus (and-left (forward && inside && mask && modulus) remainder rest))) in
     (ltb-true (c .sender) (c .receiver) (ends .0), ltb-true (c .receiver) n (ends .1))
 
 pub channel-fits : (s : List ℕ) → planRefusal s ≡ 0 → (b : ℕ) → b < planChannels s → channelFits (planNodes s) (channelAt (planOf s) b) ≡ true

@@ -9,8 +9,8 @@ use lib.Dec.{leb, ltb, eqb}
 use lib.ListN.{length, drop}
 use Rattle.plan.specs.Layout.{readSlots}
 use Rattle.plan.specs.Rule.{ruleFields}
-use Rattle.plan.specs.Plan.{planOf, planLength, planVersion, planNodes, planChannels, planSize}
-use Rattle.plan.specs.Check.{badLength, badVersion, countsFit, badCounts, badSize, rulesFit, badRules, channelsFit, badChannels, fourAtMost, badDegrees, planRefusal}
+use Rattle.plan.specs.Plan.{planOf, planLength, planVersion, planNodes, planChannels, sizeByHead}
+use Rattle.plan.specs.Check.{badLength, versionFits, badVersion, countsFit, badCounts, badSize, rulesFit, badRules, channelsFit, badChannels, fourAtMost, badDegrees, planRefusal}
 use Rattle.basics.specs.Bools.{both-true, neither-true}
 
 -- The first that applies, 0 where none does.
@@ -55,12 +55,12 @@ none-applies false false false false false false false z = (refl, refl, refl, re
 pub record Accepted (s : List ℕ) : Type 0 where
   pub long : 5 ≤ length s
   pub lengthField : planLength s ≡ length s
-  pub version : planVersion s ≡ 1
+  pub version : versionFits (planVersion s) ≡ true
   pub nodesLeast : 2 ≤ planNodes s
   pub nodesMost : planNodes s ≤ 12
   pub channelsLeast : 1 ≤ planChannels s
   pub channelsMost : planChannels s ≤ 24
-  pub sized : length s ≡ planSize (planNodes s) (planChannels s)
+  pub sized : length s ≡ sizeByHead s
   pub rules : rulesFit (readSlots ruleFields (planNodes s) (drop 5 s)) ≡ true
   pub channels : channelsFit (planNodes s) 0 0 (planOf s .channels) ≡ true
   pub degrees : fourAtMost (planOf s) (planNodes s) ≡ true
@@ -85,12 +85,12 @@ accepted s z =
     record {
       long = ltb-false (length s) 5 (l .0);
       lengthField = eqb-true (planLength s) (length s) (not-false _ (l .1));
-      version = eqb-true (planVersion s) 1 (not-false _ (n .1));
+      version = not-false _ (n .1);
       nodesLeast = c .0;
       nodesMost = c .1;
       channelsLeast = c .2;
       channelsMost = c .3;
-      sized = eqb-true (length s) (planSize (planNodes s) (planChannels s)) (not-false _ (n .3));
+      sized = eqb-true (length s) (sizeByHead s) (not-false _ (n .3));
       rules = not-false _ (n .4);
       channels = not-false _ (n .5);
       degrees = not-false _ (n .6);
@@ -104,9 +104,9 @@ unrefused s a =
     ∙ rw (
       le-ltb (length s) 5 (a .long),
       eq-eqb (planLength s) (length s) (a .lengthField),
-      eq-eqb (planVersion s) 1 (a .version),
+      a .version,
       counts-fit (planNodes s) (planChannels s) (a .nodesLeast) (a .nodesMost) (a .channelsLeast) (a .channelsMost),
-      eq-eqb (length s) (planSize (planNodes s) (planChannels s)) (a .sized),
+      eq-eqb (length s) (sizeByHead s) (a .sized),
       a .rules,
       a .channels,
       a .degrees,

@@ -1,5 +1,5 @@
 -- A plan's channels counted at their ends, one channel at a time.
-use Prim.Native.Nat.{ℕ, suc, _+_, _*_, _≤_, _<_}
+use Prim.Native.Nat.{ℕ, suc, _+_, _≤_, _<_}
 use mathlib.Core.Path.{_≡_, refl, sym, ap, _∙_}
 use mathlib.Core.Bool.{Bool, true, false}
 use mathlib.Core.List.{List, [], _∷_}
@@ -10,13 +10,13 @@ use lib.Dec.{eqb}
 use lib.ListN.{length, getD, set, drop, replicate, length-set, length-drop, length-replicate, drop-of-length-le}
 use lib.Seq.{drop-cons, getD-set-same, getD-set-other}
 use Rattle.plan.specs.declared.Channel.{Channel}
-use Rattle.plan.specs.Plan.{planOf, planNodes, planChannels, channelAt, channelCount, noChannel, keepIf, numbersFrom, entering, leaving}
+use Rattle.plan.specs.Plan.{planOf, planVersion, planNodes, planChannels, channelFrom, channelAt, channelCount, noChannel, keepIf, numbersFrom, entering, leaving}
 use Rattle.plan.specs.Check.{badCounts, badSize, badChannels}
 use Rattle.plan.specs.Degrees.{Joined, Degrees}
 use Rattle.basics.specs.Replicate.{replicate-default}
-use Rattle.plan.proofs.ReadLaws.{channel-at}
+use Rattle.plan.proofs.ReadLaws.{channel-size-within, channels-most, channel-ends, channel-at}
 use Rattle.plan.proofs.CheckLaws.{counts-within}
-use Rattle.plan.proofs.PlanLaws.{plan-size, channel-count}
+use Rattle.plan.proofs.PlanLaws.{plan-size, head-size, channel-count}
 use Rattle.plan.proofs.AcceptedLaws.{channels-at, fits-forward}
 
 -- ---- counting by one end
@@ -58,7 +58,7 @@ module _ (node : Channel → ℕ) (cs : List Channel) where
 -- The channels from b on are counted, and the first of them is at a place of the bytes.
 pub record Counting (s enter leave : List ℕ) (at b : ℕ) : Type 0 where
   pub within : b ≤ planChannels s
-  pub there : at ≡ 5 + 4 * planNodes s + 6 * b
+  pub there : at ≡ channelFrom s b
   pub enters : Tally (λ (c : Channel). c .receiver) (planOf s .channels) enter b
   pub leaves : Tally (λ (c : Channel). c .sender) (planOf s .channels) leave b
 
@@ -71,11 +71,18 @@ module _ (s : List ℕ) (joined : Joined s) where
   unfolding badCounts
   few-channels = counts-within (planNodes s) (planChannels s) (not-false _ (joined .counts)) .3
 
-  pub joined-size : length s ≡ 5 + 4 * planNodes s + 6 * planChannels s
+  joined-size : length s ≡ channelFrom s (planChannels s)
   unfolding badSize
-  joined-size = eqb-true _ _ (not-false _ (joined .size)) ∙ plan-size (planNodes s) (planChannels s)
+  joined-size = eqb-true _ _ (not-false _ (joined .size)) ∙ head-size s ∙ plan-size (planVersion s) (planNodes s) (planChannels s)
 
-  pub counting-start : (at : ℕ) → at ≡ 5 + 4 * planNodes s + 6 * planChannels s → Counting s (replicate 12 0) (replicate 12 0) at (planChannels s)
+  -- A channel's first six bytes are all there.
+  pub channel-there : (b : ℕ) → b < planChannels s → channelFrom s b + 6 ≤ length s
+  channel-there b h = omega (arith, joined-size, channel-ends (planVersion s) h, channel-size-within (planVersion s) .0)
+
+  pub place-few : (b : ℕ) → b ≤ planChannels s → channelFrom s b ≤ 293
+  place-few b h = omega (arith, few-nodes, few-channels, channels-most (planVersion s) b)
+
+  pub counting-start : (at : ℕ) → at ≡ channelFrom s (planChannels s) → Counting s (replicate 12 0) (replicate 12 0) at (planChannels s)
   counting-start at e =
       let all : length (planOf s .channels) ≤ planChannels s = rw channel-count (omega arith) in
       record {
@@ -92,7 +99,7 @@ module _ (s : List ℕ) (joined : Joined s) where
       (omega (arith, few-nodes), omega (arith, few-nodes))
 
   -- One channel, by the bytes of its ends.
-  module _ (enter leave : List ℕ) (after at b sender receiver : ℕ) (later : Counting s enter leave after (suc b)) (there : at ≡ 5 + 4 * planNodes s + 6 * b) (e : sender ≡ getD s at 0)
+  module _ (enter leave : List ℕ) (after at b sender receiver : ℕ) (later : Counting s enter leave after (suc b)) (there : at ≡ channelFrom s b) (e : sender ≡ getD s at 0)
       (f : receiver ≡ getD s (at + 1) 0) where
     here : b < channelCount (planOf s)
     here = rw channel-count (later .within)

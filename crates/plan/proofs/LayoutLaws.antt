@@ -79,17 +79,17 @@ fields-lawful ws = record {
 
 -- ---- a value seen as another
 
-module _ {A B : Type 0} (l : Layout B) (seen : A → B) (value : B → A) {Fits : B → Type 0} {RightSeen Right : List ℕ → Type 0} where
-  pub via-lawful : Lawful l Fits RightSeen → ((a : A) → Fits (seen a) → value (seen a) ≡ a)
-      → ((b : B) → Fits b → Fits (seen (value b)))
-      → ((s : List ℕ) → Fits (l .read s) → Right s → RightSeen s × (seen (value (l .read s)) ≡ l .read s))
-      → Lawful (via l seen value) (λ a. Fits (seen a)) Right
+module _ {A B : Type 0} (l : Layout B) (seen : A → B) (value : B → A) {FitsA : A → Type 0} {FitsB : B → Type 0} {RightSeen Right : List ℕ → Type 0} where
+  pub via-lawful : Lawful l FitsB RightSeen → ((a : A) → FitsA a → FitsB (seen a)) → ((a : A) → FitsA a → value (seen a) ≡ a)
+      → ((b : B) → FitsB b → FitsA (value b))
+      → ((s : List ℕ) → FitsB (l .read s) → Right s → RightSeen s × (seen (value (l .read s)) ≡ l .read s))
+      → Lawful (via l seen value) FitsA Right
   unfolding via
-  via-lawful lawful valued fitting right = record {
+  via-lawful lawful fitting valued fits right = record {
     sized = λ a. lawful .sized (seen a);
     bytes = λ a. lawful .bytes (seen a);
-    fits = λ s h. fitting (l .read s) (lawful .fits s h);
-    readBack = λ a h. ap value (lawful .readBack (seen a) h) ∙ valued a h;
+    fits = λ s h. fits (l .read s) (lawful .fits s h);
+    readBack = λ a h. ap value (lawful .readBack (seen a) (fitting a h)) ∙ valued a h;
     writeBack = λ s e h r. ap (l .write) (right s (lawful .fits s h) r .1) ∙ lawful .writeBack s e h (right s (lawful .fits s h) r .0);
   }
 

@@ -1,16 +1,19 @@
 -- What a plan's bytes give in place, for all bytes.
 use Prim.Native.Nat.{ℕ, _+_, _*_, _≤_, _<_}
 use mathlib.Core.Path.{_≡_, refl, ap, _∙_}
+use mathlib.Core.Bool.{Bool, true, false, cond}
 use mathlib.Core.List.{List, [], _∷_}
-use native.Mathlib.Nat.{add-assoc, mul-comm, add-zero}
+use native.Mathlib.Nat.{add-assoc, mul-comm, add-zero, mul-le-mul-left, mul-le-mul-right}
 use native.Mathlib.Omega.{arith}
+use lib.Dec.{eqb}
 use lib.ListN.{length, getD, take, drop, length-drop, List·getD-eq-default}
 use lib.Seq.{drop-drop, getD-drop}
 use Rattle.plan.specs.declared.Rule.the-variants.{Keep}
-use Rattle.plan.specs.Layout.{spelled, readSlots}
+use Rattle.plan.specs.declared.Channel.{Channel}
+use Rattle.plan.specs.Layout.{spelled, sumOf, readFields, readSlots}
 use Rattle.plan.specs.Rule.{ruleWidths, ruleFields, ruleLayout, ruleOf, ruleOfKind}
-use Rattle.plan.specs.Channel.{channelWidths, channelFields, channelLayout, channelOf}
-use Rattle.plan.specs.Plan.{planOf, planVersion, planNodes, planChannels, ruleAt, channelAt, noChannel}
+use Rattle.plan.specs.Channel.{channelWidths, channelFields, channelLayout, channelSize, channelOf}
+use Rattle.plan.specs.Plan.{planOf, planVersion, planNodes, planChannels, channelFrom, ruleAt, channelAt, noChannel}
 use Rattle.plan.proofs.LayoutLaws.{fields-front, slot-at, slots-front, length-readSlots}
 
 first-spelled : (s : List ℕ) → spelled 0 (take 1 s) ≡ getD s 0 0
@@ -52,18 +55,54 @@ rule-fields : (a : ℕ) (s : List ℕ) → ruleFields .read (take 4 (drop a s)) 
 unfolding ruleFields
 rule-fields a s = fields-front ruleWidths (drop a s) ∙ simp (drop-drop, add-assoc, byte-field)
 
-channel-fields : (a : ℕ) (s : List ℕ) → channelFields .read (take 6 (drop a s)) ≡ getD s a 0 ∷ getD s (a + 1) 0 ∷ spelled 0 (take 2 (drop (a + 2) s)) ∷ getD s (a + 4) 0 ∷ getD s (a + 5) 0 ∷ []
-unfolding channelFields
-channel-fields a s = fields-front channelWidths (drop a s) ∙ simp (drop-drop, add-assoc, byte-field)
+-- What is read behind the remainder.
+abbrev behind : Bool → List ℕ → List ℕ
+behind windows s = readFields (cond windows (2 ∷ 2 ∷ []) []) s
+
+channel-fields : (v a : ℕ) (s : List ℕ)
+    → channelFields v .read (take (channelSize v) (drop a s))
+    ≡ getD s a 0 ∷ getD s (a + 1) 0 ∷ spelled 0 (take 2 (drop (a + 2) s)) ∷ getD s (a + 4) 0 ∷ getD s (a + 5) 0 ∷ behind (eqb v 2) (drop (a + 6) s)
+unfolding channelFields channelSize
+channel-fields v a s = fields-front (channelWidths v) (drop a s) ∙ simp (drop-drop, add-assoc, byte-field)
+
+bounds-read : (windows : Bool) (a : ℕ) (s : List ℕ)
+    → (getD (behind windows (drop (a + 6) s)) 0 0 ≡ cond windows (spelled 0 (take 2 (drop (a + 6) s))) 0)
+    × (getD (behind windows (drop (a + 6) s)) 1 65_535 ≡ cond windows (spelled 0 (take 2 (drop (a + 8) s))) 65_535)
+bounds-read true a s = (refl, rw (drop-drop 2 (a + 6) s, add-assoc a 6 2))
+bounds-read false a s = (refl, refl)
+
+-- ---- how many bytes a channel has
+
+pub channel-size : (v : ℕ) → channelSize v ≡ cond (eqb v 2) 10 6
+unfolding channelSize
+channel-size v = one (eqb v 2)
+  where
+    one : (t : Bool) → 1 + (1 + (2 + (1 + (1 + sumOf (cond t (2 ∷ 2 ∷ []) []))))) ≡ cond t 10 6
+    one true = refl
+    one false = refl
+
+pub channel-size-within : (v : ℕ) → (6 ≤ channelSize v) × (channelSize v ≤ 10)
+channel-size-within v = rw (channel-size v) (one (eqb v 2))
+  where
+    one : (t : Bool) → (6 ≤ cond t 10 6) × (cond t 10 6 ≤ 10)
+    one true = (omega arith, omega arith)
+    one false = (omega arith, omega arith)
+
+-- So many channels have at most ten bytes each; one of them ends where the next begins.
+pub channels-most : (v m : ℕ) → channelSize v * m ≤ 10 * m
+channels-most v m = mul-le-mul-right m (channel-size-within v .1)
+
+pub channel-ends : (v : ℕ) {b m : ℕ} → b < m → channelSize v * b + channelSize v ≤ channelSize v * m
+channel-ends v {b} h = let e = mul-le-mul-left (channelSize v) h in omega arith
 
 -- The rules and the channels are slots of the bytes.
 pub rules-of : (s : List ℕ) → planOf s .rules ≡ readSlots ruleLayout (planNodes s) (drop 5 s)
 unfolding planOf
 rules-of s = slots-front ruleLayout (planNodes s) (drop 5 s)
 
-pub channels-of : (s : List ℕ) → planOf s .channels ≡ readSlots channelLayout (planChannels s) (drop (5 + 4 * planNodes s) s)
+pub channels-of : (s : List ℕ) → planOf s .channels ≡ readSlots (channelLayout (planVersion s)) (planChannels s) (drop (5 + 4 * planNodes s) s)
 unfolding planOf
-channels-of s = ap (readSlots channelLayout (planChannels s)) (drop-drop (planNodes s * 4) 5 s ∙ ap (λ (n : ℕ). drop (5 + n) s) (mul-comm (planNodes s) 4))
+channels-of s = ap (readSlots (channelLayout (planVersion s)) (planChannels s)) (drop-drop (planNodes s * 4) 5 s ∙ ap (λ (n : ℕ). drop (5 + n) s) (mul-comm (planNodes s) 4))
 
 -- One of them, by number.
 pub rule-past : (s : List ℕ) (n : ℕ) → planNodes s ≤ n → ruleAt (planOf s) n ≡ Keep
@@ -80,24 +119,33 @@ unfolding ruleLayout
 rule-at s n h = rw (rules-of s) (slot-at ruleLayout (planNodes s) (drop 5 s) n Keep h ∙ rw (drop-drop, mul-comm n 4) (ap ruleOf (rule-fields (5 + 4 * n) s)))
 
 pub channel-past : (s : List ℕ) (b : ℕ) → planChannels s ≤ b → channelAt (planOf s) b ≡ noChannel
-channel-past s b h = rw (channels-of s) (List·getD-eq-default (readSlots channelLayout (planChannels s) (drop (5 + 4 * planNodes s) s)) noChannel (rw length-readSlots h))
+channel-past s b h = rw (channels-of s) (List·getD-eq-default (readSlots (channelLayout (planVersion s)) (planChannels s) (drop (5 + 4 * planNodes s) s)) noChannel (rw length-readSlots h))
 
-pub channel-at : (s : List ℕ) (b : ℕ) → b < planChannels s
-    → (let a : ℕ = 5 + 4 * planNodes s + 6 * b in
-    channelAt (planOf s) b
-    ≡ record { sender = getD s a 0; receiver = getD s (a + 1) 0; mask = spelled 0 (take 2 (drop (a + 2) s)); modulus = getD s (a + 4) 0; remainder = getD s (a + 5) 0 })
-unfolding channelLayout
+-- The channel whose bytes start at a, its mask given.
+abbrev pub channelRead : List ℕ → ℕ → ℕ → Channel
+channelRead s a mask = record {
+  sender = getD s a 0;
+  receiver = getD s (a + 1) 0;
+  mask = mask;
+  modulus = getD s (a + 4) 0;
+  remainder = getD s (a + 5) 0;
+  least = cond (eqb (planVersion s) 2) (spelled 0 (take 2 (drop (a + 6) s))) 0;
+  greatest = cond (eqb (planVersion s) 2) (spelled 0 (take 2 (drop (a + 8) s))) 65_535;
+}
+
+pub channel-at : (s : List ℕ) (b : ℕ) → b < planChannels s → channelAt (planOf s) b ≡ channelRead s (channelFrom s b) (spelled 0 (take 2 (drop (channelFrom s b + 2) s)))
+unfolding channelLayout channelSize
 channel-at s b h =
+    let v = planVersion s in
+    let a = channelFrom s b in
+    let (least, greatest) = bounds-read (eqb v 2) a s in
     rw (channels-of s)
-    (slot-at channelLayout (planChannels s) (drop (5 + 4 * planNodes s) s) b noChannel h
-    ∙ rw (drop-drop, mul-comm b 6) (ap channelOf (channel-fields (5 + 4 * planNodes s + 6 * b) s)))
+    (slot-at (channelLayout v) (planChannels s) (drop (5 + 4 * planNodes s) s) b noChannel h
+    ∙ rw (drop-drop, mul-comm b (channelSize v)) (ap channelOf (channel-fields v a s) ∙ rw (least, greatest)))
 
--- One whose six bytes are all there.
-pub channel-whole : (s : List ℕ) (b : ℕ) → b < planChannels s
-    → (let a : ℕ = 5 + 4 * planNodes s + 6 * b in
-    a + 6 ≤ length s
-    → channelAt (planOf s) b
-    ≡ record { sender = getD s a 0; receiver = getD s (a + 1) 0; mask = getD s (a + 2) 0 * 256 + getD s (a + 3) 0; modulus = getD s (a + 4) 0; remainder = getD s (a + 5) 0 })
+-- One whose first six bytes are all there.
+pub channel-whole : (s : List ℕ) (b : ℕ) → b < planChannels s → channelFrom s b + 6 ≤ length s
+    → channelAt (planOf s) b ≡ channelRead s (channelFrom s b) (getD s (channelFrom s b + 2) 0 * 256 + getD s (channelFrom s b + 3) 0)
 channel-whole s b h l =
-    let a : ℕ = 5 + 4 * planNodes s + 6 * b in
+    let a : ℕ = channelFrom s b in
     channel-at s b h ∙ rw (word-field (a + 2) s (omega arith), add-assoc a 2 1)

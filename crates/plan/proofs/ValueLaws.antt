@@ -1,6 +1,6 @@
 -- Records, rules and channels are read back and written back.
 use Prim.Native.Nat.{ℕ, _<_}
-use mathlib.Core.Path.{_≡_, refl, sym, subst}
+use mathlib.Core.Path.{_≡_, refl, sym, ap, subst}
 use mathlib.Core.Bool.{Bool, true, false, cond, _&&_, true≢false}
 use mathlib.Core.List.{List, [], _∷_}
 use native.Mathlib.Omega.{arith}
@@ -38,7 +38,7 @@ record-numbers (a ∷ b ∷ c ∷ d ∷ e ∷ ns) h z = absurd (h .1 .1 .1 .1)
 pub record-lawful : Lawful recordLayout RecordFits (λ s. getD (recordFields .read s) 2 0 ≡ 0)
 unfolding recordLayout
 record-lawful =
-    via-lawful recordFields recordNumbers recordOf (fields-lawful recordWidths) (λ r h. refl) record-numbers-fit (λ s h z. (tt, record-numbers (recordFields .read s) h z))
+    via-lawful recordFields recordNumbers recordOf (fields-lawful recordWidths) (λ r h. h) (λ r h. refl) record-numbers-fit (λ s h z. (tt, record-numbers (recordFields .read s) h z))
 
 -- ---- rules
 
@@ -89,21 +89,32 @@ rule-read (Cap q) = refl
 pub rule-lawful : Lawful ruleLayout RuleFits (λ s. ruleFits (ruleFields .read s) ≡ true)
 unfolding ruleLayout
 rule-lawful =
-    via-lawful ruleFields ruleNumbers ruleOf (fields-lawful ruleWidths) (λ r h. rule-read r) rule-numbers-fit (λ s h e. (tt, rule-numbers (ruleFields .read s) h e))
+    via-lawful ruleFields ruleNumbers ruleOf (fields-lawful ruleWidths) (λ r h. h) (λ r h. rule-read r) rule-numbers-fit (λ s h e. (tt, rule-numbers (ruleFields .read s) h e))
 
 -- ---- channels
 
-channel-numbers : (ns : List ℕ) → FieldsFit channelWidths ns → channelNumbers (channelOf ns) ≡ ns
-channel-numbers [] h = absurd h
-channel-numbers (a ∷ []) h = absurd (h .1)
-channel-numbers (a ∷ b ∷ []) h = absurd (h .1 .1)
-channel-numbers (a ∷ b ∷ c ∷ []) h = absurd (h .1 .1 .1)
-channel-numbers (a ∷ b ∷ c ∷ d ∷ []) h = absurd (h .1 .1 .1 .1)
-channel-numbers (a ∷ b ∷ c ∷ d ∷ e ∷ []) h = refl
-channel-numbers (a ∷ b ∷ c ∷ d ∷ e ∷ f ∷ ns) h = absurd (h .1 .1 .1 .1 .1)
+-- Of the numbers behind the remainder: they are those that the channel read from them gives.
+window-numbers : (windows : Bool) (ns : List ℕ) → FieldsFit (cond windows (2 ∷ 2 ∷ []) []) ns → cond windows (getD ns 0 0 ∷ getD ns 1 65_535 ∷ []) [] ≡ ns
+window-numbers true [] h = absurd h
+window-numbers true (a ∷ []) h = absurd (h .1)
+window-numbers true (a ∷ b ∷ []) h = refl
+window-numbers true (a ∷ b ∷ c ∷ ns) h = absurd (h .1 .1)
+window-numbers false [] h = refl
+window-numbers false (a ∷ ns) h = absurd h
 
-pub channel-lawful : Lawful channelLayout ChannelFits (λ s. Unit {0})
+channel-numbers : (v : ℕ) (ns : List ℕ) → FieldsFit (channelWidths v) ns → channelNumbers v (channelOf ns) ≡ ns
+channel-numbers v [] h = absurd h
+channel-numbers v (a ∷ []) h = absurd (h .1)
+channel-numbers v (a ∷ b ∷ []) h = absurd (h .1 .1)
+channel-numbers v (a ∷ b ∷ c ∷ []) h = absurd (h .1 .1 .1)
+channel-numbers v (a ∷ b ∷ c ∷ d ∷ []) h = absurd (h .1 .1 .1 .1)
+channel-numbers v (a ∷ b ∷ c ∷ d ∷ e ∷ ns) h = ap (λ (w : List ℕ). a ∷ b ∷ c ∷ d ∷ e ∷ w) (window-numbers (eqb v 2) ns (h .1 .1 .1 .1 .1))
+
+channel-numbers-fit : (v : ℕ) (ns : List ℕ) → FieldsFit (channelWidths v) ns → ChannelFits v (channelOf ns)
+channel-numbers-fit v ns h = let same = channel-numbers v ns h in record { numbers = subst (FieldsFit (channelWidths v)) (sym same) h; whole = ap channelOf same }
+
+pub channel-lawful : (v : ℕ) → Lawful (channelLayout v) (ChannelFits v) (λ s. Unit {0})
 unfolding channelLayout
-channel-lawful =
-    via-lawful channelFields channelNumbers channelOf (fields-lawful channelWidths) (λ c h. refl)
-    (λ ns h. subst (FieldsFit channelWidths) (sym (channel-numbers ns h)) h) (λ s h u. (tt, channel-numbers (channelFields .read s) h))
+channel-lawful v =
+    via-lawful (channelFields v) (channelNumbers v) channelOf (fields-lawful (channelWidths v)) (λ c h. h .numbers) (λ c h. h .whole)
+    (channel-numbers-fit v) (λ s h u. (tt, channel-numbers v (channelFields v .read s) h))

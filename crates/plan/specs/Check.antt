@@ -10,17 +10,20 @@ use Rattle.plan.specs.declared.Channel.{Channel}
 use Rattle.plan.specs.Layout.{readSlots}
 use Rattle.plan.specs.Rule.{ruleFields, ruleFits}
 use Rattle.plan.specs.Channel.{channelFits, channelAfter}
-use Rattle.plan.specs.Plan.{Plan, nodeCount, channelCount, planOf, planLength, planVersion, planNodes, planChannels, planSize, headLayout, entering, leaving}
+use Rattle.plan.specs.Plan.{Plan, nodeCount, channelCount, planOf, planLength, planVersion, planNodes, planChannels, sizeByHead, headLayout, entering, leaving}
 
 -- 1: "plan under 5 bytes, or not its length field"
 unfoldable pub badLength : List ℕ → Bool
 unfolding planLength
 badLength s = ltb (length s) 5 || not (eqb (planLength s) (length s))
 
--- 2: "plan version"
+-- 2: "plan version": 1, or 2 (2026-02).
+abbrev pub versionFits : ℕ → Bool
+versionFits v = eqb v 1 || eqb v 2
+
 unfoldable pub badVersion : List ℕ → Bool
 unfolding planVersion
-badVersion s = not (eqb (planVersion s) 1)
+badVersion s = not (versionFits (planVersion s))
 
 -- 3: "N or M": N is 2..12, M is 1..24.
 abbrev pub countsFit : ℕ → ℕ → Bool
@@ -30,10 +33,10 @@ unfoldable pub badCounts : List ℕ → Bool
 unfolding planNodes planChannels
 badCounts s = not (countsFit (planNodes s) (planChannels s))
 
--- 4: "length is not 5 + 4N + 6M"
+-- 4: "length is not 5 + 4N + 6M"; of version 2 "check 4 counts 10M"
 unfoldable pub badSize : List ℕ → Bool
-unfolding planNodes planChannels planSize
-badSize s = not (eqb (length s) (planSize (planNodes s) (planChannels s)))
+unfolding sizeByHead
+badSize s = not (eqb (length s) (sizeByHead s))
 
 -- 5: "rule"
 abbrev pub rulesFit : List (List ℕ) → Bool
@@ -86,7 +89,7 @@ planRefusal s =
       ]
     ]
 
--- The same of a plan itself: its bytes spell it whole, and no check refuses them. A rule's q is at most 65535 and a belt's mask too, being "2 bytes"; its modulus is "1..255".
+-- The same of a plan itself: its bytes spell it whole, and no check refuses them. A rule's q is at most 65535 and a belt's mask and masses too, being "2 bytes"; its modulus is "1..255"; in version 1 its window is 0..65535.
 abbrev pub ruleAllowed : Rule → Bool
 ruleAllowed Keep = true
 ruleAllowed (Relabel p q) = leb p 15 && leb q 15
@@ -96,11 +99,14 @@ abbrev pub rulesAllowed : List Rule → Bool
 rulesAllowed [] = true
 rulesAllowed (r ∷ rest) = ruleAllowed r && rulesAllowed rest
 
-abbrev pub channelsSpelled : List Channel → Bool
-channelsSpelled [] = true
-channelsSpelled (c ∷ rest) = (leb (c .mask) 65535 && leb (c .modulus) 255) && channelsSpelled rest
+abbrev pub channelSpelled : ℕ → Channel → Bool
+channelSpelled version c = leb (c .mask) 65535 && leb (c .modulus) 255 && leb (c .greatest) 65535 && (eqb version 2 || (eqb (c .least) 0 && eqb (c .greatest) 65535))
+
+abbrev pub channelsSpelled : ℕ → List Channel → Bool
+channelsSpelled version [] = true
+channelsSpelled version (c ∷ rest) = channelSpelled version c && channelsSpelled version rest
 
 unfoldable pub planFits : Plan → Bool
 unfolding channelFits channelAfter entering leaving
 planFits p =
-    countsFit (nodeCount p) (channelCount p) && rulesAllowed (p .rules) && channelsSpelled (p .channels) && channelsFit (nodeCount p) 0 0 (p .channels) && fourAtMost p (nodeCount p)
+    versionFits (p .version) && countsFit (nodeCount p) (channelCount p) && rulesAllowed (p .rules) && channelsSpelled (p .version) (p .channels) && channelsFit (nodeCount p) 0 0 (p .channels) && fourAtMost p (nodeCount p)

@@ -10,4 +10,5 @@ pub mod Narrow
 pub mod Check
 pub mod Degrees
 pub mod Fits
+pub mod Versions
 pub mod Examples

@@ -1,7 +1,10 @@
 // A channel: read in place, and whether it takes a record (document 01, "A belt takes a record if ..").
 ghost use mathlib.Core.Path.{_≡_};
+ghost use mathlib.Core.Bool.{cond, _&&_};
 ghost use Prim.Native.Nat.{_+_, _%_, _<_};
-ghost use Rattle.plan.specs.Channel.{bitSet, takes};
+ghost use lib.ListN.{take, drop};
+ghost use Rattle.plan.specs.Layout.{spelled};
+ghost use Rattle.plan.specs.Channel.{bitSet, inWindow, takes};
 ghost use Rattle.plan.specs.Plan.{planOf, channelAt};
 use crate::Channel;
 use crate::Record;
@@ -33,7 +36,18 @@ pub fn channel_takes(c: Channel, r: Record) -> bool
 {
     let bit = bit_set(c.mask, r.material);
     let left = left_over(r.piece, c.modulus);
-    bit & (left == (c.remainder as u32))
+    bit & (left == (c.remainder as u32)) & ((c.least <= r.mass) & (r.mass <= c.greatest))
+}
+
+// The number of two bytes at i, where the plan has windows; else what stands for it.
+fn bound_at(plan: &[u8], i: usize, windows: bool, other: u16) -> u16
+    ensures { λ r. ⌜ r ≡ cond windows (spelled 0 (take 2 (drop i (now (plan .entry))))) other ⌝ }
+{
+    if windows {
+        bytes::word_at(plan, i)
+    } else {
+        other
+    }
 }
 
 // A channel, read in place.
@@ -47,9 +61,14 @@ pub fn channel_at(plan: &[u8], channel: usize) -> Channel
             mask: 0,
             modulus: 0,
             remainder: 0,
+            least: 0,
+            greatest: 0,
         };
     }
-    let at = 5 + 4 * bytes::node_count(plan) + 6 * channel;
+    let at = bytes::channel_from(plan, channel);
+    let windows = bytes::has_windows(plan);
+    let least = bound_at(plan, at + 6, windows, 0);
+    let greatest = bound_at(plan, at + 8, windows, 65_535);
     if at + 6 <= plan.len() {
         return Channel {
             sender: plan[at],
@@ -57,6 +76,8 @@ pub fn channel_at(plan: &[u8], channel: usize) -> Channel
             mask: bytes::wide(plan[at + 2]) * 256 + bytes::wide(plan[at + 3]),
             modulus: plan[at + 4],
             remainder: plan[at + 5],
+            least,
+            greatest,
         };
     }
     Channel {
@@ -65,5 +86,7 @@ pub fn channel_at(plan: &[u8], channel: usize) -> Channel
         mask: bytes::word_at(plan, at + 2),
         modulus: bytes::byte_at(plan, at + 4),
         remainder: bytes::byte_at(plan, at + 5),
+        least,
+        greatest,
     }
 }

@@ -26,7 +26,8 @@ pub fn bad_length(plan: &[u8]) -> bool
 pub fn bad_version(plan: &[u8]) -> bool
     ensures { λ r. ⌜ r ≡ badVersion (now (plan .entry)) ⌝ }
 {
-    bytes::byte_at(plan, 2) != 1
+    let version = bytes::byte_at(plan, 2);
+    !((version == 1) | (version == 2))
 }
 
 // 3: the counts of nodes and channels.
@@ -42,8 +43,7 @@ pub fn bad_counts(plan: &[u8]) -> bool
 pub fn bad_size(plan: &[u8]) -> bool
     ensures { λ r. ⌜ r ≡ badSize (now (plan .entry)) ⌝ }
 {
-    let size = 5 + 4 * bytes::node_count(plan) + 6 * bytes::channel_count(plan);
-    plan.len() != size
+    plan.len() != bytes::size_by_head(plan)
 }
 
 // Whether a rule's numbers are within their limits.
@@ -95,6 +95,7 @@ fn channel_fits(n: usize, c: Channel) -> bool
         & (1 <= c.mask)
         & (1 <= c.modulus)
         & (c.remainder < c.modulus)
+        & (c.least <= c.greatest)
 }
 
 // Whether a channel comes after a sender and a receiver.
@@ -139,11 +140,12 @@ fn count_ends(plan: &[u8], enter: &mut [u8; 12], leave: &mut [u8; 12])
     requires { ⌜ Joined (now plan) × (now enter ≡ replicate 12 0) × (now leave ≡ replicate 12 0) ⌝ }
     ensures { λ _. ⌜ Degrees (planOf (now (plan .entry))) (now (enter .exit)) (now (leave .exit)) ⌝ }
 {
+    let size = bytes::channel_size(plan);
     let mut left = bytes::channel_count(plan);
-    let mut at = 5 + 4 * bytes::node_count(plan) + 6 * left;
+    let mut at = bytes::channel_from(plan, left);
     while 0 < left {
         left -= 1;
-        at -= 6;
+        at -= size;
         let sender = bytes::index_of(plan[at]);
         let receiver = bytes::index_of(plan[at + 1]);
         count_one(enter, receiver);

@@ -22,13 +22,15 @@ pub enum Rule {
     Cap(u16),
 }
 
-// A channel (document 01: belt).
+// A channel (document 01: belt), and the least and the greatest mass that it takes (document 02, 2026-02).
 pub struct Channel {
     pub sender: u8,
     pub receiver: u8,
     pub mask: u16,
     pub modulus: u8,
     pub remainder: u8,
+    pub least: u16,
+    pub greatest: u16,
 }
 
 // Which of a plan's channels are asked for: those that enter a node, or that leave it.

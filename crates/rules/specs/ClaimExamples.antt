@@ -105,7 +105,7 @@ when-quiet = refl
 
 -- 0 makes material 2 of 1, 1 makes 3 of 2: what is fed is as it came, what is received as the sender made it, on the plain line and in the engine.
 unfoldable pub relabels : Plan
-relabels = record { rules = Relabel 1 2 ∷ Relabel 2 3 ∷ Keep ∷ []; channels = channel 0 1 4 ∷ channel 1 2 8 ∷ [] }
+relabels = record { version = 1; rules = Relabel 1 2 ∷ Relabel 2 3 ∷ Keep ∷ []; channels = channel 0 1 4 ∷ channel 1 2 8 ∷ [] }
 
 unfoldable pub relabelStory : Story
 unfolding relabels initialLine told

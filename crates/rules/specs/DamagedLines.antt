@@ -79,7 +79,7 @@ later = storyFrom (startOf (initialLine replayPlan)) (feedFrame 0 1 1 ∷ feedFr
 unfoldable pub deepBegun : Story
 unfolding initialLine told
 deepBegun =
-    storyFrom (startOf (initialLine (record { rules = Keep ∷ Keep ∷ Keep ∷ Keep ∷ Keep ∷ []; channels = channel 0 1 2 ∷ channel 1 2 2 ∷ channel 2 3 2 ∷ channel 2 4 2 ∷ [] })))
+    storyFrom (startOf (initialLine (record { version = 1; rules = Keep ∷ Keep ∷ Keep ∷ Keep ∷ Keep ∷ []; channels = channel 0 1 2 ∷ channel 1 2 2 ∷ channel 2 3 2 ∷ channel 2 4 2 ∷ [] })))
     (feedFrame 0 1 3 ∷ feedFrame 0 1 1 ∷ (joined (map twoSteps (0 ∷ 1 ∷ 2 ∷ [])) ++ frame 4 2 ∷ frame 5 2 ∷ []))
 
 unfoldable pub deep : Line
@@ -205,7 +205,7 @@ trials =
     -- a down node's child keeps its clock
     ∷ trial (lane 2 (moved 0 2) fallen) []
     -- the line
-    ∷ trial (record { plan = record { rules = begun .plan .rules; channels = map (λ (c : Channel). record { sender = c .sender; receiver = c .receiver; mask = c .mask; modulus = 0; remainder = 0 }) (begun .plan .channels) }; steps = begun .steps; nodes = begun .nodes; lanes = begun .lanes }) (1 ∷ [])
+    ∷ trial (record { plan = record { version = 1; rules = begun .plan .rules; channels = map (λ (c : Channel). record { sender = c .sender; receiver = c .receiver; mask = c .mask; modulus = 0; remainder = 0; least = 0; greatest = 65_535 }) (begun .plan .channels) }; steps = begun .steps; nodes = begun .nodes; lanes = begun .lanes }) (1 ∷ [])
     ∷ trial (lane 0 (λ (s : Lane). record { mark = s .mark; taken = s .taken; heard = 0 ∷ s .heard; queue = s .queue }) begun) (2 ∷ [])
     ∷ trial (steps 1_000_001 begun) (3 ∷ [])
     ∷ trial (withSteps (0 ∷ 0 ∷ 0 ∷ 1_000_001 ∷ []) begun) (3 ∷ [])

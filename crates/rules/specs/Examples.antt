@@ -32,7 +32,7 @@ widePlan = 0 ∷ 59 ∷ 1 ∷ 6 ∷ 5 ∷ (replicate 24 0 ++ joined (map wideCha
 
 -- 0 to 1 to 2 to 3.
 unfoldable pub chain : Plan
-chain = record { rules = Keep ∷ Keep ∷ Keep ∷ Keep ∷ []; channels = channel 0 1 65535 ∷ channel 1 2 65535 ∷ channel 2 3 65535 ∷ [] }
+chain = record { version = 1; rules = Keep ∷ Keep ∷ Keep ∷ Keep ∷ []; channels = channel 0 1 65535 ∷ channel 1 2 65535 ∷ channel 2 3 65535 ∷ [] }
 
 -- What a list of frames does on a plan, from a number of steps of each console on; the answers, where console 0 alone has done steps; the same on the chain.
 unfoldable pub storyOn : Plan → List ℕ → List (List ℕ) → Story

@@ -14,8 +14,10 @@ pub mod Order
 pub mod Restart
 pub mod Console
 pub mod Base
+pub mod Versions
 pub mod Marked
 pub mod Examples
 pub mod DamagedLines
 pub mod ReplayRefusals
 pub mod ClaimExamples
+pub mod WindowExamples

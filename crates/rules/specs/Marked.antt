@@ -51,10 +51,10 @@ placingRows k (c ∷ cs) = record { number = k; given = markLists (markOf (c .sh
 
 -- P9: "0 and 1 feed 2; 2 sends material 1 to 3, materials 1 and 2 to 4."
 abbrev pub channel : ℕ → ℕ → ℕ → Channel
-channel sender receiver mask = record { sender = sender; receiver = receiver; mask = mask; modulus = 1; remainder = 0 }
+channel sender receiver mask = record { sender = sender; receiver = receiver; mask = mask; modulus = 1; remainder = 0; least = 0; greatest = 65_535 }
 
 unfoldable pub replayPlan : Plan
-replayPlan = record { rules = Keep ∷ Keep ∷ Keep ∷ Keep ∷ Keep ∷ []; channels = channel 0 2 65535 ∷ channel 1 2 65535 ∷ channel 2 3 2 ∷ channel 2 4 6 ∷ [] }
+replayPlan = record { version = 1; rules = Keep ∷ Keep ∷ Keep ∷ Keep ∷ Keep ∷ []; channels = channel 0 2 65535 ∷ channel 1 2 65535 ∷ channel 2 3 2 ∷ channel 2 4 6 ∷ [] }
 
 abbrev pub feedFrame : ℕ → ℕ → ℕ → List ℕ
 feedFrame node piece material = 0 ∷ 13 ∷ 1 ∷ 1 ∷ node ∷ 0 ∷ 0 ∷ 0 ∷ piece ∷ material ∷ 0 ∷ 0 ∷ 0 ∷ []

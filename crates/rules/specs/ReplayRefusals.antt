@@ -17,7 +17,7 @@ use Rattle.rules.specs.DamagedLines.{piece, target, met, deepBegun}
 
 -- 0 and 1 to 2, which has a rule; 2 sends material 1 to 3, materials 1 and 2 to 4, material 2 to 5
 abbrev plan : Rule → Plan
-plan r = record { rules = Keep ∷ Keep ∷ r ∷ Keep ∷ Keep ∷ Keep ∷ []; channels = channel 0 2 65535 ∷ channel 1 2 65535 ∷ channel 2 3 2 ∷ channel 2 4 6 ∷ channel 2 5 4 ∷ [] }
+plan r = record { version = 1; rules = Keep ∷ Keep ∷ r ∷ Keep ∷ Keep ∷ Keep ∷ []; channels = channel 0 2 65535 ∷ channel 1 2 65535 ∷ channel 2 3 2 ∷ channel 2 4 6 ∷ channel 2 5 4 ∷ [] }
 
 abbrev lane : ℕ → ℕ → List ℕ → List Message → Lane
 lane m t h q = record { mark = m; taken = t; heard = h; queue = q }

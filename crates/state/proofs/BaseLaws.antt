@@ -19,5 +19,5 @@ unfolding lineBytes baseBytes
 bytes-as-before l k e =
     let n = nodeCount (l .plan) in
     let m = channelCount (l .plan) in
-    ap (λ (b : List ℕ). (planPart n m .write (headNumbers (l .plan), l .plan) ++ (b ++ (nodesPart n .write (l .nodes) ++ lanesPart m .write (map padHeard (l .lanes))))) ++ replicate tailSize 0)
+    ap (λ (b : List ℕ). (planPart (l .plan .version) n m .write (headNumbers (l .plan), l .plan) ++ (b ++ (nodesPart n .write (l .nodes) ++ lanesPart m .write (map padHeard (l .lanes))))) ++ replicate tailSize 0)
     (ap (stepsPart .write) e ∙ steps-as-before k)

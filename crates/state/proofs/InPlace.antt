@@ -7,9 +7,9 @@ use lib.ListN.{length, getD, take, drop}
 use lib.Seq.{drop-drop}
 use Rattle.plan.specs.declared.Channel.{Channel}
 use Rattle.plan.specs.Layout.{Layout, spelled, readSlots, pair, padded, readFields}
-use Rattle.plan.specs.Plan.{Plan, planOf, planLayout, planNodes, planChannels, planSize, channelAt, noChannel}
+use Rattle.plan.specs.Plan.{Plan, planOf, planLayout, planVersion, planNodes, planChannels, planSize, channelAt, noChannel}
 use Rattle.plan.proofs.LayoutLaws.{length-readSlots, slot-at}
-use Rattle.plan.proofs.PlanLaws.{plan-size, channel-count}
+use Rattle.plan.proofs.PlanLaws.{plan-size-most, channel-count}
 use Rattle.rules.specs.Line.{Node, Lane, nodeAt, laneAt, freshNode, noLane}
 use Rattle.state.specs.Sound.{Sound}
 use Rattle.state.specs.Sizes.{pageSize, planArea, stepsAt, nodePages, pageAt, laneBlocks, blockSize, blocksAt, blockAt, tailSize, stepsWidths, stepsOfAt, stepsRest}
@@ -42,12 +42,12 @@ pub record Counted (s : List ℕ) : Type 0 where
   pub nodes : planNodes s ≤ nodePages
   pub channels : planChannels s ≤ laneBlocks
 
-module _ (n m : ℕ) (h : n ≤ nodePages) (k : m ≤ laneBlocks) where
-  pub plan-long : planPart n m .size ≡ planArea
+module _ (v n m : ℕ) (h : n ≤ nodePages) (k : m ≤ laneBlocks) where
+  pub plan-long : planPart v n m .size ≡ planArea
   unfolding planPart
-  plan-long = omega (arith, plan-size n m)
+  plan-long = omega (arith, plan-size-most v n m)
 
-  pub steps-end : planPart n m .size + stepsPart .size ≡ pageSize
+  pub steps-end : planPart v n m .size + stepsPart .size ≡ pageSize
   unfolding stepsPart
   steps-end = omega (arith, plan-long)
 
@@ -55,18 +55,18 @@ module _ (n m : ℕ) (h : n ≤ nodePages) (k : m ≤ laneBlocks) where
   unfolding nodesPart
   nodes-long = omega arith
 
-  pub nodes-end : planPart n m .size + stepsPart .size + nodesPart n .size ≡ blocksAt
+  pub nodes-end : planPart v n m .size + stepsPart .size + nodesPart n .size ≡ blocksAt
   nodes-end = omega (arith, steps-end, nodes-long)
 
   parts-read : (s : List ℕ)
-      → stateParts n m .read s ≡ (planPart n m .read s, (stepsPart .read (drop stepsAt s), (nodesPart n .read (drop pageSize s), lanesPart m .read (drop blocksAt s))))
+      → stateParts v n m .read s ≡ (planPart v n m .read s, (stepsPart .read (drop stepsAt s), (nodesPart n .read (drop pageSize s), lanesPart m .read (drop blocksAt s))))
   unfolding stateParts
-  parts-read s = four-read (plan-part-sound n m) steps-part-sound (nodes-part-sound n) (lanes-part-sound m) tailSize s
-      ∙ (λ i. (planPart n m .read s, (stepsPart .read (drop (plan-long i) s), (nodesPart n .read (drop (steps-end i) s), lanesPart m .read (drop (nodes-end i) s)))))
+  parts-read s = four-read (plan-part-sound v n m) steps-part-sound (nodes-part-sound n) (lanes-part-sound m) tailSize s
+      ∙ (λ i. (planPart v n m .read s, (stepsPart .read (drop (plan-long i) s), (nodesPart n .read (drop (steps-end i) s), lanesPart m .read (drop (nodes-end i) s)))))
 
-plan-read-at : (n m : ℕ) (s : List ℕ) → planPart n m .read s ≡ planLayout n m .read s
+plan-read-at : (v n m : ℕ) (s : List ℕ) → planPart v n m .read s ≡ planLayout v n m .read s
 unfolding planPart
-plan-read-at n m s = padded-read (plan-sound n m) (planArea - planSize n m) s
+plan-read-at v n m s = padded-read (plan-sound v n m) (planArea - planSize v n m) s
 
 steps-read-at : (s : List ℕ) → stepsPart .read s ≡ readFields stepsWidths s
 unfolding stepsPart
@@ -111,6 +111,9 @@ abbrev pub countsIn : List ℕ → List ℕ
 countsIn s = wordAt (stepsOfAt 0) s ∷ wordAt (stepsOfAt 1) s ∷ wordAt (stepsOfAt 2) s ∷ wordAt (stepsOfAt 3) s ∷ []
 
 module _ (s : List ℕ) where
+  abbrev v : ℕ
+  v = planVersion s
+
   abbrev n : ℕ
   n = planNodes s
 
@@ -121,12 +124,12 @@ module _ (s : List ℕ) where
   pub line-plan : lineOf s .plan ≡ planOf s
   unfolding lineOf planOf stateParts
   line-plan =
-      ap (λ (x : StateParts). x .0 .1) (four-read (plan-part-sound n m) steps-part-sound (nodes-part-sound n) (lanes-part-sound m) tailSize s)
-      ∙ ap (λ (x : List ℕ × Plan). x .1) (plan-read-at n m s)
+      ap (λ (x : StateParts). x .0 .1) (four-read (plan-part-sound v n m) steps-part-sound (nodes-part-sound n) (lanes-part-sound m) tailSize s)
+      ∙ ap (λ (x : List ℕ × Plan). x .1) (plan-read-at v n m s)
 
   module _ (few : Counted s) where
-    parts : stateParts n m .read s ≡ (planPart n m .read s, (stepsPart .read (drop stepsAt s), (nodesPart n .read (drop pageSize s), lanesPart m .read (drop blocksAt s))))
-    parts = parts-read n m (few .nodes) (few .channels) s
+    parts : stateParts v n m .read s ≡ (planPart v n m .read s, (stepsPart .read (drop stepsAt s), (nodesPart n .read (drop pageSize s), lanesPart m .read (drop blocksAt s))))
+    parts = parts-read v n m (few .nodes) (few .channels) s
 
     pub line-steps : lineOf s .steps ≡ readFields stepsWidths (drop stepsAt s)
     unfolding lineOf

@@ -97,7 +97,7 @@ behind-plan p =
     let m = channelCount p in
     let xs = replicate n freshNode in
     let ls = map padHeard (map (λ (c : Channel). freshLane p c 0) (p .channels)) in
-    zeros-behind (planLayout n m) (pair stepsPart (pair (nodesPart n) (lanesPart m))) (planArea - planSize n m) tailSize (headNumbers p, p) (onlyCount 0, (xs, ls))
+    zeros-behind (planLayout (p .version) n m) (pair stepsPart (pair (nodesPart n) (lanesPart m))) (planArea - planSize (p .version) n m) tailSize (headNumbers p, p) (onlyCount 0, (xs, ls))
     (pair-zeros stepsPart (pair (nodesPart n) (lanesPart m)) (onlyCount 0) (xs, ls) steps-zero
     (pair-zeros (nodesPart n) (lanesPart m) xs ls (nodes-part-zero n) (lanes-part-zero p)))
 

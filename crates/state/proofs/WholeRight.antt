@@ -1,6 +1,6 @@
 -- A state is what its line is written as exactly where its parts are right.
 use Prim.Native.Nat.{ℕ, zero, suc, _+_, _*_, _-_, _≤_, _<_}
-use mathlib.Core.Path.{_≡_, refl, sym, ap, ap₂, subst, subst₂, _∙_}
+use mathlib.Core.Path.{_≡_, refl, sym, ap, subst, subst₂, _∙_}
 use mathlib.Core.Logic.{_↔_, Iff·trans, Iff·and, Iff·rfl}
 use mathlib.Core.List.{List, [], _∷_, _++_, map}
 use native.Mathlib.Nat.{suc-mul, add-comm, zero-add}
@@ -10,9 +10,9 @@ use lib.Seq.{drop-drop, take-all}
 use Rattle.plan.specs.declared.Channel.{Channel}
 use Rattle.plan.specs.Layout.{Layout, pair, slots, padded, writeSlots, readSlots, fields, readFields, writeFields}
 use Rattle.plan.specs.Lawful.{Bytes}
-use Rattle.plan.specs.Plan.{Plan, planOf, planBytes, planLayout, planNodes, planChannels, planSize, headNumbers, channelAt, noChannel}
+use Rattle.plan.specs.Plan.{Plan, planOf, planBytes, planLayout, planVersion, planNodes, planChannels, planSize, sizeByHead, headNumbers, channelAt, noChannel}
 use Rattle.plan.proofs.LayoutLaws.{slots-front, fields-front}
-use Rattle.plan.proofs.PlanLaws.{node-count, channel-count}
+use Rattle.plan.proofs.PlanLaws.{plan-size-most, version-of, node-count, channel-count}
 use Rattle.rules.specs.Line.{Lane, Line}
 use Rattle.state.specs.Sound.{Sound}
 use Rattle.state.specs.Sizes.{stateSize, pageSize, planArea, stepsAt, stepsRest, nodePages, pageAt, laneBlocks, blockSize, blocksAt, blockAt, tailAt, tailSize, stepsWidths, stepsSize}
@@ -133,6 +133,9 @@ module _ {A B C D : Type 0} {a : Layout A} {b : Layout B} {c : Layout C} {d : La
       (zeros-moved s (0 + (a .size + (b .size + (c .size + d .size)))) e t t (omega arith) refl))
 
 module _ (s : List ℕ) (long : length s ≡ stateSize) (k : Bytes s) (few : Counted s) where
+  abbrev v : ℕ
+  v = planVersion s
+
   abbrev n : ℕ
   n = planNodes s
 
@@ -142,17 +145,18 @@ module _ (s : List ℕ) (long : length s ≡ stateSize) (k : Bytes s) (few : Cou
   abbrev p : Plan
   p = planOf s
 
-  plan-spelled : planBytes p ≡ planLayout n m .write (headNumbers p, p)
+  plan-spelled : planBytes p ≡ planLayout v n m .write (headNumbers p, p)
   unfolding planBytes
-  plan-spelled = ap₂ (λ (i j : ℕ). planLayout i j .write (headNumbers p, p)) (node-count s) (channel-count s)
+  plan-spelled = λ i. planLayout (version-of s i) (node-count s i) (channel-count s i) .write (headNumbers p, p)
 
-  plan-part : WrittenAt (planPart n m) (headNumbers p, p) 0 s ↔ ((planBytes p ≡ take (planSize n m) s) × ZerosAt (planSize n m) (planArea - planSize n m) s)
-  unfolding planPart
+  plan-part : WrittenAt (planPart v n m) (headNumbers p, p) 0 s ↔ ((planBytes p ≡ take (sizeByHead s) s) × ZerosAt (sizeByHead s) (planArea - sizeByHead s) s)
+  unfolding planPart sizeByHead
   plan-part =
-      let rest = planArea - planSize n m in
-      let fits : 0 + (planLayout n m .size + rest) ≤ length s = omega (arith, few .nodes, few .channels) in
-      Iff·trans (padded-written (plan-sound n m) (headNumbers p, p) 0 s rest fits)
-      (Iff·and (λ q. plan-spelled ∙ q, λ q. sym plan-spelled ∙ q) (zeros-moved s (0 + planSize n m) (planSize n m) rest rest (zero-add (planSize n m)) refl))
+      let size = planSize v n m in
+      let rest = planArea - size in
+      let fits : 0 + (size + rest) ≤ length s = omega (arith, plan-size-most v n m, few .nodes, few .channels) in
+      Iff·trans (padded-written (plan-sound v n m) (headNumbers p, p) 0 s rest fits)
+      (Iff·and (λ q. plan-spelled ∙ q, λ q. sym plan-spelled ∙ q) (zeros-moved s (0 + size) size rest rest (zero-add size) refl))
 
   -- The four counts.
   abbrev counts : List ℕ
@@ -210,35 +214,35 @@ module _ (s : List ℕ) (long : length s ≡ stateSize) (k : Bytes s) (few : Cou
   abbrev seen : StateParts
   seen = ((headNumbers p, p), (counts, (readSlots nodeLayout n (drop pageSize s), lanesOf p (p .channels) m (drop blocksAt s))))
 
-  found-bytes : lineBytes found ≡ stateParts n m .write seen
+  found-bytes : lineBytes found ≡ stateParts v n m .write seen
   unfolding lineBytes
-  found-bytes = ap₂ (λ (i j : ℕ). stateParts i j .write seen) (node-count s) (channel-count s)
+  found-bytes = λ i. stateParts (version-of s i) (node-count s i) (channel-count s i) .write seen
 
-  whole-size : stateParts n m .size ≡ stateSize
+  whole-size : stateParts v n m .size ≡ stateSize
   unfolding stateLayout
-  whole-size = state-size n m (few .nodes) (few .channels)
+  whole-size = state-size v n m (few .nodes) (few .channels)
 
-  whole-part : take (stateParts n m .size) (drop 0 s) ≡ s
-  whole-part = take-all (stateParts n m .size) s (omega (arith, whole-size))
+  whole-part : take (stateParts v n m .size) (drop 0 s) ≡ s
+  whole-part = take-all (stateParts v n m .size) s (omega (arith, whole-size))
 
-  whole-written : (lineBytes (lineOf s) ≡ s) ↔ WrittenAt (stateParts n m) seen 0 s
+  whole-written : (lineBytes (lineOf s) ≡ s) ↔ WrittenAt (stateParts v n m) seen 0 s
   whole-written =
       let bytes = ap lineBytes line-found ∙ found-bytes in
       (λ q. sym bytes ∙ q ∙ sym whole-part, λ q. bytes ∙ q ∙ whole-part)
 
-  lanes-end : planPart n m .size + stepsPart .size + nodesPart n .size + lanesPart m .size ≡ tailAt
+  lanes-end : planPart v n m .size + stepsPart .size + nodesPart n .size + lanesPart m .size ≡ tailAt
   unfolding lanesPart
-  lanes-end = omega (arith, nodes-end n m (few .nodes) (few .channels), few .channels)
+  lanes-end = omega (arith, nodes-end v n m (few .nodes) (few .channels), few .channels)
 
-  parts-written : WrittenAt (stateParts n m) seen 0 s
-      ↔ ((WrittenAt (planPart n m) (headNumbers p, p) 0 s
+  parts-written : WrittenAt (stateParts v n m) seen 0 s
+      ↔ ((WrittenAt (planPart v n m) (headNumbers p, p) 0 s
       × (WrittenAt stepsPart counts stepsAt s
       × (WrittenAt (nodesPart n) (readSlots nodeLayout n (drop pageSize s)) pageSize s × WrittenAt (lanesPart m) (lanesOf p (p .channels) m (drop blocksAt s)) blocksAt s)))
       × ZerosAt tailAt tailSize s)
   unfolding stateParts
   parts-written =
-      four-written (plan-part-sound n m) steps-part-sound (nodes-part-sound n) (lanes-part-sound m) (headNumbers p, p) counts (readSlots nodeLayout n (drop pageSize s)) (lanesOf p (p .channels) m (drop blocksAt s))
-      tailSize s stepsAt pageSize blocksAt tailAt (plan-long n m (few .nodes) (few .channels)) (steps-end n m (few .nodes) (few .channels)) (nodes-end n m (few .nodes) (few .channels)) lanes-end (omega arith)
+      four-written (plan-part-sound v n m) steps-part-sound (nodes-part-sound n) (lanes-part-sound m) (headNumbers p, p) counts (readSlots nodeLayout n (drop pageSize s)) (lanesOf p (p .channels) m (drop blocksAt s))
+      tailSize s stepsAt pageSize blocksAt tailAt (plan-long v n m (few .nodes) (few .channels)) (steps-end v n m (few .nodes) (few .channels)) (nodes-end v n m (few .nodes) (few .channels)) lanes-end (omega arith)
 
   -- The canonical form, taken apart.
   pub state-right : (lineBytes (lineOf s) ≡ s) ↔ StateRight s

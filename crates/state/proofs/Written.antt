@@ -207,7 +207,7 @@ module _ (l : Line) (fits : LineFits l) where
   few-channels = fitting (l .plan) (fits .plan) .channelsMost
 
   abbrev planned : List ℕ
-  planned = planPart n m .write (headNumbers (l .plan), l .plan)
+  planned = planPart (l .plan .version) n m .write (headNumbers (l .plan), l .plan)
 
   abbrev stepped : List ℕ
   stepped = stepsPart .write (l .steps)
@@ -219,14 +219,14 @@ module _ (l : Line) (fits : LineFits l) where
   laned = lanesPart m .write (map padHeard (l .lanes))
 
   planned-long : length planned ≡ stepsAt
-  planned-long = plan-part-sound n m .sized (headNumbers (l .plan), l .plan) ∙ plan-long n m few-nodes few-channels
+  planned-long = plan-part-sound (l .plan .version) n m .sized (headNumbers (l .plan), l .plan) ∙ plan-long (l .plan .version) n m few-nodes few-channels
 
   stepped-long : length stepped ≡ pageSize - stepsAt
   unfolding stepsPart
   stepped-long = steps-part-sound .sized (l .steps)
 
   noded-long : length noded ≡ nodePages * pageSize
-  noded-long = nodes-part-sound n .sized (l .nodes) ∙ nodes-long n m few-nodes few-channels
+  noded-long = nodes-part-sound n .sized (l .nodes) ∙ nodes-long (l .plan .version) n m few-nodes few-channels
 
   -- All four counts, and console c's.
   pub line-steps-swap : (ks : List ℕ) → Swapped stepsAt (writeFields stepsWidths (l .steps)) (writeFields stepsWidths ks) (lineBytes l) (lineBytes (withSteps ks l))

@@ -16,7 +16,7 @@ baseStepsPart = padded 3580 (number countSize)
 unfoldable pub baseBytes : ℕ → Line → List ℕ
 unfolding planPart baseStepsPart nodesPart lanesPart pair padded
 baseBytes k l =
-    padded tailSize (pair (planPart (nodeCount (l .plan)) (channelCount (l .plan))) (pair baseStepsPart (pair (nodesPart (nodeCount (l .plan))) (lanesPart (channelCount (l .plan))))))
+    padded tailSize (pair (planPart (l .plan .version) (nodeCount (l .plan)) (channelCount (l .plan))) (pair baseStepsPart (pair (nodesPart (nodeCount (l .plan))) (lanesPart (channelCount (l .plan))))))
     .write ((headNumbers (l .plan), l .plan), (k, (l .nodes, map padHeard (l .lanes))))
 
 abbrev pub BytesAsBefore : Type 0

@@ -12,7 +12,7 @@ use Rattle.state.specs.State.{lineBytes, lineOf, stateAnswer}
 
 unfoldable pub twoNodes : Line
 unfolding initialLine
-twoNodes = initialLine (record { rules = Keep ∷ Keep ∷ []; channels = record { sender = 0; receiver = 1; mask = 65535; modulus = 1; remainder = 0 } ∷ [] })
+twoNodes = initialLine (record { version = 1; rules = Keep ∷ Keep ∷ []; channels = record { sender = 0; receiver = 1; mask = 65535; modulus = 1; remainder = 0; least = 0; greatest = 65_535 } ∷ [] })
 
 -- Its bytes are the plan's, and 0 behind them.
 abbrev twoNodesPlan : List ℕ

@@ -5,7 +5,7 @@ use mathlib.Core.List.{List}
 use lib.ListN.{getD, take, drop}
 use Rattle.plan.specs.Layout.{spelled}
 use Rattle.plan.specs.Lawful.{Zeros}
-use Rattle.plan.specs.Plan.{planOf, planBytes, planSize, planNodes, planChannels, channelAt}
+use Rattle.plan.specs.Plan.{planOf, planBytes, sizeByHead, planNodes, planChannels, channelAt}
 use Rattle.rules.specs.Line.{logLimit, queueLimit, heldLimit, targetLimit}
 use Rattle.state.specs.Sizes.{pageSize, planArea, stepsAt, countSize, stepsSize, stepsRest, nodePages, pageAt, laneBlocks, blockSize, blockAt, tailAt, tailSize, statusAt, crashedAt, logAt, entrySize, heldAt, heldSize, targetsAt, targetSize, nodeRestAt, nodeRest, heardAt, parentLimit, queueAt, messageSize, laneRestAt, laneRest}
 use Rattle.state.specs.Lane.{heardCount}
@@ -67,8 +67,8 @@ pub record LaneRight (count a : ℕ) (s : List ℕ) : Type 0 where
   pub rest : ZerosAt (a + laneRestAt) laneRest s
 
 pub record StateRight (s : List ℕ) : Type 0 where
-  pub plan : planBytes (planOf s) ≡ take (planSize (planNodes s) (planChannels s)) s
-  pub planRest : ZerosAt (planSize (planNodes s) (planChannels s)) (planArea - planSize (planNodes s) (planChannels s)) s
+  pub plan : planBytes (planOf s) ≡ take (sizeByHead s) s
+  pub planRest : ZerosAt (sizeByHead s) (planArea - sizeByHead s) s
   pub stepsRest : ZerosAt (stepsAt + stepsSize) stepsRest s
   pub node : (k : ℕ) → k < planNodes s → NodeRight (pageAt k) s
   pub nodesRest : ZerosAt (pageAt (planNodes s)) (pageSize * (nodePages - planNodes s)) s

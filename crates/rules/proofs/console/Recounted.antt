@@ -1,4 +1,4 @@
--- What a line refuses and what it does go by its plan, its nodes and its channels, and never by its counts.
+-- What a line refuses and what it does go by its rules, its channels and its nodes, and never by its counts or by the plan's version.
 use Prim.Native.Nat.{ℕ, suc}
 use mathlib.Core.Path.{_≡_, refl, ap, _∙_}
 use mathlib.Core.Bool.{Bool, true, false}
@@ -8,7 +8,7 @@ use Rattle.plan.specs.declared.Record.{Record}
 use Rattle.plan.specs.Plan.{entering, leaving}
 use Rattle.placing.specs.Item.{Item}
 use Rattle.rules.specs.Lists.{allOf, joined, isEmpty}
-use Rattle.rules.specs.Line.{Message, Entry, Held, Lane, Line, nodeAt, laneAt, receiverOf, withNode, withLane, withLanes, withSteps}
+use Rattle.rules.specs.Line.{Message, Entry, Held, Lane, Line, nodeAt, laneAt, receiverOf, withNode, withLane, withLanes}
 use Rattle.rules.specs.Frame.{Frame, feed, send, take, crash, recover}
 use Rattle.rules.specs.Recover.{targetsOf, conflict, rowsComplete, highOf, recovered}
 use Rattle.rules.specs.Replay.{passedOn, isHeld, heldByRow, itemOf, itemsByRow, placing, nodePlaced, replayEnd, endedIfComplete}
@@ -20,27 +20,31 @@ either : {A B : Type 0} (f : A → B) (t : Bool) {x y : A} {u v : B} → u ≡ f
 either f true e d = e
 either f false e d = d
 
-module _ (counts : List ℕ) where
-  lanes-recounted : (f : ℕ → Lane → Lane) (bs : List ℕ) (l : Line) → withLanes f bs (withSteps counts l) ≡ withSteps counts (withLanes f bs l)
+-- A line whose plan's version is changed, with other counts.
+abbrev pub reheaded : (ℕ → ℕ) → List ℕ → Line → Line
+reheaded as counts l = record { plan = record { version = as (l .plan .version); rules = l .plan .rules; channels = l .plan .channels }; steps = counts; nodes = l .nodes; lanes = l .lanes }
+
+module _ (as : ℕ → ℕ) (counts : List ℕ) where
+  lanes-recounted : (f : ℕ → Lane → Lane) (bs : List ℕ) (l : Line) → withLanes f bs (reheaded as counts l) ≡ reheaded as counts (withLanes f bs l)
   unfolding withLane
   lanes-recounted f [] l = refl
   lanes-recounted f (b ∷ bs) l = lanes-recounted f bs (withLane b (f b (laneAt l b)) l)
 
-  lanes-twice : (f g : ℕ → Lane → Lane) (bs cs : List ℕ) (l : Line) → withLanes f bs (withLanes g cs (withSteps counts l)) ≡ withSteps counts (withLanes f bs (withLanes g cs l))
+  lanes-twice : (f g : ℕ → Lane → Lane) (bs cs : List ℕ) (l : Line) → withLanes f bs (withLanes g cs (reheaded as counts l)) ≡ reheaded as counts (withLanes f bs (withLanes g cs l))
   lanes-twice f g bs cs l = ap (withLanes f bs) (lanes-recounted g cs l) ∙ lanes-recounted f bs (withLanes g cs l)
 
-  rows-recounted : (hs : List Held) (l : Line) (cs : List ℕ) → heldByRow hs (withSteps counts l) cs ≡ heldByRow hs l cs
+  rows-recounted : (hs : List Held) (l : Line) (cs : List ℕ) → heldByRow hs (reheaded as counts l) cs ≡ heldByRow hs l cs
   rows-recounted hs l [] = refl
   rows-recounted hs l (c ∷ cs) = rw (rows-recounted hs l cs)
 
-  items-recounted : (l : Line) (b row : ℕ) (rows : List (List Held)) → itemsByRow (withSteps counts l) b row rows ≡ itemsByRow l b row rows
+  items-recounted : (l : Line) (b row : ℕ) (rows : List (List Held)) → itemsByRow (reheaded as counts l) b row rows ≡ itemsByRow l b row rows
   unfolding itemOf
   items-recounted l b row [] = refl
   items-recounted l b row (hs ∷ rest) = ap (λ (items : List Item). map (itemOf l b row) hs ++ items) (items-recounted l b (suc row) rest)
 
-  end-recounted : (b : ℕ) (l : Line) → replayEnd b (withSteps counts l) ≡ Option·map (withSteps counts) (replayEnd b l)
+  end-recounted : (b : ℕ) (l : Line) → replayEnd b (reheaded as counts l) ≡ Option·map (reheaded as counts) (replayEnd b l)
   unfolding replayEnd
-  end-recounted b l = (λ i. ended (withSteps counts l) test (same-rows i) (placing (nodeAt l b .time) (highOf l b) (same-items i))) ∙ one test (placing (nodeAt l b .time) (highOf l b) (itemsByRow l b 0 rows))
+  end-recounted b l = (λ i. ended (reheaded as counts l) test (same-rows i) (placing (nodeAt l b .time) (highOf l b) (same-items i))) ∙ one test (placing (nodeAt l b .time) (highOf l b) (itemsByRow l b 0 rows))
     where
       test : Bool
       test = allOf (isHeld (nodeAt l b .held)) (nodeAt l b .targets)
@@ -48,55 +52,55 @@ module _ (counts : List ℕ) where
       rows : List (List Held)
       rows = heldByRow (nodeAt l b .held) l (entering (l .plan) b)
 
-      same-rows : heldByRow (nodeAt l b .held) (withSteps counts l) (entering (l .plan) b) ≡ rows
+      same-rows : heldByRow (nodeAt l b .held) (reheaded as counts l) (entering (l .plan) b) ≡ rows
       same-rows = rows-recounted (nodeAt l b .held) l (entering (l .plan) b)
 
-      same-items : itemsByRow (withSteps counts l) b 0 (heldByRow (nodeAt l b .held) (withSteps counts l) (entering (l .plan) b)) ≡ itemsByRow l b 0 rows
+      same-items : itemsByRow (reheaded as counts l) b 0 (heldByRow (nodeAt l b .held) (reheaded as counts l) (entering (l .plan) b)) ≡ itemsByRow l b 0 rows
       same-items = rw same-rows (items-recounted l b 0 rows)
 
       ended : Line → Bool → List (List Held) → Option (List ℕ) → Option Line
       ended k t rs o = elim t [ false ↦ none | true ↦ elim o [ none ↦ none | some columns ↦ some (withNode b (nodePlaced k b (joined rs) columns) k) ] ]
 
-      one : (t : Bool) (o : Option (List ℕ)) → ended (withSteps counts l) t rows o ≡ Option·map (withSteps counts) (ended l t rows o)
+      one : (t : Bool) (o : Option (List ℕ)) → ended (reheaded as counts l) t rows o ≡ Option·map (reheaded as counts) (ended l t rows o)
       one false o = refl
       one true none = refl
       one true (some columns) = refl
 
-  ended-recounted : (b : ℕ) (l : Line) → endedIfComplete b (withSteps counts l) ≡ Option·map (withSteps counts) (endedIfComplete b l)
+  ended-recounted : (b : ℕ) (l : Line) → endedIfComplete b (reheaded as counts l) ≡ Option·map (reheaded as counts) (endedIfComplete b l)
   unfolding endedIfComplete
-  ended-recounted b l = either (Option·map (withSteps counts)) (rowsComplete l b) (end-recounted b l) refl
+  ended-recounted b l = either (Option·map (reheaded as counts)) (rowsComplete l b) (end-recounted b l) refl
 
-  held-recounted : (b : ℕ) (m : Message) (l : Line) → takenReplaying b m (withSteps counts l) ≡ withSteps counts (takenReplaying b m l)
+  held-recounted : (b : ℕ) (m : Message) (l : Line) → takenReplaying b m (reheaded as counts l) ≡ reheaded as counts (takenReplaying b m l)
   unfolding takenReplaying
-  held-recounted b m l = either (withSteps counts) (passedOn (l .plan) (receiverOf l b) (madeBy l (receiverOf l b) (m .what))) refl refl
+  held-recounted b m l = either (reheaded as counts) (passedOn (l .plan) (receiverOf l b) (madeBy l (receiverOf l b) (m .what))) refl refl
 
-  taken-recounted : (b : ℕ) (q : List Message) (l : Line) → takenFirst b q (withSteps counts l) ≡ Option·map (withSteps counts) (takenFirst b q l)
+  taken-recounted : (b : ℕ) (q : List Message) (l : Line) → takenFirst b q (reheaded as counts l) ≡ Option·map (reheaded as counts) (takenFirst b q l)
   unfolding takenLane takenUp
   taken-recounted b [] l = refl
   taken-recounted b (m ∷ rest) l =
       let k = takenLane b m rest l in
-      either (Option·map (withSteps counts)) (replaying l (receiverOf l b)) (ap (endedIfComplete (receiverOf l b)) (held-recounted b m k) ∙ ended-recounted (receiverOf l b) (takenReplaying b m k)) refl
+      either (Option·map (reheaded as counts)) (replaying l (receiverOf l b)) (ap (endedIfComplete (receiverOf l b)) (held-recounted b m k) ∙ ended-recounted (receiverOf l b) (takenReplaying b m k)) refl
 
-  restored-recounted : (n : ℕ) (l : Line) → recovered n (withSteps counts l) ≡ withSteps counts (recovered n l)
+  restored-recounted : (n : ℕ) (l : Line) → recovered n (reheaded as counts l) ≡ reheaded as counts (recovered n l)
   unfolding recovered
   restored-recounted n l = lanes-twice _ _ (entering (l .plan) n) (leaving (l .plan) n) _
 
-  crashed-recounted : (n : ℕ) (l : Line) → crashedLine n (withSteps counts l) ≡ withSteps counts (crashedLine n l)
+  crashed-recounted : (n : ℕ) (l : Line) → crashedLine n (reheaded as counts l) ≡ reheaded as counts (crashedLine n l)
   unfolding crashedLine
   crashed-recounted n l = lanes-twice _ _ (entering (l .plan) n) (leaving (l .plan) n) _
 
-  recovered-recounted : (n : ℕ) (l : Line) → recoveredLine n (withSteps counts l) ≡ Option·map (withSteps counts) (recoveredLine n l)
+  recovered-recounted : (n : ℕ) (l : Line) → recoveredLine n (reheaded as counts l) ≡ Option·map (reheaded as counts) (recoveredLine n l)
   unfolding recoveredLine
   recovered-recounted n l =
-      either (Option·map (withSteps counts)) (conflict (targetsOf l n)) refl
-      (either (Option·map (withSteps counts)) (isEmpty (targetsOf l n)) (ap some (restored-recounted n l)) (ap (endedIfComplete n) (restored-recounted n l) ∙ ended-recounted n (recovered n l)))
+      either (Option·map (reheaded as counts)) (conflict (targetsOf l n)) refl
+      (either (Option·map (reheaded as counts)) (isEmpty (targetsOf l n)) (ap some (restored-recounted n l)) (ap (endedIfComplete n) (restored-recounted n l) ∙ ended-recounted n (recovered n l)))
 
-  sent-recounted : (b : ℕ) (o : Option Entry) (l : Line) → sentLine b o (withSteps counts l) ≡ withSteps counts (sentLine b o l)
+  sent-recounted : (b : ℕ) (o : Option Entry) (l : Line) → sentLine b o (reheaded as counts l) ≡ reheaded as counts (sentLine b o l)
   unfolding withLane
   sent-recounted b none l = refl
   sent-recounted b (some e) l = refl
 
-  pub effect-recounted : (l : Line) (f : Frame) → effect (withSteps counts l) f ≡ Option·map (withSteps counts) (effect l f)
+  pub effect-recounted : (l : Line) (f : Frame) → effect (reheaded as counts l) f ≡ Option·map (reheaded as counts) (effect l f)
   unfolding effect
   effect-recounted l (feed n r) = refl
   effect-recounted l (send b) = ap some (sent-recounted b (sendable l b) l)
@@ -104,19 +108,19 @@ module _ (counts : List ℕ) where
   effect-recounted l (crash n) = ap some (crashed-recounted n l)
   effect-recounted l (recover n) = recovered-recounted n l
 
-  placing-recounted : (l : Line) (f : Frame) → noPlacing (withSteps counts l) f ≡ noPlacing l f
+  placing-recounted : (l : Line) (f : Frame) → noPlacing (reheaded as counts l) f ≡ noPlacing l f
   unfolding noPlacing
   placing-recounted l f = rw (effect-recounted l f) (same (effect l f))
     where
-      same : (o : Option Line) → isNothing (Option·map (withSteps counts) o) ≡ isNothing o
+      same : (o : Option Line) → isNothing (Option·map (reheaded as counts) o) ≡ isNothing o
       same none = refl
       same (some k) = refl
 
-  hold-recounted : (l : Line) (n : ℕ) (o : Option Record) → toHold (withSteps counts l) n o ≡ toHold l n o
+  hold-recounted : (l : Line) (n : ℕ) (o : Option Record) → toHold (reheaded as counts l) n o ≡ toHold l n o
   hold-recounted l n none = refl
   hold-recounted l n (some r) = refl
 
-  space-recounted : (l : Line) (f : Frame) → noSpace (withSteps counts l) f ≡ noSpace l f
+  space-recounted : (l : Line) (f : Frame) → noSpace (reheaded as counts l) f ≡ noSpace l f
   unfolding takeLacks targetsOf
   space-recounted l (feed n r) = refl
   space-recounted l (send b) = refl
@@ -124,15 +128,15 @@ module _ (counts : List ℕ) where
   space-recounted l (crash n) = refl
   space-recounted l (recover n) = refl
 
-  pub refusal-recounted : (l : Line) (f : Frame) → lineRefusal (withSteps counts l) f ≡ lineRefusal l f
+  pub refusal-recounted : (l : Line) (f : Frame) → lineRefusal (reheaded as counts l) f ≡ lineRefusal l f
   unfolding lineRefusal
-  refusal-recounted l f = (λ i. refused (withSteps counts l) f (space-recounted l f i) (placing-recounted l f i)) ∙ same f (noSpace l f) (noPlacing l f)
+  refusal-recounted l f = (λ i. refused (reheaded as counts l) f (space-recounted l f i) (placing-recounted l f i)) ∙ same f (noSpace l f) (noPlacing l f)
     where
       refused : Line → Frame → Bool → Bool → ℕ
       refused l f s t =
           firstOf ((noSuch l f, 12) ∷ (wrongNode l f, 13) ∷ (wrongStatus l f, 14) ∷ (besideCrashed l f, 15) ∷ (badRecord f, 16) ∷ (nothingThere l f, 17) ∷ (queueFull l f, 18) ∷ (rowDone l f, 19) ∷ (s, 20) ∷ (t, 23) ∷ []) 0
 
-      same : (f : Frame) (s t : Bool) → refused (withSteps counts l) f s t ≡ refused l f s t
+      same : (f : Frame) (s t : Bool) → refused (reheaded as counts l) f s t ≡ refused l f s t
       same (feed n r) s t = refl
       same (send b) s t = refl
       same (take b) s t = refl

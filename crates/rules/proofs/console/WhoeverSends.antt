@@ -39,10 +39,10 @@ whoever-sends k l f g whole whole-too same asked d d-too = record { number = num
 
     number : step k f .number ≡ step l g .number
     number =
-        asked-number k f (asked .formed) d ∙ (λ i. lineRefusal (is-recounted i) (asked .asked i)) ∙ refusal-recounted (k .steps) l (frameOf g) ∙ sym (asked-number l g (asked .formed-too) d-too)
+        asked-number k f (asked .formed) d ∙ (λ i. lineRefusal (is-recounted i) (asked .asked i)) ∙ refusal-recounted (λ v. v) (k .steps) l (frameOf g) ∙ sym (asked-number l g (asked .formed-too) d-too)
 
     same-effect : effect k (frameOf f) ≡ Option·map (withSteps (k .steps)) (effect l (frameOf g))
-    same-effect = (λ i. effect (is-recounted i) (asked .asked i)) ∙ effect-recounted (k .steps) l (frameOf g)
+    same-effect = (λ i. effect (is-recounted i) (asked .asked i)) ∙ effect-recounted (λ v. v) (k .steps) l (frameOf g)
 
     same-refusal : refusal k f ≡ refusal l g
     same-refusal = sym (step-number k f) ∙ number ∙ step-number l g

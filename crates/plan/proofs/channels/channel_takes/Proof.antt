@@ -5,7 +5,7 @@ use Rattle.plan.proofs.channels.channel_takes.Tie as tie
 
 returns : tie.Need-returns
 unfolding takes
-returns c = rw (c .before .before .bit-set .ensures, c .before .left-over .ensures)
+returns c = let left = c .before .before .before .before .before in rw (left .before .bit-set .ensures, left .left-over .ensures)
 
 pub channel-takes-spec : {M : Type 1} → statement M
 channel-takes-spec = tie.close

@@ -1,0 +1,34 @@
+-- 2026-02: plans that differ in their version alone, and the plan of version 2 that reads as one of version 1 does.
+use Prim.Native.Nat.{ℕ}
+use mathlib.Core.Path.{_≡_}
+use mathlib.Core.List.{List}
+use Rattle.plan.specs.declared.Channel.{Channel}
+use Rattle.plan.specs.Lawful.{Each, Bytes}
+use Rattle.plan.specs.Plan.{Plan, planOf, planBytes, planVersion}
+use Rattle.plan.specs.Check.{planRefusal}
+
+pub record SameButVersion (p q : Plan) : Type 0 where
+  pub rules : p .rules ≡ q .rules
+  pub channels : p .channels ≡ q .channels
+
+abbrev pub asVersion : ℕ → Plan → Plan
+asVersion v p = record { version = v; rules = p .rules; channels = p .channels }
+
+-- The bytes of version 2 with the same rules and channels.
+unfoldable pub inVersionTwo : List ℕ → List ℕ
+unfolding planOf planBytes
+inVersionTwo s = planBytes (asVersion 2 (planOf s))
+
+-- "a version 1 belt reads as 0..65535"
+abbrev pub AnyMass : Channel → Type 0
+AnyMass c = (c .least ≡ 0) × (c .greatest ≡ 65_535)
+
+-- A plan of version 1 beside that of version 2: which is accepted too, and its windows are 0..65535.
+pub record Widened (s : List ℕ) : Type 0 where
+  pub accepted : planRefusal (inVersionTwo s) ≡ 0
+  pub version : planVersion (inVersionTwo s) ≡ 2
+  pub same : SameButVersion (planOf s) (planOf (inVersionTwo s))
+  pub windows : Each AnyMass (planOf (inVersionTwo s) .channels)
+
+abbrev pub FirstIsWidened : Type 0
+FirstIsWidened = (s : List ℕ) → Bytes s → planRefusal s ≡ 0 → planVersion s ≡ 1 → Widened s
