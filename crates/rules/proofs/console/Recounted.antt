@@ -22,29 +22,29 @@ either f false e d = d
 
 -- A line whose plan's version is changed, with other counts.
 abbrev pub reheaded : (ℕ → ℕ) → List ℕ → Line → Line
-reheaded as counts l = record { plan = record { version = as (l .plan .version); rules = l .plan .rules; channels = l .plan .channels }; steps = counts; nodes = l .nodes; lanes = l .lanes }
+reheaded newer counts l = record { plan = record { version = newer (l .plan .version); rules = l .plan .rules; channels = l .plan .channels }; steps = counts; nodes = l .nodes; lanes = l .lanes }
 
-module _ (as : ℕ → ℕ) (counts : List ℕ) where
-  lanes-recounted : (f : ℕ → Lane → Lane) (bs : List ℕ) (l : Line) → withLanes f bs (reheaded as counts l) ≡ reheaded as counts (withLanes f bs l)
+module _ (newer : ℕ → ℕ) (counts : List ℕ) where
+  lanes-recounted : (f : ℕ → Lane → Lane) (bs : List ℕ) (l : Line) → withLanes f bs (reheaded newer counts l) ≡ reheaded newer counts (withLanes f bs l)
   unfolding withLane
   lanes-recounted f [] l = refl
   lanes-recounted f (b ∷ bs) l = lanes-recounted f bs (withLane b (f b (laneAt l b)) l)
 
-  lanes-twice : (f g : ℕ → Lane → Lane) (bs cs : List ℕ) (l : Line) → withLanes f bs (withLanes g cs (reheaded as counts l)) ≡ reheaded as counts (withLanes f bs (withLanes g cs l))
+  lanes-twice : (f g : ℕ → Lane → Lane) (bs cs : List ℕ) (l : Line) → withLanes f bs (withLanes g cs (reheaded newer counts l)) ≡ reheaded newer counts (withLanes f bs (withLanes g cs l))
   lanes-twice f g bs cs l = ap (withLanes f bs) (lanes-recounted g cs l) ∙ lanes-recounted f bs (withLanes g cs l)
 
-  rows-recounted : (hs : List Held) (l : Line) (cs : List ℕ) → heldByRow hs (reheaded as counts l) cs ≡ heldByRow hs l cs
+  rows-recounted : (hs : List Held) (l : Line) (cs : List ℕ) → heldByRow hs (reheaded newer counts l) cs ≡ heldByRow hs l cs
   rows-recounted hs l [] = refl
   rows-recounted hs l (c ∷ cs) = rw (rows-recounted hs l cs)
 
-  items-recounted : (l : Line) (b row : ℕ) (rows : List (List Held)) → itemsByRow (reheaded as counts l) b row rows ≡ itemsByRow l b row rows
+  items-recounted : (l : Line) (b row : ℕ) (rows : List (List Held)) → itemsByRow (reheaded newer counts l) b row rows ≡ itemsByRow l b row rows
   unfolding itemOf
   items-recounted l b row [] = refl
   items-recounted l b row (hs ∷ rest) = ap (λ (items : List Item). map (itemOf l b row) hs ++ items) (items-recounted l b (suc row) rest)
 
-  end-recounted : (b : ℕ) (l : Line) → replayEnd b (reheaded as counts l) ≡ Option·map (reheaded as counts) (replayEnd b l)
+  end-recounted : (b : ℕ) (l : Line) → replayEnd b (reheaded newer counts l) ≡ Option·map (reheaded newer counts) (replayEnd b l)
   unfolding replayEnd
-  end-recounted b l = (λ i. ended (reheaded as counts l) test (same-rows i) (placing (nodeAt l b .time) (highOf l b) (same-items i))) ∙ one test (placing (nodeAt l b .time) (highOf l b) (itemsByRow l b 0 rows))
+  end-recounted b l = (λ i. ended (reheaded newer counts l) test (same-rows i) (placing (nodeAt l b .time) (highOf l b) (same-items i))) ∙ one test (placing (nodeAt l b .time) (highOf l b) (itemsByRow l b 0 rows))
     where
       test : Bool
       test = allOf (isHeld (nodeAt l b .held)) (nodeAt l b .targets)
@@ -52,55 +52,55 @@ module _ (as : ℕ → ℕ) (counts : List ℕ) where
       rows : List (List Held)
       rows = heldByRow (nodeAt l b .held) l (entering (l .plan) b)
 
-      same-rows : heldByRow (nodeAt l b .held) (reheaded as counts l) (entering (l .plan) b) ≡ rows
+      same-rows : heldByRow (nodeAt l b .held) (reheaded newer counts l) (entering (l .plan) b) ≡ rows
       same-rows = rows-recounted (nodeAt l b .held) l (entering (l .plan) b)
 
-      same-items : itemsByRow (reheaded as counts l) b 0 (heldByRow (nodeAt l b .held) (reheaded as counts l) (entering (l .plan) b)) ≡ itemsByRow l b 0 rows
+      same-items : itemsByRow (reheaded newer counts l) b 0 (heldByRow (nodeAt l b .held) (reheaded newer counts l) (entering (l .plan) b)) ≡ itemsByRow l b 0 rows
       same-items = rw same-rows (items-recounted l b 0 rows)
 
       ended : Line → Bool → List (List Held) → Option (List ℕ) → Option Line
       ended k t rs o = elim t [ false ↦ none | true ↦ elim o [ none ↦ none | some columns ↦ some (withNode b (nodePlaced k b (joined rs) columns) k) ] ]
 
-      one : (t : Bool) (o : Option (List ℕ)) → ended (reheaded as counts l) t rows o ≡ Option·map (reheaded as counts) (ended l t rows o)
+      one : (t : Bool) (o : Option (List ℕ)) → ended (reheaded newer counts l) t rows o ≡ Option·map (reheaded newer counts) (ended l t rows o)
       one false o = refl
       one true none = refl
       one true (some columns) = refl
 
-  ended-recounted : (b : ℕ) (l : Line) → endedIfComplete b (reheaded as counts l) ≡ Option·map (reheaded as counts) (endedIfComplete b l)
+  ended-recounted : (b : ℕ) (l : Line) → endedIfComplete b (reheaded newer counts l) ≡ Option·map (reheaded newer counts) (endedIfComplete b l)
   unfolding endedIfComplete
-  ended-recounted b l = either (Option·map (reheaded as counts)) (rowsComplete l b) (end-recounted b l) refl
+  ended-recounted b l = either (Option·map (reheaded newer counts)) (rowsComplete l b) (end-recounted b l) refl
 
-  held-recounted : (b : ℕ) (m : Message) (l : Line) → takenReplaying b m (reheaded as counts l) ≡ reheaded as counts (takenReplaying b m l)
+  held-recounted : (b : ℕ) (m : Message) (l : Line) → takenReplaying b m (reheaded newer counts l) ≡ reheaded newer counts (takenReplaying b m l)
   unfolding takenReplaying
-  held-recounted b m l = either (reheaded as counts) (passedOn (l .plan) (receiverOf l b) (madeBy l (receiverOf l b) (m .what))) refl refl
+  held-recounted b m l = either (reheaded newer counts) (passedOn (l .plan) (receiverOf l b) (madeBy l (receiverOf l b) (m .what))) refl refl
 
-  taken-recounted : (b : ℕ) (q : List Message) (l : Line) → takenFirst b q (reheaded as counts l) ≡ Option·map (reheaded as counts) (takenFirst b q l)
+  taken-recounted : (b : ℕ) (q : List Message) (l : Line) → takenFirst b q (reheaded newer counts l) ≡ Option·map (reheaded newer counts) (takenFirst b q l)
   unfolding takenLane takenUp
   taken-recounted b [] l = refl
   taken-recounted b (m ∷ rest) l =
       let k = takenLane b m rest l in
-      either (Option·map (reheaded as counts)) (replaying l (receiverOf l b)) (ap (endedIfComplete (receiverOf l b)) (held-recounted b m k) ∙ ended-recounted (receiverOf l b) (takenReplaying b m k)) refl
+      either (Option·map (reheaded newer counts)) (replaying l (receiverOf l b)) (ap (endedIfComplete (receiverOf l b)) (held-recounted b m k) ∙ ended-recounted (receiverOf l b) (takenReplaying b m k)) refl
 
-  restored-recounted : (n : ℕ) (l : Line) → recovered n (reheaded as counts l) ≡ reheaded as counts (recovered n l)
+  restored-recounted : (n : ℕ) (l : Line) → recovered n (reheaded newer counts l) ≡ reheaded newer counts (recovered n l)
   unfolding recovered
   restored-recounted n l = lanes-twice _ _ (entering (l .plan) n) (leaving (l .plan) n) _
 
-  crashed-recounted : (n : ℕ) (l : Line) → crashedLine n (reheaded as counts l) ≡ reheaded as counts (crashedLine n l)
+  crashed-recounted : (n : ℕ) (l : Line) → crashedLine n (reheaded newer counts l) ≡ reheaded newer counts (crashedLine n l)
   unfolding crashedLine
   crashed-recounted n l = lanes-twice _ _ (entering (l .plan) n) (leaving (l .plan) n) _
 
-  recovered-recounted : (n : ℕ) (l : Line) → recoveredLine n (reheaded as counts l) ≡ Option·map (reheaded as counts) (recoveredLine n l)
+  recovered-recounted : (n : ℕ) (l : Line) → recoveredLine n (reheaded newer counts l) ≡ Option·map (reheaded newer counts) (recoveredLine n l)
   unfolding recoveredLine
   recovered-recounted n l =
-      either (Option·map (reheaded as counts)) (conflict (targetsOf l n)) refl
-      (either (Option·map (reheaded as counts)) (isEmpty (targetsOf l n)) (ap some (restored-recounted n l)) (ap (endedIfComplete n) (restored-recounted n l) ∙ ended-recounted n (recovered n l)))
+      either (Option·map (reheaded newer counts)) (conflict (targetsOf l n)) refl
+      (either (Option·map (reheaded newer counts)) (isEmpty (targetsOf l n)) (ap some (restored-recounted n l)) (ap (endedIfComplete n) (restored-recounted n l) ∙ ended-recounted n (recovered n l)))
 
-  sent-recounted : (b : ℕ) (o : Option Entry) (l : Line) → sentLine b o (reheaded as counts l) ≡ reheaded as counts (sentLine b o l)
+  sent-recounted : (b : ℕ) (o : Option Entry) (l : Line) → sentLine b o (reheaded newer counts l) ≡ reheaded newer counts (sentLine b o l)
   unfolding withLane
   sent-recounted b none l = refl
   sent-recounted b (some e) l = refl
 
-  pub effect-recounted : (l : Line) (f : Frame) → effect (reheaded as counts l) f ≡ Option·map (reheaded as counts) (effect l f)
+  pub effect-recounted : (l : Line) (f : Frame) → effect (reheaded newer counts l) f ≡ Option·map (reheaded newer counts) (effect l f)
   unfolding effect
   effect-recounted l (feed n r) = refl
   effect-recounted l (send b) = ap some (sent-recounted b (sendable l b) l)
@@ -108,19 +108,20 @@ module _ (as : ℕ → ℕ) (counts : List ℕ) where
   effect-recounted l (crash n) = ap some (crashed-recounted n l)
   effect-recounted l (recover n) = recovered-recounted n l
 
-  placing-recounted : (l : Line) (f : Frame) → noPlacing (reheaded as counts l) f ≡ noPlacing l f
+  placing-recounted : (l : Line) (f : Frame) → noPlacing (reheaded newer counts l) f ≡ noPlacing l f
   unfolding noPlacing
   placing-recounted l f = rw (effect-recounted l f) (same (effect l f))
     where
-      same : (o : Option Line) → isNothing (Option·map (reheaded as counts) o) ≡ isNothing o
+      same : (o : Option Line) → isNothing (Option·map (reheaded newer counts) o) ≡ isNothing o
       same none = refl
       same (some k) = refl
 
-  hold-recounted : (l : Line) (n : ℕ) (o : Option Record) → toHold (reheaded as counts l) n o ≡ toHold l n o
+  hold-recounted : (l : Line) (n : ℕ) (o : Option Record) → toHold (reheaded newer counts l) n o ≡ toHold l n o
+  unfolding passedOn
   hold-recounted l n none = refl
   hold-recounted l n (some r) = refl
 
-  space-recounted : (l : Line) (f : Frame) → noSpace (reheaded as counts l) f ≡ noSpace l f
+  space-recounted : (l : Line) (f : Frame) → noSpace (reheaded newer counts l) f ≡ noSpace l f
   unfolding takeLacks targetsOf
   space-recounted l (feed n r) = refl
   space-recounted l (send b) = refl
@@ -128,15 +129,15 @@ module _ (as : ℕ → ℕ) (counts : List ℕ) where
   space-recounted l (crash n) = refl
   space-recounted l (recover n) = refl
 
-  pub refusal-recounted : (l : Line) (f : Frame) → lineRefusal (reheaded as counts l) f ≡ lineRefusal l f
+  pub refusal-recounted : (l : Line) (f : Frame) → lineRefusal (reheaded newer counts l) f ≡ lineRefusal l f
   unfolding lineRefusal
-  refusal-recounted l f = (λ i. refused (reheaded as counts l) f (space-recounted l f i) (placing-recounted l f i)) ∙ same f (noSpace l f) (noPlacing l f)
+  refusal-recounted l f = (λ i. refused (reheaded newer counts l) f (space-recounted l f i) (placing-recounted l f i)) ∙ same f (noSpace l f) (noPlacing l f)
     where
       refused : Line → Frame → Bool → Bool → ℕ
       refused l f s t =
           firstOf ((noSuch l f, 12) ∷ (wrongNode l f, 13) ∷ (wrongStatus l f, 14) ∷ (besideCrashed l f, 15) ∷ (badRecord f, 16) ∷ (nothingThere l f, 17) ∷ (queueFull l f, 18) ∷ (rowDone l f, 19) ∷ (s, 20) ∷ (t, 23) ∷ []) 0
 
-      same : (f : Frame) (s t : Bool) → refused (reheaded as counts l) f s t ≡ refused l f s t
+      same : (f : Frame) (s t : Bool) → refused (reheaded newer counts l) f s t ≡ refused l f s t
       same (feed n r) s t = refl
       same (send b) s t = refl
       same (take b) s t = refl
