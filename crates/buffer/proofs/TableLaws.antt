@@ -14,6 +14,7 @@ use Rattle.basics.specs.Bools.{both-true}
 use Rattle.plan.specs.declared.Channel.{Channel}
 use Rattle.plan.specs.Channel.{channelSize}
 use Rattle.plan.specs.Plan.{Plan, planOf, planVersion, planChannels, channelFrom, nodeCount, channelAt, channelCount, keepIf, isNone, entering, isSource}
+use Rattle.plan.proofs.ReadLaws.{channels-most}
 use Rattle.plan.proofs.PlanLaws.{channel-count}
 use Rattle.plan.proofs.FitsLaws.{fitting}
 use Rattle.plan.proofs.AcceptedLaws.{four-at}
@@ -111,6 +112,9 @@ module _ (s : List ℕ) (ready : Ready s) where
 
       blank : (i : ℕ) → i < 144 → getD (take 144 emptyTable ++ replicate 12 0 ++ drop 156 emptyTable) i 0 ≡ 255
       blank i h = List·getD-append (take 144 emptyTable) (replicate 12 0 ++ drop 156 emptyTable) 0 i h ∙ getD-take 144 emptyTable i 0 h ∙ getD-replicate {A = ℕ} 156 i 255 0 (omega arith)
+
+  pub filled-few : (t : List ℕ) (at b : ℕ) → Filled s t at b → at ≤ 293
+  filled-few t at b f = omega (arith, f .there, f .within, ready .nodes, ready .channels, channels-most (planVersion s) b)
 
   set-pair : (t : List ℕ) (k r v q n : ℕ) → length t ≡ 156 → k < 12 → r < 12 → q < 12 → n < 12 → getD (set t (12 * r + k) v) (12 * n + q) 0 ≡ cond (eqb k q && eqb r n) v (getD t (12 * n + q) 0)
   set-pair t k r v q n long a b c d = one (eqb k q) (eqb r n) refl refl

@@ -1,7 +1,7 @@
 // Lookups in a state, read in place: the plan at its front, whose channels have their sender and receiver first; a node's status and crash mark, the first bytes of its page.
 ghost use mathlib.Core.Path.{_≡_};
 ghost use Prim.Native.Nat.{_+_, _≤_, _<_};
-ghost use Rattle.plan.specs.Plan.{planOf, planNodes, planChannels, channelFrom, channelAt, isSource, isSink};
+ghost use Rattle.plan.specs.Plan.{planOf, planNodes, planChannels, channelAt, isSource, isSink};
 ghost use Rattle.rules.specs.Line.{consoleCount, stepsFrom, nodeAt};
 ghost use Rattle.rules.specs.Step.{nodeDown, replaying};
 ghost use Rattle.state.specs.State.{lineOf};
@@ -23,7 +23,7 @@ pub fn node_count(s: &[u8]) -> usize
     index(s[3])
 }
 
-// How many channels the plan has, and where their bytes start.
+// How many channels the plan has.
 pub fn channel_count(s: &[u8]) -> usize
     requires { ⌜ Ready (now s) ⌝ }
     ensures { λ r. ⌜ (r ≡ planChannels (now (s .entry))) × (r ≤ 24) ⌝ }
@@ -31,27 +31,12 @@ pub fn channel_count(s: &[u8]) -> usize
     index(s[4])
 }
 
-pub fn channels_at(s: &[u8]) -> usize
-    requires { ⌜ Ready (now s) ⌝ }
-    ensures { λ r. ⌜ (r ≡ channelFrom (now (s .entry)) 0) × (r ≤ 53) ⌝ }
-{
-    5 + 4 * index(s[3])
-}
-
-// Where a channel's bytes start.
-fn channel_from(s: &[u8], b: usize) -> usize
-    requires { ⌜ OnChannel (now s) b ⌝ }
-    ensures { λ r. ⌜ (r ≡ channelFrom (now (s .entry)) b) × (r ≤ 283) ⌝ }
-{
-    channels_at(s) + plan::bytes::channel_size(s) * b
-}
-
 // A channel's sender and its receiver.
 pub fn sender_of(s: &[u8], b: usize) -> usize
     requires { ⌜ OnChannel (now s) b ⌝ }
     ensures { λ r. ⌜ (r ≡ channelAt (planOf (now (s .entry))) b .sender) × (r < planNodes (now (s .entry))) ⌝ }
 {
-    let at = channel_from(s, b);
+    let at = plan::bytes::channel_from(s, b);
     index(s[at])
 }
 
@@ -59,7 +44,7 @@ pub fn receiver_of(s: &[u8], b: usize) -> usize
     requires { ⌜ OnChannel (now s) b ⌝ }
     ensures { λ r. ⌜ (r ≡ channelAt (planOf (now (s .entry))) b .receiver) × (r < planNodes (now (s .entry))) ⌝ }
 {
-    let at = channel_from(s, b);
+    let at = plan::bytes::channel_from(s, b);
     index(s[at + 1])
 }
 

@@ -27,7 +27,7 @@ pub fn fill(s: &[u8], t: &mut [u8; 156])
     bytes::fill_zero(t, 144, 156);
     let m = look::channel_count(s);
     let size = plan::bytes::channel_size(s);
-    let mut at = look::channels_at(s);
+    let mut at = plan::bytes::channel_from(s, 0);
     let mut b: usize = 0;
     while b < m {
         let from = look::index(s[at]);
