@@ -8,14 +8,11 @@ use native.Mathlib.Numerals.{add-one}
 use native.Mathlib.Omega.{arith}
 use borrow.Author.Tests.{ne-eqb, leb-true}
 use lib.Dec.{leb}
-use lib.ListN.{length, getD, take, length-take}
+use lib.ListN.{length, take, length-take}
 use Rattle.basics.specs.Bools.{both-true, and-left}
 use Rattle.plan.specs.Lawful.{Bytes}
-use Rattle.plan.specs.Channel.{channelSize}
-use Rattle.plan.specs.Plan.{sizeByHead, planVersion, planNodes, planChannels}
+use Rattle.plan.specs.Plan.{sizeByHead, planNodes, planChannels}
 use Rattle.plan.specs.Check.{planRefusal}
-use Rattle.plan.proofs.PlanLaws.{plan-size, head-size}
-use Rattle.plan.proofs.ReadLaws.{nodes-byte, channels-byte}
 use Rattle.rules.specs.Lists.{allOf, upTo}
 use Rattle.rules.specs.Line.{stepLimit, stepsFrom, acceptedSteps}
 use Rattle.rules.specs.Step.{replaying}
@@ -35,9 +32,6 @@ use Rattle.state.proofs.InPlace.{Counted, line-counts}
 use Rattle.items.proofs.Tests.{all-at}
 
 -- The stored plan: the part of the state from 0 up to its size.
-pub plan-sized : (s : List ℕ) (n m size : ℕ) → n ≡ getD s 3 0 → m ≡ getD s 4 0 → size ≡ channelSize (planVersion s) → 5 + 4 * n + size * m ≡ sizeByHead s
-plan-sized s n m size e f g = sym (head-size s ∙ plan-size (planVersion s) (planNodes s) (planChannels s) ∙ rw (nodes-byte, channels-byte, e, f, g))
-
 module _ (s : List ℕ) (size : ℕ) (is : size ≡ sizeByHead s) where
   abbrev front : List ℕ
   front = take (size - 0) s

@@ -2,30 +2,19 @@
 ghost use mathlib.Core.Path.{_≡_};
 ghost use Prim.Native.Nat.{_≤_};
 ghost use lib.ListN.{length};
-ghost use Rattle.plan.specs.Plan.{sizeByHead, planNodes, planChannels};
+ghost use Rattle.plan.specs.Plan.{planNodes, planChannels};
 ghost use Rattle.state.specs.Sizes.{stateSize, nodePages, laneBlocks};
 ghost use Rattle.line.specs.Whole.{planExact, restExact};
 use buffer::Line;
 use buffer::bytes;
 use buffer::layout;
-use buffer::look;
-
-// How long the stored plan is, by its head.
-pub fn plan_size(s: &[u8]) -> usize
-    requires { ⌜ 5 ≤ length (now s) ⌝ }
-    ensures { λ r. ⌜ (r ≡ sizeByHead (now (s .entry))) × (r ≤ 3575) ⌝ }
-{
-    let n = look::index(s[3]);
-    let m = look::index(s[4]);
-    5 + 4 * n + plan::bytes::channel_size(s) * m
-}
 
 // Whether the stored plan would not be refused, and nothing stands behind it.
 pub fn plan_ok(s: &[u8]) -> bool
     requires { ⌜ length (now s) ≡ stateSize ⌝ }
     ensures { λ r. ⌜ r ≡ planExact (now (s .entry)) ⌝ }
 {
-    let size = plan_size(s);
+    let size = plan::bytes::size_by_head(s);
     if plan::plan_check(&s[0..size]) != 0 {
         return false;
     }

@@ -52,7 +52,7 @@ pub extern "C" fn line_write(state: &[u8], plan: &mut [u8]) -> u32
     if refusal != 0 {
         return refusal;
     }
-    let size = check::plan_size(state);
+    let size = plan::bytes::size_by_head(state);
     if plan.len() < size {
         return 23;
     }

@@ -8,19 +8,19 @@ use Rattle.line.proofs.check.plan_ok.Tie as tie
 returns : tie.Need-returns
 returns c =
     let sized = c .before .before .before in
-    plan-bad (sized .before .before .args .s .now) (sized .plan-size .result) (sized .plan-size .ensures .0) (c .before .plan-check .result) (c .before .plan-check .ensures) (c .if1 .taken)
+    plan-bad (sized .before .before .args .s .now) (sized .size-by-head .result) (sized .size-by-head .ensures .0) (c .before .plan-check .result) (c .before .plan-check .ensures) (c .if1 .taken)
 
 all-zero-requires : tie.Need-all-zero-requires
 all-zero-requires c κs =
     let sized = c .before .before .before in
     let entry = sized .before .before in
-    (plan-within (entry .args .s .now) (sized .plan-size .result) (sized .plan-size .ensures .0) (entry .pre) (sized .plan-size .ensures .1) (sym (c .before .plan-check .ensures) ∙ c .if1 .left), omega (arith, entry .pre))
+    (plan-within (entry .args .s .now) (sized .size-by-head .result) (sized .size-by-head .ensures .0) (entry .pre) (sized .size-by-head .ensures .1) (sym (c .before .plan-check .ensures) ∙ c .if1 .left), omega (arith, entry .pre))
 
 returns-2 : tie.Need-returns-2
 returns-2 c =
     let checked = c .before .before in
     let sized = checked .before .before in
-    c .all-zero .ensures ∙ plan-good (sized .before .before .args .s .now) (sized .plan-size .result) (sized .plan-size .ensures .0) (sym (checked .plan-check .ensures) ∙ c .before .if1 .left)
+    c .all-zero .ensures ∙ plan-good (sized .before .before .args .s .now) (sized .size-by-head .result) (sized .size-by-head .ensures .0) (sym (checked .plan-check .ensures) ∙ c .before .if1 .left)
 
 pub plan-ok-spec : {M : Type 1} → statement M
 plan-ok-spec =
