@@ -55,7 +55,7 @@ fitting p e =
     let k = counts-within n m (f .1) in
     record { version = f .0; nodesLeast = k .0; nodesMost = k .1; channelsLeast = k .2; channelsMost = k .3; rules = d .1; spelled = c .1; channels = b .1; degrees = a .1 }
 
-fits : (p : Plan) → Fitting p → planFits p ≡ true
+pub fits : (p : Plan) → Fitting p → planFits p ≡ true
 unfolding planFits
 fits p f =
     rw (

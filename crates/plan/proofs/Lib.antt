@@ -12,3 +12,4 @@ pub mod AcceptedLaws
 pub mod DegreeLaws
 pub mod TakingLaws
 pub mod FitsLaws
+pub mod VersionLaws

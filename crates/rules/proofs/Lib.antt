@@ -22,3 +22,5 @@ pub mod restart
 pub mod AlwaysBack
 -- Consoles: who sends a step does not matter to the line, and frames of version 1 are answered as before.
 pub mod console
+-- Versions: plans that differ in their version alone run alike.
+pub mod versions
