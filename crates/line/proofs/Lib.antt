@@ -14,3 +14,5 @@ pub mod RestartRun
 pub mod ConsoleRun
 -- Step as before there were consoles, on bytes.
 pub mod BaseRun
+-- Plans of both versions run alike, on bytes.
+pub mod VersionRun

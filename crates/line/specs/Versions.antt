@@ -10,7 +10,7 @@ use Rattle.state.specs.Sizes.{planArea}
 use Rattle.line.specs.Load.{loadAnswer, loadLeft}
 use Rattle.line.specs.Order.{stateAfter, storyOf}
 
--- Each loaded, and the same frames passed to Step: "the same numbers, the same state outside the plan's bytes", which stay as they were loaded.
+-- Each loaded, and the same frames passed to Step: the same numbers and the same state outside the plan's bytes, which stay as they were loaded.
 pub record AlikeOnBytes (s t : List ℕ) (frames : List (List ℕ)) : Type 0 where
   pub numbers : storyOf s frames .numbers ≡ storyOf t frames .numbers
   pub left : drop planArea (stateAfter s frames) ≡ drop planArea (stateAfter t frames)

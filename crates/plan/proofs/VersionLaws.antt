@@ -1,18 +1,24 @@
--- An accepted plan of version 1 is accepted in version 2 too, where its windows stand as 0..65535.
+-- An accepted plan of version 1 is accepted in version 2 too, where its windows stand as 0..65535; these shut nothing out.
 use Prim.Native.Nat.{ℕ, zero, suc}
 use mathlib.Core.Path.{_≡_, refl, sym, ap, subst, _∙_}
-use mathlib.Core.Bool.{true, _&&_}
+use mathlib.Core.Bool.{true, _&&_, and-true}
 use mathlib.Core.List.{List, [], _∷_}
-use borrow.Author.Tests.{eqb-true}
+use native.Mathlib.Omega.{arith}
+use borrow.Author.Tests.{eqb-true, le-leb}
 use lib.Dec.{leb, eqb}
 use Rattle.plan.specs.declared.Channel.{Channel}
 use Rattle.plan.specs.Lawful.{Each}
+use Rattle.plan.specs.Channel.{takes}
 use Rattle.plan.specs.Plan.{Plan, nodeCount, planOf, entering, leaving}
 use Rattle.plan.specs.Check.{fourAtMost, channelSpelled, channelsSpelled}
-use Rattle.plan.specs.Versions.{asVersion, inVersionTwo, AnyMass, FirstIsWidened}
+use Rattle.plan.specs.Versions.{asVersion, inVersionTwo, AnyMass, TakesAnyMass, FirstIsWidened}
 use Rattle.plan.proofs.PlanLaws.{version-of}
 use Rattle.plan.proofs.FitsLaws.{fitting, fits, accepted-fits, fits-accepted}
 use Rattle.basics.specs.Bools.{both-true}
+
+pub takes-any-mass : TakesAnyMass
+unfolding takes
+takes-any-mass c r (least, greatest) h = rw (least, greatest, le-leb 0 (r .mass) (omega arith), le-leb (r .mass) 65535 h, and-true)
 
 -- Check 7 goes by no version.
 degrees-alike : (v : ℕ) (p : Plan) (n : ℕ) → fourAtMost (asVersion v p) n ≡ fourAtMost p n

@@ -42,7 +42,7 @@ one-run s ((g, cut, base, inv), _) =
       rests = λ still. quiet-rests (s .line) g cut base (s .fedActs) (s .receipts) (s .crashes) inv still;
     }
 
-story-plan : (fs : List (List ℕ)) (s : Story) → storyFrom s fs .line .plan ≡ s .line .plan
+pub story-plan : (fs : List (List ℕ)) (s : Story) → storyFrom s fs .line .plan ≡ s .line .plan
 unfolding told
 story-plan [] s = refl
 story-plan (f ∷ fs) s = story-plan fs (told s f) ∙ step-plan (s .line) f

@@ -2,9 +2,10 @@
 use Prim.Native.Nat.{ℕ}
 use mathlib.Core.Path.{_≡_}
 use mathlib.Core.List.{List, _++_}
-use Rattle.plan.specs.Plan.{Plan, planOf}
+use Rattle.plan.specs.Lawful.{Bytes}
+use Rattle.plan.specs.Plan.{Plan, planOf, planVersion}
 use Rattle.plan.specs.Check.{planRefusal}
-use Rattle.plan.specs.Versions.{SameButVersion}
+use Rattle.plan.specs.Versions.{SameButVersion, inVersionTwo}
 use Rattle.rules.specs.Line.{Line, initialLine}
 use Rattle.rules.specs.Claim.{Story, startOf, storyFrom}
 use Rattle.rules.specs.Sheet.{sheet}
@@ -16,7 +17,7 @@ pub record SameLine (k l : Line) : Type 0 where
   pub nodes : k .nodes ≡ l .nodes
   pub lanes : k .lanes ≡ l .lanes
 
--- "the same numbers, the same state outside the plan's bytes"
+-- The same numbers, feeds, receipts and crashes, and such lines at the end.
 pub record SameStory (s t : Story) : Type 0 where
   pub line : SameLine (s .line) (t .line)
   pub numbers : s .numbers ≡ t .numbers
@@ -27,6 +28,10 @@ pub record SameStory (s t : Story) : Type 0 where
 abbrev pub RunAlike : Type 0
 RunAlike = (p q : Plan) (frames : List (List ℕ)) → SameButVersion p q → SameStory (storyFrom (startOf (initialLine p)) frames) (storyFrom (startOf (initialLine q)) frames)
 
--- "the same sheet": of two plans that are accepted, with any bytes behind them.
+-- The same sheet, of two plans that are accepted, with any bytes behind them.
 abbrev pub SheetAlike : Type 0
 SheetAlike = (s t frames : List ℕ) → planRefusal s ≡ 0 → planRefusal t ≡ 0 → SameButVersion (planOf s) (planOf t) → sheet (s ++ frames) ≡ sheet (t ++ frames)
+
+-- So of every plan of version 1 and the plan of version 2 with the same channels.
+abbrev pub WidenedAlike : Type 0
+WidenedAlike = (s frames : List ℕ) → Bytes s → planRefusal s ≡ 0 → planVersion s ≡ 1 → sheet (s ++ frames) ≡ sheet (inVersionTwo s ++ frames)

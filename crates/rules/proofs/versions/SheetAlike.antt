@@ -9,11 +9,13 @@ use lib.Seq.{take-append-le, take-at, drop-at}
 use Rattle.plan.specs.Layout.{spelled}
 use Rattle.plan.specs.Plan.{planOf, planLength, entering}
 use Rattle.plan.specs.Check.{planRefusal}
+use Rattle.plan.specs.Versions.{inVersionTwo}
 use Rattle.plan.proofs.CheckLaws.{accepted}
+use Rattle.plan.proofs.VersionLaws.{first-is-widened}
 use Rattle.rules.specs.Line.{Line, initialLine}
 use Rattle.rules.specs.Step.{step}
 use Rattle.rules.specs.Sheet.{opening, answerLine, clockText, nodeText, lineText, lengthField, frameCut, framesTextBy, framesText, planText, sheet}
-use Rattle.rules.specs.Versions.{SameLine, SheetAlike}
+use Rattle.rules.specs.Versions.{SameLine, SheetAlike, WidenedAlike}
 use Rattle.rules.proofs.console.Recounted.{reheaded}
 use Rattle.rules.proofs.versions.RunAlike.{is-headed, step-alike, initial-alike}
 
@@ -61,3 +63,8 @@ sheet-alike s t frames z z-too same =
     sheet-of s frames z
     ∙ ap (λ (text : List ℕ). opening ++ text) (frames-alike (length frames) 1 (initialLine (planOf s)) (initialLine (planOf t)) frames (initial-alike (planOf s) (planOf t) same))
     ∙ sym (sheet-of t frames z-too)
+
+pub widened-alike : WidenedAlike
+widened-alike s frames bytes z one =
+    let w = first-is-widened s bytes z one in
+    sheet-alike s (inVersionTwo s) frames z (w .accepted) (w .same)
