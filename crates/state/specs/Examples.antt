@@ -2,7 +2,7 @@
 use Prim.Native.Nat.{ℕ}
 use mathlib.Core.Bool.{true, false}
 use mathlib.Core.Path.{_≡_, refl}
-use mathlib.Core.List.{List, [], _∷_, _++_}
+use mathlib.Core.List.{List, [], _∷_, _++_, map}
 use lib.ListN.{take, drop, set, replicate}
 use Rattle.plan.specs.declared.Rule.the-variants.{Keep}
 use Rattle.plan.specs.declared.Record.{Record}
@@ -38,6 +38,31 @@ short-refused = refl
 pub unused-refused : stateAnswer (set (lineBytes twoNodes) 61_439 1) ≡ 8
 unfolding lineBytes stateAnswer twoNodes
 unused-refused = refl
+
+-- A plan of version 2 (2026-02): its own bytes stand in front, read back, and the state is accepted.
+unfoldable pub byMass : Line
+unfolding initialLine
+byMass = initialLine (record { version = 2; rules = Keep ∷ Keep ∷ []; channels = record { sender = 0; receiver = 1; mask = 65535; modulus = 1; remainder = 0; least = 258; greatest = 772 } ∷ [] })
+
+abbrev byMassPlan : List ℕ
+byMassPlan = 0 ∷ 23 ∷ 2 ∷ 2 ∷ 1 ∷ 0 ∷ 0 ∷ 0 ∷ 0 ∷ 0 ∷ 0 ∷ 0 ∷ 0 ∷ 0 ∷ 1 ∷ 255 ∷ 255 ∷ 1 ∷ 0 ∷ 1 ∷ 2 ∷ 3 ∷ 4 ∷ []
+
+pub by-mass-written : lineBytes byMass ≡ byMassPlan ++ replicate 61_417 0
+unfolding lineBytes byMass
+by-mass-written = refl
+
+pub by-mass-read : lineOf (lineBytes byMass) ≡ byMass
+unfolding lineBytes lineOf byMass
+by-mass-read = refl
+
+pub by-mass-accepted : stateAnswer (lineBytes byMass) ≡ 0
+unfolding lineBytes stateAnswer byMass
+by-mass-accepted = refl
+
+-- The version changed to 1 and to 3, and the least mass raised above the greatest.
+pub by-mass-refused : map (λ (change : ℕ × ℕ). stateAnswer (set (lineBytes byMass) (change .0) (change .1))) ((2, 1) ∷ (2, 3) ∷ (19, 4) ∷ []) ≡ 8 ∷ 8 ∷ 8 ∷ []
+unfolding lineBytes stateAnswer byMass
+by-mass-refused = refl
 
 -- The same line after the paper's first two frames, with a message on the channel, and one that replays.
 abbrev piece : Record
