@@ -1,15 +1,16 @@
--- Two plans that differ in their version alone run alike, on bytes: the rules' statement, carried to the states that hold the lines.
-use Prim.Native.Nat.{ℕ}
+-- The plan's bytes over a run: Write gives back what was loaded, and two plans that differ in their version alone run alike, the rules' statement carried to the states that hold the lines.
+use Prim.Native.Nat.{ℕ, _≤_}
 use mathlib.Core.Path.{_≡_, sym, ap, _∙_}
 use mathlib.Core.List.{List, _++_, map, append-assoc}
 use lib.ListN.{length, take, drop, replicate}
 use lib.Seq.{take-at, drop-at}
 use Rattle.plan.specs.Lawful.{Each, Bytes}
-use Rattle.plan.specs.Plan.{Plan, nodeCount, channelCount, planOf, headNumbers}
+use Rattle.plan.specs.Plan.{Plan, nodeCount, channelCount, planOf, planBytes, headNumbers}
+use Rattle.plan.proofs.PlanLaws.{plan-written}
 use Rattle.plan.proofs.FitsLaws.{fitting}
 use Rattle.rules.specs.Line.{Line, initialLine}
 use Rattle.rules.specs.Claim.{Story, startOf, storyFrom}
-use Rattle.rules.specs.Versions.{SameLine}
+use Rattle.rules.specs.Versions.{LineAlike}
 use Rattle.rules.proofs.Order.{story-plan}
 use Rattle.rules.proofs.versions.RunAlike.{run-alike}
 use Rattle.state.specs.Sizes.{planArea, tailSize}
@@ -22,8 +23,10 @@ use Rattle.state.proofs.LineLaws.{plan-part-sound}
 use Rattle.state.proofs.InPlace.{plan-long}
 use Rattle.line.specs.Load.{loadAnswer, loadLeft}
 use Rattle.line.specs.Order.{stateAfter, storyOf, AsTold}
+use Rattle.line.specs.Write.{loadedPlan, GivenBack, GivesBack}
 use Rattle.line.specs.Versions.{RunAlikeOnBytes}
-use Rattle.line.proofs.LoadLaws.{load-right}
+use Rattle.line.proofs.LoadLaws.{load-accepted, load-right}
+use Rattle.line.proofs.WriteLaws.{write-done}
 use Rattle.line.proofs.StepRun.{run-of-lines}
 
 -- A plan as its area holds it.
@@ -53,7 +56,7 @@ behind-of : (s : List ℕ) → Sane s → drop planArea s ≡ behindPlan (lineOf
 behind-of s sane = ap (drop planArea) (sym (sane .written)) ∙ plan-apart (lineOf s) (sane-fits s sane) .1
 
 -- What stands behind the plan goes by no version.
-behind-alike : (k l : Line) → SameLine k l → behindPlan k ≡ behindPlan l
+behind-alike : (k l : Line) → LineAlike k l → behindPlan k ≡ behindPlan l
 behind-alike k l same = λ i.
     stepsPart .write (same .steps i)
     ++ (nodesPart (length (same .plan .rules i)) .write (same .nodes i) ++ lanesPart (length (same .plan .channels i)) .write (map padHeard (same .lanes i)))
@@ -80,13 +83,25 @@ module _ (plan lent : List ℕ) (frames : List (List ℕ)) (bytes : Bytes plan) 
   unfolding storyOf
   end-line = ap (λ (s : Story). s .line) (told .story)
 
+  plan-kept : lineOf end .plan ≡ planOf plan
+  unfolding initialLine
+  plan-kept = ap (λ (l : Line). l .plan) end-line ∙ story-plan frames (startOf (initialLine (planOf plan)))
+
   plan-stays : take planArea end ≡ take planArea start
   unfolding initialLine
   plan-stays =
       let right = load-right plan lent bytes z in
-      front-of end end-sane
-      ∙ ap planIn (ap (λ (l : Line). l .plan) end-line ∙ story-plan frames (startOf (initialLine (planOf plan))) ∙ ap (λ (l : Line). l .plan) (sym (right .line)))
-      ∙ sym (front-of start (state-sane start .0 (right .accepted)))
+      front-of end end-sane ∙ ap planIn (plan-kept ∙ ap (λ (l : Line). l .plan) (sym (right .line))) ∙ sym (front-of start (state-sane start .0 (right .accepted)))
+
+  -- What was loaded is written again: the same bytes, and past them what was there.
+  given-back : (out : List ℕ) → length plan ≤ length out → GivenBack plan end out
+  given-back out long =
+      let same : loadedPlan end ≡ plan = ap planBytes plan-kept ∙ plan-written plan bytes (load-accepted plan lent z .0) in
+      let done = write-done end out (told .accepted) (rw same long) in
+      record { number = sym (done .0); left = sym (done .1) ∙ ap (λ (p : List ℕ). p ++ drop (length p) out) same }
+
+pub gives-back : GivesBack
+gives-back p lent out frames bytes each z long = given-back p lent frames bytes each z out long
 
 pub run-alike-on-bytes : RunAlikeOnBytes
 run-alike-on-bytes plan other lent lent-too frames bytes bytes-too each z z-too same =
@@ -95,7 +110,7 @@ run-alike-on-bytes plan other lent lent-too frames bytes bytes-too each z z-too 
     let two = told other lent-too frames bytes-too each z-too in
     let k = end-sane plan lent frames bytes each z in
     let l = end-sane other lent-too frames bytes-too each z-too in
-    let lines : SameLine (lineOf (stateAfter (loadLeft plan lent) frames)) (lineOf (stateAfter (loadLeft other lent-too) frames)) =
+    let lines : LineAlike (lineOf (stateAfter (loadLeft plan lent) frames)) (lineOf (stateAfter (loadLeft other lent-too) frames)) =
     rw (end-line plan lent frames bytes each z, end-line other lent-too frames bytes-too each z-too) (alike .line) in
     record {
       numbers = ap (λ (s : Story). s .numbers) (one .story) ∙ alike .numbers ∙ sym (ap (λ (s : Story). s .numbers) (two .story));

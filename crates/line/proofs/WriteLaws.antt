@@ -1,4 +1,4 @@
--- The check's answer and Write by cases, and that Write gives back what was loaded.
+-- The check's answer and Write by cases.
 use Prim.Native.Nat.{ℕ, _-_, _≤_, _<_}
 use mathlib.Core.Path.{_≡_, refl, sym, ap, _∙_}
 use mathlib.Core.Bool.{Bool, true, false, true≢false}
@@ -9,18 +9,15 @@ use lib.Dec.{leb, eqb}
 use lib.ListN.{length, take, drop}
 use Rattle.plan.specs.Lawful.{Bytes}
 use Rattle.plan.specs.Plan.{Plan, planOf, planBytes, planSize, sizeByHead}
-use Rattle.plan.proofs.PlanLaws.{head-size, plan-length, plan-written, version-of, node-count, channel-count}
-use Rattle.rules.specs.Line.{Line, initialLine}
+use Rattle.plan.proofs.PlanLaws.{head-size, plan-length, version-of, node-count, channel-count}
 use Rattle.state.specs.Sizes.{stateSize}
 use Rattle.state.specs.State.{stateAnswer}
 use Rattle.state.proofs.InPlace.{line-plan}
 use Rattle.state.proofs.SpelledLaws.{state-sane, answer-eight}
 use Rattle.state.proofs.StoredPlan.{storedPlan, stored-accepted}
 use Rattle.state.proofs.AcceptedState.{state-checked}
-use Rattle.line.specs.Load.{loadAnswer, loadLeft}
 use Rattle.line.specs.Whole.{stateChecked}
 use Rattle.line.specs.Write.{loadedPlan, writeAnswer, writeLeft}
-use Rattle.line.proofs.LoadLaws.{load-accepted, load-right}
 use Rattle.line.proofs.WholeLaws.{check-answer}
 use Rattle.line.proofs.CheckLaws.{front-stored}
 
@@ -75,12 +72,3 @@ module _ (state plan : List ℕ) where
   -- What the code writes: so many of the state's first bytes.
   pub write-front : (size : ℕ) → size ≡ sizeByHead state → Bytes state → stateAnswer state ≡ 0 → take (size - 0) state ≡ loadedPlan state
   write-front size is bytes z = front-stored state size is ∙ sym (loaded-stored state bytes z)
-
--- What was loaded is written again: the same bytes, and past them what was there.
-pub written-again : (p state plan : List ℕ) → Bytes p → loadAnswer p state ≡ 0 → length p ≤ length plan → (writeAnswer (loadLeft p state) plan ≡ 0) × (writeLeft (loadLeft p state) plan ≡ p ++ drop (length p) plan)
-unfolding initialLine
-written-again p state plan bytes z long =
-    let right = load-right p state bytes z in
-    let same : loadedPlan (loadLeft p state) ≡ p = ap (λ (l : Line). planBytes (l .plan)) (right .line) ∙ plan-written p bytes (load-accepted p state z .0) in
-    let done = write-done (loadLeft p state) plan (right .accepted) (rw same long) in
-    (sym (done .0), sym (done .1) ∙ rw same refl)

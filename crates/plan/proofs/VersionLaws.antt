@@ -12,7 +12,7 @@ use Rattle.plan.specs.Channel.{takes}
 use Rattle.plan.specs.Plan.{Plan, nodeCount, planOf, entering, leaving}
 use Rattle.plan.specs.Check.{fourAtMost, channelSpelled, channelsSpelled}
 use Rattle.plan.specs.Versions.{asVersion, inVersionTwo, AnyMass, TakesAnyMass, FirstIsWidened}
-use Rattle.plan.proofs.PlanLaws.{version-of}
+use Rattle.plan.proofs.PlanLaws.{plan-bytes, version-of}
 use Rattle.plan.proofs.FitsLaws.{fitting, fits, accepted-fits, fits-accepted}
 use Rattle.basics.specs.Bools.{both-true}
 
@@ -60,6 +60,7 @@ first-is-widened s bytes z one =
     }) in
     let (accepted, is) = fits-accepted (asVersion 2 p) fit in
     record {
+      bytes = plan-bytes (asVersion 2 p);
       accepted = accepted;
       version = sym (version-of (inVersionTwo s)) ∙ ap (λ (q : Plan). q .version) is;
       same = record { rules = ap (λ (q : Plan). q .rules) (sym is); channels = ap (λ (q : Plan). q .channels) (sym is) };

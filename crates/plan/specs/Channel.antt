@@ -22,8 +22,11 @@ unfolding bitSet
 takes c r = bitSet (c .mask) (r .material) && eqb (r .piece % c .modulus) (c .remainder) && inWindow c (r .mass)
 
 -- 2026-02: "A plan of version 2 gives each belt" numbers "after the remainder"; in another version there are none.
+abbrev pub hasWindows : ℕ → Bool
+hasWindows version = eqb version 2
+
 abbrev pub behindRemainder : ℕ → List ℕ → List ℕ
-behindRemainder version ns = cond (eqb version 2) ns []
+behindRemainder version ns = cond (hasWindows version) ns []
 
 -- "A belt: sender, receiver, mask (2 bytes), modulus 1..255, remainder below the modulus."
 abbrev pub channelNumbers : ℕ → Channel → List ℕ

@@ -9,7 +9,7 @@ use Rattle.plan.specs.declared.Rule.the-variants.{Keep, Relabel, Cap}
 use Rattle.plan.specs.declared.Channel.{Channel}
 use Rattle.plan.specs.Layout.{readSlots}
 use Rattle.plan.specs.Rule.{ruleFields, ruleFits}
-use Rattle.plan.specs.Channel.{channelFits, channelAfter}
+use Rattle.plan.specs.Channel.{hasWindows, channelFits, channelAfter}
 use Rattle.plan.specs.Plan.{Plan, nodeCount, channelCount, planOf, planLength, planVersion, planNodes, planChannels, sizeByHead, headLayout, entering, leaving}
 
 -- 1: "plan under 5 bytes, or not its length field"
@@ -100,7 +100,7 @@ rulesAllowed [] = true
 rulesAllowed (r ∷ rest) = ruleAllowed r && rulesAllowed rest
 
 abbrev pub channelSpelled : ℕ → Channel → Bool
-channelSpelled version c = leb (c .mask) 65535 && leb (c .modulus) 255 && leb (c .greatest) 65535 && (eqb version 2 || (eqb (c .least) 0 && eqb (c .greatest) 65535))
+channelSpelled version c = leb (c .mask) 65535 && leb (c .modulus) 255 && leb (c .greatest) 65535 && (hasWindows version || (eqb (c .least) 0 && eqb (c .greatest) 65535))
 
 abbrev pub channelsSpelled : ℕ → List Channel → Bool
 channelsSpelled version [] = true

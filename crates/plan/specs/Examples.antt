@@ -13,6 +13,7 @@ use Rattle.plan.specs.Rule.{applied}
 use Rattle.plan.specs.Channel.{takes}
 use Rattle.plan.specs.Plan.{Plan, planOf, planBytes, isSource, isSink}
 use Rattle.plan.specs.Check.{planRefusal, planFits}
+use Rattle.plan.specs.Versions.{inVersionTwo}
 
 -- A plan of so many nodes and belts, its length field right.
 abbrev plan : ℕ → ℕ → ℕ → List ℕ → List ℕ
@@ -80,10 +81,10 @@ exampleTable =
     -- 6: mask 0, modulus 0, "remainder below the modulus"; masks of one bit, the greatest modulus and remainder
     ∷ record { plans = map belted ((0 ∷ 0 ∷ 1 ∷ 0 ∷ []) ∷ (0 ∷ 1 ∷ 0 ∷ 0 ∷ []) ∷ (0 ∷ 1 ∷ 3 ∷ 3 ∷ []) ∷ (0 ∷ 1 ∷ 1 ∷ 255 ∷ []) ∷ []); numbers = replicate 4 6 }
     ∷ record { plans = map belted ((0 ∷ 1 ∷ 1 ∷ 0 ∷ []) ∷ (128 ∷ 0 ∷ 255 ∷ 254 ∷ []) ∷ []); numbers = replicate 2 0 }
-    -- 6: "A least mass above the greatest": by one, by its high byte; the same at both ends, 0 and 65535 are accepted
+    -- 6: "A least mass above the greatest": by one, by its high byte; the same at both ends, 255 to 256, 0 and 65535 are accepted
     ∷ record { plans = map windowed ((0 ∷ 8 ∷ 0 ∷ 7 ∷ []) ∷ (1 ∷ 0 ∷ 0 ∷ 255 ∷ []) ∷ (255 ∷ 255 ∷ 255 ∷ 254 ∷ []) ∷ []); numbers = replicate 3 6 }
     ∷ record { plans = map windowed ((0 ∷ 7 ∷ 0 ∷ 7 ∷ []) ∷ (0 ∷ 255 ∷ 1 ∷ 0 ∷ []) ∷ (0 ∷ 0 ∷ 0 ∷ 0 ∷ []) ∷ (255 ∷ 255 ∷ 255 ∷ 255 ∷ []) ∷ []); numbers = replicate 4 0 }
-    -- 6: of the second belt; 5 comes before 6, and 6 before 7
+    -- 6: of the second belt; 5 comes before 6
     ∷ record { plans = plan 2 3 2 (keeps 3 ++ (window 0 1 (0 ∷ 0 ∷ 0 ∷ 0 ∷ []) ++ window 1 2 (0 ∷ 1 ∷ 0 ∷ 0 ∷ []))) ∷ plan 2 2 1 (3 ∷ 0 ∷ 0 ∷ 0 ∷ (keeps 1 ++ window 0 1 (0 ∷ 1 ∷ 0 ∷ 0 ∷ []))) ∷ []; numbers = 6 ∷ 5 ∷ [] }
     -- 6: "belts rise strictly by sender then receiver": one pair twice, receivers falling, senders falling; a receiver may fall where the sender rises
     ∷ record { plans = map (λ (bs : List ℕ). plan 1 4 2 (keeps 4 ++ bs)) ((belt 0 1 ++ belt 0 1) ∷ (belt 0 2 ++ belt 0 1) ∷ (belt 1 2 ++ belt 0 3) ∷ (belt 0 3 ++ belt 1 2) ∷ []); numbers = replicate 3 6 ++ 0 ∷ [] }
@@ -152,9 +153,9 @@ unfolding planOf
 window-read = refl
 
 -- Each is written as it was.
-written-again : map (λ (s : List ℕ). planBytes (planOf s)) (spelledPlan ∷ spelledWindow ∷ []) ≡ spelledPlan ∷ spelledWindow ∷ []
+both-written : map (λ (s : List ℕ). planBytes (planOf s)) (spelledPlan ∷ spelledWindow ∷ []) ≡ spelledPlan ∷ spelledWindow ∷ []
 unfolding planOf planBytes
-written-again = refl
+both-written = refl
 
 -- "A node without entering belts is an infeed, without leaving belts an outfeed; it may be both.": 0 to 1 to 2, and 3
 abbrev ends : Plan
@@ -204,3 +205,17 @@ window-takes = refl
 capped-into : map (λ (m : ℕ). takes (channelFor 50 60) (applied (Cap 50) (recordOf 0 m))) (49 ∷ 50 ∷ 61 ∷ []) ≡ false ∷ true ∷ true ∷ []
 unfolding takes
 capped-into = refl
+
+-- The bytes of version 2 with the same rules and channels: four behind each remainder.
+in-version-two : inVersionTwo spelledPlan ≡ plan 2 3 1 (keeps 1 ++ (1 ∷ 2 ∷ 0 ∷ 3 ∷ 2 ∷ 0 ∷ 1 ∷ 4 ∷ 0 ∷ 2 ∷ 1 ∷ 5 ∷ 7 ∷ 6 ∷ 0 ∷ 0 ∷ 255 ∷ 255 ∷ []))
+unfolding inVersionTwo
+in-version-two = refl
+
+-- The longest plan, and the bounds of 3 and 7, in version 2.
+longest : length (inVersionTwo (most 24 [])) ≡ 293
+unfolding inVersionTwo
+longest = refl
+
+bounds-in-two : map (λ (s : List ℕ). planRefusal (inVersionTwo s)) (most 24 [] ∷ most 25 (6 ∷ []) ∷ plan 1 6 5 (keeps 6 ++ into 5 (0 ∷ 1 ∷ 2 ∷ 3 ∷ 4 ∷ [])) ∷ plan 1 6 5 (keeps 6 ++ out 0 (1 ∷ 2 ∷ 3 ∷ 4 ∷ 5 ∷ [])) ∷ []) ≡ 0 ∷ 3 ∷ 7 ∷ 7 ∷ []
+unfolding inVersionTwo planRefusal
+bounds-in-two = refl

@@ -1,4 +1,4 @@
--- A plan: the nodes' rules and the channels, and its layout (document 01, "The line").
+-- A plan: its version, the nodes' rules and the channels, and its layout (document 01, "The line"; document 02, 2026-02).
 use Prim.Native.Nat.{ℕ, suc, _+_, _*_}
 use mathlib.Core.Bool.{Bool, true, false}
 use mathlib.Core.List.{List, [], _∷_}

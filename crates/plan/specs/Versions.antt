@@ -33,10 +33,12 @@ TakesAnyMass = (c : Channel) (r : Record) → AnyMass c → r .mass ≤ 65_535 �
 
 -- A plan of version 1 beside that of version 2: which is accepted too, and its windows are 0..65535.
 pub record Widened (s : List ℕ) : Type 0 where
+  pub bytes : Bytes (inVersionTwo s)
   pub accepted : planRefusal (inVersionTwo s) ≡ 0
   pub version : planVersion (inVersionTwo s) ≡ 2
   pub same : SameButVersion (planOf s) (planOf (inVersionTwo s))
   pub windows : Each AnyMass (planOf (inVersionTwo s) .channels)
 
+-- Of every accepted plan of version 1.
 abbrev pub FirstIsWidened : Type 0
 FirstIsWidened = (s : List ℕ) → Bytes s → planRefusal s ≡ 0 → planVersion s ≡ 1 → Widened s

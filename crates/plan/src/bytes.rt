@@ -3,8 +3,7 @@ ghost use mathlib.Core.Path.{_≡_};
 ghost use Prim.Native.Nat.{_+_, _<_, _≤_};
 ghost use lib.ListN.{getD, take, drop};
 ghost use Rattle.plan.specs.Layout.{spelled};
-ghost use lib.Dec.{eqb};
-ghost use Rattle.plan.specs.Channel.{channelSize};
+ghost use Rattle.plan.specs.Channel.{hasWindows, channelSize};
 ghost use Rattle.plan.specs.Plan.{planVersion, planNodes, planChannels, sizeByHead, channelFrom};
 
 pub fn wide(b: u8) -> u16
@@ -47,7 +46,7 @@ pub fn word_at(s: &[u8], i: usize) -> u16
 
 // Whether a plan's channels have a window of masses: those of version 2.
 pub fn has_windows(plan: &[u8]) -> bool
-    ensures { λ r. ⌜ r ≡ eqb (planVersion (now (plan .entry))) 2 ⌝ }
+    ensures { λ r. ⌜ r ≡ hasWindows (planVersion (now (plan .entry))) ⌝ }
 {
     byte_at(plan, 2) == 2
 }

@@ -1,10 +1,10 @@
-// A channel: read in place, and whether it takes a record (document 01, "A belt takes a record if ..").
+// A channel: read in place, and whether it takes a record (document 01, "A belt takes a record if .."; its window of masses, document 02, 2026-02).
 ghost use mathlib.Core.Path.{_≡_};
-ghost use mathlib.Core.Bool.{cond, _&&_};
+ghost use mathlib.Core.Bool.{cond};
 ghost use Prim.Native.Nat.{_+_, _%_, _<_};
 ghost use lib.ListN.{take, drop};
 ghost use Rattle.plan.specs.Layout.{spelled};
-ghost use Rattle.plan.specs.Channel.{bitSet, inWindow, takes};
+ghost use Rattle.plan.specs.Channel.{bitSet, takes};
 ghost use Rattle.plan.specs.Plan.{planOf, channelAt};
 use crate::Channel;
 use crate::Record;

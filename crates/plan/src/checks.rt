@@ -39,7 +39,7 @@ pub fn bad_counts(plan: &[u8]) -> bool
     !((2 <= n) & (n <= 12) & (1 <= m) & (m <= 24))
 }
 
-// 4: another length than the counts give.
+// 4: another length than the head gives.
 pub fn bad_size(plan: &[u8]) -> bool
     ensures { λ r. ⌜ r ≡ badSize (now (plan .entry)) ⌝ }
 {

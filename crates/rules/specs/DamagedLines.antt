@@ -194,6 +194,16 @@ pub record Trial : Type 0 where
 abbrev trial : Line → List ℕ → Trial
 trial l ms = record { line = l; meets = ms }
 
+-- A line with its plan in a version and its channels changed: without a modulus, without the greatest mass.
+abbrev replanned : ℕ → (Channel → Channel) → Line → Line
+replanned version f l = record { plan = record { version = version; rules = l .plan .rules; channels = map f (l .plan .channels) }; steps = l .steps; nodes = l .nodes; lanes = l .lanes }
+
+abbrev undivided : Channel → Channel
+undivided c = record { sender = c .sender; receiver = c .receiver; mask = c .mask; modulus = 0; remainder = 0; least = c .least; greatest = c .greatest }
+
+abbrev lighter : Channel → Channel
+lighter c = record { sender = c .sender; receiver = c .receiver; mask = c .mask; modulus = c .modulus; remainder = c .remainder; least = c .least; greatest = 65_534 }
+
 unfoldable pub trials : List Trial
 unfolding replayPlan chain initialLine begun ended fallen withNode withLane
 trials =
@@ -205,7 +215,12 @@ trials =
     -- a down node's child keeps its clock
     ∷ trial (lane 2 (moved 0 2) fallen) []
     -- the line
-    ∷ trial (record { plan = record { version = 1; rules = begun .plan .rules; channels = map (λ (c : Channel). record { sender = c .sender; receiver = c .receiver; mask = c .mask; modulus = 0; remainder = 0; least = 0; greatest = 65_535 }) (begun .plan .channels) }; steps = begun .steps; nodes = begun .nodes; lanes = begun .lanes }) (1 ∷ [])
+    ∷ trial (replanned 1 undivided begun) (1 ∷ [])
+    -- a version that is none; a window that only version 2 can spell
+    ∷ trial (replanned 3 (λ c. c) begun) (1 ∷ [])
+    ∷ trial (replanned 2 (λ c. c) begun) []
+    ∷ trial (replanned 1 lighter begun) (1 ∷ [])
+    ∷ trial (replanned 2 lighter begun) []
     ∷ trial (lane 0 (λ (s : Lane). record { mark = s .mark; taken = s .taken; heard = 0 ∷ s .heard; queue = s .queue }) begun) (2 ∷ [])
     ∷ trial (steps 1_000_001 begun) (3 ∷ [])
     ∷ trial (withSteps (0 ∷ 0 ∷ 0 ∷ 1_000_001 ∷ []) begun) (3 ∷ [])

@@ -11,22 +11,22 @@ use Rattle.rules.specs.Claim.{Story, startOf, storyFrom}
 use Rattle.rules.specs.Sheet.{sheet}
 
 -- Two lines that differ in their plans' version alone.
-pub record SameLine (k l : Line) : Type 0 where
+pub record LineAlike (k l : Line) : Type 0 where
   pub plan : SameButVersion (k .plan) (l .plan)
   pub steps : k .steps ≡ l .steps
   pub nodes : k .nodes ≡ l .nodes
   pub lanes : k .lanes ≡ l .lanes
 
 -- The same numbers, feeds, receipts and crashes, and such lines at the end.
-pub record SameStory (s t : Story) : Type 0 where
-  pub line : SameLine (s .line) (t .line)
+pub record StoryAlike (s t : Story) : Type 0 where
+  pub line : LineAlike (s .line) (t .line)
   pub numbers : s .numbers ≡ t .numbers
   pub fedActs : s .fedActs ≡ t .fedActs
   pub receipts : s .receipts ≡ t .receipts
   pub crashes : s .crashes ≡ t .crashes
 
 abbrev pub RunAlike : Type 0
-RunAlike = (p q : Plan) (frames : List (List ℕ)) → SameButVersion p q → SameStory (storyFrom (startOf (initialLine p)) frames) (storyFrom (startOf (initialLine q)) frames)
+RunAlike = (p q : Plan) (frames : List (List ℕ)) → SameButVersion p q → StoryAlike (storyFrom (startOf (initialLine p)) frames) (storyFrom (startOf (initialLine q)) frames)
 
 -- The same sheet, of two plans that are accepted, with any bytes behind them.
 abbrev pub SheetAlike : Type 0

@@ -39,6 +39,11 @@ pub unused-refused : stateAnswer (set (lineBytes twoNodes) 61_439 1) ≡ 8
 unfolding lineBytes stateAnswer twoNodes
 unused-refused = refl
 
+-- A version that is none.
+pub version-refused : stateAnswer (set (lineBytes twoNodes) 2 3) ≡ 8
+unfolding lineBytes stateAnswer twoNodes
+version-refused = refl
+
 -- A plan of version 2 (2026-02): its own bytes stand in front, read back, and the state is accepted.
 unfoldable pub byMass : Line
 unfolding initialLine
@@ -59,8 +64,8 @@ pub by-mass-accepted : stateAnswer (lineBytes byMass) ≡ 0
 unfolding lineBytes stateAnswer byMass
 by-mass-accepted = refl
 
--- The version changed to 1 and to 3, and the least mass raised above the greatest.
-pub by-mass-refused : map (λ (change : ℕ × ℕ). stateAnswer (set (lineBytes byMass) (change .0) (change .1))) ((2, 1) ∷ (2, 3) ∷ (19, 4) ∷ []) ≡ 8 ∷ 8 ∷ 8 ∷ []
+-- The version changed to 1, and the least mass raised above the greatest.
+pub by-mass-refused : map (λ (change : ℕ × ℕ). stateAnswer (set (lineBytes byMass) (change .0) (change .1))) ((2, 1) ∷ (19, 4) ∷ []) ≡ 8 ∷ 8 ∷ []
 unfolding lineBytes stateAnswer byMass
 by-mass-refused = refl
 

@@ -12,7 +12,7 @@ use Rattle.rules.specs.Line.{stepLimit, Message, Line, freshNode, initia
 use Rattle.rules.specs.Frame.{Frame, feed, send, take, crash, recover, frameConsole, frameOf, badFrameLength, badFrameVersion, badKind, badConsole}
 use Rattle.rules.specs.Step.{noStepsLeft, lineRefusal, effect, accepted, refusal, step}
 use Rattle.rules.specs.Claim.{firstReceipt, receiptOf, feedOf, crashOf, Story, startOf, ifZero, told, storyFrom}
-use Rattle.rules.specs.Versions.{SameLine, SameStory, RunAlike}
+use Rattle.rules.specs.Versions.{LineAlike, StoryAlike, RunAlike}
 use Rattle.rules.proofs.theorem.Accepted.{firstOf, refusal-first, step-accepted, step-refused}
 use Rattle.rules.proofs.theorem.Unmoved.{effect-steps}
 use Rattle.rules.proofs.console.Recounted.{reheaded, effect-recounted, refusal-recounted}
@@ -22,11 +22,11 @@ use Rattle.rules.proofs.console.Counted.{step-number}
 abbrev pub headedAs : Line → Line → Line
 headedAs k l = reheaded (λ v. k .plan .version) (k .steps) l
 
-module _ (k l : Line) (same : SameLine k l) where
+module _ (k l : Line) (same : LineAlike k l) where
   pub is-headed : k ≡ headedAs k l
   is-headed = λ i. record { plan = record { version = k .plan .version; rules = same .plan .rules i; channels = same .plan .channels i }; steps = k .steps; nodes = same .nodes i; lanes = same .lanes i }
 
-  accepted-alike : (c : ℕ) (f : Frame) (o : Option Line) → effect l f ≡ o → SameLine (accepted c k (Option·map (headedAs k) o)) (accepted c l o)
+  accepted-alike : (c : ℕ) (f : Frame) (o : Option Line) → effect l f ≡ o → LineAlike (accepted c k (Option·map (headedAs k) o)) (accepted c l o)
   unfolding counted
   accepted-alike c f none e = same
   accepted-alike c f (some next) e = record { plan = record { rules = refl; channels = refl }; steps = ap (oneMore c) (same .steps ∙ sym (effect-steps l f e)); nodes = refl; lanes = refl }
@@ -47,7 +47,7 @@ module _ (k l : Line) (same : SameLine k l) where
       ∙ (λ i. firstOf ((badFrameLength f, 8) ∷ (badFrameVersion f, 9) ∷ (badKind f, 10) ∷ (badConsole f, 24) ∷ (same-left (frameConsole f) i, 11) ∷ []) (same-line-refusal (frameOf f) i))
       ∙ sym (refusal-first l f)
 
-pub step-alike : (k l : Line) (f : List ℕ) → SameLine k l → (step k f .number ≡ step l f .number) × SameLine (step k f .line) (step l f .line)
+pub step-alike : (k l : Line) (f : List ℕ) → LineAlike k l → (step k f .number ≡ step l f .number) × LineAlike (step k f .line) (step l f .line)
 step-alike k l f same = (
   step-number k f ∙ refused ∙ sym (step-number l f),
   elim (ℕ-discrete (refusal l f) 0) [
@@ -71,10 +71,10 @@ receipt-reheaded newer counts l (take b) = one (laneAt l b .queue)
 receipt-reheaded newer counts l (crash n) = refl
 receipt-reheaded newer counts l (recover n) = refl
 
-same-receipt : (k l : Line) (f : Frame) → SameLine k l → receiptOf k f ≡ receiptOf l f
+same-receipt : (k l : Line) (f : Frame) → LineAlike k l → receiptOf k f ≡ receiptOf l f
 same-receipt k l f same = ap (λ (m : Line). receiptOf m f) (is-headed k l same) ∙ receipt-reheaded (λ v. k .plan .version) (k .steps) l f
 
-told-alike : (s t : Story) (f : List ℕ) → SameStory s t → SameStory (told s f) (told t f)
+told-alike : (s t : Story) (f : List ℕ) → StoryAlike s t → StoryAlike (told s f) (told t f)
 unfolding told
 told-alike s t f same =
     let (number, line) = step-alike (s .line) (t .line) f (same .line) in
@@ -87,11 +87,11 @@ told-alike s t f same =
       crashes = λ i. same .crashes i ++ ifZero (number i) (crashOf (frameOf f));
     }
 
-pub story-alike : (s t : Story) (frames : List (List ℕ)) → SameStory s t → SameStory (storyFrom s frames) (storyFrom t frames)
+pub story-alike : (s t : Story) (frames : List (List ℕ)) → StoryAlike s t → StoryAlike (storyFrom s frames) (storyFrom t frames)
 story-alike s t [] same = same
 story-alike s t (f ∷ fs) same = story-alike (told s f) (told t f) fs (told-alike s t f same)
 
-pub initial-alike : (p q : Plan) → SameButVersion p q → SameLine (initialLine p) (initialLine q)
+pub initial-alike : (p q : Plan) → SameButVersion p q → LineAlike (initialLine p) (initialLine q)
 unfolding initialLine
 initial-alike p q same = record {
   plan = same;

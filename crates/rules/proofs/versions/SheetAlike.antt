@@ -15,7 +15,7 @@ use Rattle.plan.proofs.VersionLaws.{first-is-widened}
 use Rattle.rules.specs.Line.{Line, initialLine}
 use Rattle.rules.specs.Step.{step}
 use Rattle.rules.specs.Sheet.{opening, answerLine, clockText, nodeText, lineText, lengthField, frameCut, framesTextBy, framesText, planText, sheet}
-use Rattle.rules.specs.Versions.{SameLine, SheetAlike, WidenedAlike}
+use Rattle.rules.specs.Versions.{LineAlike, SheetAlike, WidenedAlike}
 use Rattle.rules.proofs.console.Recounted.{reheaded}
 use Rattle.rules.proofs.versions.RunAlike.{is-headed, step-alike, initial-alike}
 
@@ -23,11 +23,11 @@ text-reheaded : (newer : ℕ → ℕ) (counts : List ℕ) (l : Line) → lineTex
 unfolding lineText nodeText clockText entering
 text-reheaded newer counts l = refl
 
-same-text : (k l : Line) → SameLine k l → lineText k ≡ lineText l
+same-text : (k l : Line) → LineAlike k l → lineText k ≡ lineText l
 same-text k l same = ap lineText (is-headed k l same) ∙ text-reheaded (λ v. k .plan .version) (k .steps) l
 
 abbrev SameText : ℕ → ℕ → Type 0
-SameText fuel j = (k l : Line) (s : List ℕ) → SameLine k l → framesText fuel j k s ≡ framesText fuel j l s
+SameText fuel j = (k l : Line) (s : List ℕ) → LineAlike k l → framesText fuel j k s ≡ framesText fuel j l s
 
 frames-alike : (fuel j : ℕ) → SameText fuel j
 frames-alike zero j k l s same = same-text k l same
