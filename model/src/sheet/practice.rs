@@ -4,10 +4,10 @@ use super::length_field;
 use crate::answer::FRAME_LENGTH;
 use crate::line::practice::{every_frame, random_frames};
 use crate::line::{step, Frame, Line};
-use crate::plan::practice::{mutate, noise, plan};
+use crate::plan::practice::{any_plan, mutate, noise, plan};
 use crate::plan::Plan;
 use crate::random::Random;
-use crate::state::practice::{any_plan, play, play_to_the_end, replay_on, staged, Played};
+use crate::state::practice::{play, play_to_the_end, replay_on, staged, Played};
 
 /// More than a block or a two-byte number counts.
 const MANY_FRAMES: usize = 70_000;

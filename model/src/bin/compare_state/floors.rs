@@ -3,6 +3,7 @@
 use std::collections::BTreeSet;
 
 use model::compare::{answer, under, Floor};
+use model::plan::practice::CASES;
 use model::state::practice::{
     places, staged, Kind, CLAUSES, FEATURES, HARMLESS, SCRAMBLES, SHUFFLES,
 };
@@ -73,10 +74,26 @@ fn calls() -> Vec<Floor> {
     let mut floors = under(section::LOAD, 500, (0..=8).map(answer));
     floors.extend(under(section::LOAD, 5_000, PLANS));
     floors.extend(under(section::LOAD, 5_000, LENGTHS));
-    floors.extend(under(section::WRITE, 2_000, [0, 8, 23].map(answer)));
+    floors.extend(under(section::LOADED, 100, CASES.map(|(name, _)| name)));
+    let written_of = |answer| [1, 2].map(|version| written(answer, version));
+    let answers = [0, 8, 23];
+    floors.extend(under(
+        section::WRITE,
+        1_000,
+        answers.iter().copied().flat_map(written_of),
+    ));
     floors.extend(under(section::WRITE, 2_000, LENGTHS));
-    floors.extend(under(section::WRITE_AGAIN, 1_000, [0, 23].map(answer)));
+    floors.extend(under(
+        section::WRITE_AGAIN,
+        500,
+        [0, 23].into_iter().flat_map(written_of),
+    ));
     floors
+}
+
+/// The answer to Write, by the version of the plan.
+pub fn written(given: u32, version: u8) -> String {
+    format!("{}, version {version}", answer(given))
 }
 
 pub fn outcome(kind: Kind, is_accepted: bool) -> String {
