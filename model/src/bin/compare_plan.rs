@@ -60,7 +60,7 @@ fn main() {
     }
     let mut floors = under(MADE, RIGHT, made);
     floors.extend(under(ANSWERS, 100, (0..=7).map(answer)));
-    floors.extend(under(CASE, 1_000, CASES.map(|(name, _)| name)));
+    floors.extend(under(CASE, 500, CASES.map(|(name, _)| name)));
     counts.hold_to(&floors);
     println!("engine and model agree");
 }

@@ -72,7 +72,7 @@ fn drawn_window(random: &mut Random) -> Window {
     let any = random.draw() as u16;
     let [near, other] = [(); 2].map(|()| random.pick(&MASSES));
     let one = if random.one_in(8) { any } else { near };
-    let other = if random.one_in(8) { one } else { other };
+    let other = if random.one_in(4) { one } else { other };
     Window {
         least: one.min(other),
         greatest: one.max(other),
@@ -259,18 +259,25 @@ fn any_rule(random: &mut Random) -> Rule {
 }
 
 pub fn mutate(random: &mut Random, bytes: &mut Vec<u8>) {
-    match random.between(0, 6) {
+    match random.between(0, 7) {
         0 => bytes.truncate(random.index(bytes.len() + 1)),
         1 => bytes.push(random.draw() as u8),
-        3 if bytes.len() > 2 => bytes[2] = random.pick(&[0, 1, 2, 3, 255]),
         2 if bytes.len() > 5 => {
             // Two channels or parts of them change places.
             let (a, b) = (random.index(bytes.len()), random.index(bytes.len()));
             bytes.swap(a, b);
         }
+        3 if bytes.len() > 5 => {
+            // A number of two bytes becomes one more than the next.
+            let at = random.index(bytes.len() - 3);
+            let next = u16::from_be_bytes([bytes[at + 2], bytes[at + 3]]);
+            bytes[at..at + 2].copy_from_slice(&next.wrapping_add(1).to_be_bytes());
+        }
         _ => {
             for _ in 0..random.between(1, 3) {
-                let at = random.index(bytes.len());
+                let any = random.index(bytes.len());
+                let head = random.index(bytes.len().min(Plan::HEADER));
+                let at = random.pick(&[head, any, any, any]);
                 bytes[at] = match random.between(0, 3) {
                     0 => random.draw() as u8,
                     1 => random.between(0, 16) as u8,
@@ -318,14 +325,13 @@ pub const CASES: [Case; 10] = [
         *plan == Err(PLAN_SIZE) && lengths.contains(&bytes.len())
     }),
     ("6 for a window alone", |bytes, plan| {
-        *plan == Err(PLAN_CHANNEL) && !wrong_windows(bytes).is_empty()
+        !wrong_windows(bytes, plan).is_empty()
     }),
     (
         "6 for a least mass one above the greatest",
         |bytes, plan| {
-            let windows = wrong_windows(bytes);
-            let mut windows = windows.iter();
-            *plan == Err(PLAN_CHANNEL) && windows.any(|window| window.least - 1 == window.greatest)
+            let mut windows = wrong_windows(bytes, plan).into_iter();
+            windows.any(|window| window.least - 1 == window.greatest)
         },
     ),
 ];
@@ -341,19 +347,19 @@ pub fn cases(bytes: &[u8]) -> Vec<&'static str> {
 }
 
 /// The windows for which alone a plan is refused with 6.
-fn wrong_windows(plan: &[u8]) -> Vec<Window> {
-    if plan[2] != 2 {
+fn wrong_windows(bytes: &[u8], plan: &Result<Plan, u32>) -> Vec<Window> {
+    if bytes[2] != 2 || *plan != Err(PLAN_CHANNEL) {
         return Vec::new();
     }
-    let mut open = plan.to_vec();
+    let mut open = bytes.to_vec();
     let mut wrong = Vec::new();
-    let start = Plan::HEADER + Rule::LENGTH * usize::from(plan[3]);
-    for bytes in open[start..].chunks_exact_mut(Version::Second.channel_length()) {
-        let window = Channel::spelled(Version::Second, bytes).window;
+    let start = Plan::HEADER + Rule::LENGTH * usize::from(bytes[3]);
+    for channel in open[start..].chunks_exact_mut(Version::Second.channel_length()) {
+        let window = Channel::spelled(Version::Second, channel).window;
         if window.least > window.greatest {
             wrong.push(window);
         }
-        bytes[6..].copy_from_slice(&[0, 0, 255, 255]);
+        channel[6..].copy_from_slice(&[0, 0, 255, 255]);
     }
     match Plan::read(&open) {
         Err(PLAN_CHANNEL) => Vec::new(),

@@ -84,14 +84,17 @@ pub fn slipped(random: &mut Random) -> Vec<u8> {
     sheet
 }
 
-/// Random bytes, all of them or those behind a plan.
+/// Random bytes, all of them or those behind a plan, which may be mutated.
 pub fn raw(random: &mut Random) -> Vec<u8> {
     let mut sheet = match random.index(5) {
         0 => Vec::new(),
         1 => noise(random),
-        2 => plan(random),
+        2 | 3 => plan(random),
         _ => any_plan(random).write(),
     };
+    if sheet.len() > Plan::HEADER && random.one_in(2) {
+        mutate(random, &mut sheet);
+    }
     for _ in 0..random.index(8) {
         let length = random.pick(&[1, 5, 100]);
         let part = match random.index(3) {

@@ -80,7 +80,7 @@ pub fn all() -> Vec<Floor> {
     floors.extend(under(section::SHEETS, 1, [kind::MILLION]));
     floors.extend(under(section::PIECES, 20_000, [WHOLE]));
     floors.extend(under(section::PIECES, 1_000, PIECES.map(|(name, _)| name)));
-    floors.extend(under(section::PLANS, 20, CASES.map(|(name, _)| name)));
+    floors.extend(under(section::PLANS, 5, CASES.map(|(name, _)| name)));
     floors.extend(under(section::PLANS, 1_000, [IN_BOTH]));
     floors.extend(under(section::ANSWERS, 1_000_000, [0].map(answer)));
     floors.extend(under(

@@ -74,7 +74,7 @@ fn calls() -> Vec<Floor> {
     let mut floors = under(section::LOAD, 500, (0..=8).map(answer));
     floors.extend(under(section::LOAD, 5_000, PLANS));
     floors.extend(under(section::LOAD, 5_000, LENGTHS));
-    floors.extend(under(section::LOADED, 100, CASES.map(|(name, _)| name)));
+    floors.extend(under(section::LOADED, 50, CASES.map(|(name, _)| name)));
     let written_of = |answer| [1, 2].map(|version| written(answer, version));
     let answers = [0, 8, 23];
     floors.extend(under(

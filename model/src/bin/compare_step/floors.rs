@@ -77,7 +77,7 @@ pub fn all() -> Vec<Floor> {
         .into_iter()
         .flat_map(|version| [true, false].map(|is| plan(version, is)));
     floors.extend(under(section::PLANS, 100_000, outcomes));
-    floors.extend(under(section::BOTH, 1_000, [true, false].map(both)));
+    floors.extend(under(section::BOTH, 5_000, [true, false].map(both)));
     floors.extend(under(section::FROM_ALL, 1_000, FROM_ALL));
     let events = EVENTS.iter().map(|event| event.name);
     floors.extend(under(section::EVENTS, 100, events));
