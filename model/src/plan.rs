@@ -17,6 +17,8 @@ pub enum Version {
 }
 
 impl Version {
+    pub const ALL: [Version; 2] = [Version::First, Version::Second];
+
     pub fn read(byte: u8) -> Option<Version> {
         match byte {
             1 => Some(Version::First),

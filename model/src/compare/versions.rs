@@ -23,17 +23,17 @@ pub fn in_both_versions(
         put(&mut left, PLAN, &plan.write());
         let kept = left[..PLAN_SPACE].to_vec();
         let answer = step(&mut left, frame);
-        let is_kept = left[..PLAN_SPACE] == kept;
-        (is_kept, answer, left.split_off(PLAN_SPACE))
+        let rest = left.split_off(PLAN_SPACE);
+        (answer, left == kept, rest)
     });
-    if one != other {
-        let (answer, other) = (one.1, other.1);
-        return Err(format!(
-            "{answer}, in the other version {other}; or other bytes"
-        ));
-    }
-    match one {
-        (true, answer, _) => Ok(Some(answer)),
+    match (one, other) {
+        ((answer, ..), (other, ..)) if answer != other => Err(format!(
+            "{answer}, with the plan in the other version {other}"
+        )),
+        ((_, true, rest), (_, true, other)) if rest != other => {
+            Err("another state with the plan in the other version".to_string())
+        }
+        ((answer, true, _), (_, true, _)) => Ok(Some(answer)),
         _ => Err("the plan has changed".to_string()),
     }
 }

@@ -93,7 +93,7 @@ pub fn in_other_version(plan: &Plan) -> Option<Plan> {
     })
 }
 
-/// Whether the channel would take the record if it had another mass.
+/// Whether nothing but its mass keeps the record off the channel.
 pub fn refuses_by_mass(channel: &Channel, record: &Record) -> bool {
     let open = Channel {
         window: Window::ALL,
@@ -135,7 +135,9 @@ fn deep(random: &mut Random) -> Plan {
     let sinks = random.between(3, 4) as usize;
     let entering = (0..sources).flat_map(|source| (sources..last).map(move |node| (source, node)));
     let between = (sources..last).map(|router| (router, last));
-    let before = entering.chain(between);
+    let before = entering
+        .chain(between)
+        .map(|(from, to)| Channel::between(from, to));
     let leaving = (last + 1..=last + sinks).map(|sink| {
         let modulus = random.pick(&[1, 2, 2, 3]);
         Channel {
@@ -145,7 +147,6 @@ fn deep(random: &mut Random) -> Plan {
             ..Channel::between(last, sink)
         }
     });
-    let before = before.map(|(sender, receiver)| Channel::between(sender, receiver));
     keeping(last + 1 + sinks, before.chain(leaving))
 }
 
@@ -162,7 +163,7 @@ fn net(random: &mut Random) -> Plan {
         .into_iter()
         .map(|(sender, receiver)| drawn_channel(random, kinds, sender, receiver));
     let mut plan = keeping(node_count, channels);
-    plan.rules.fill_with(|| drawn_rule(random));
+    plan.rules.fill_with(|| drawn_rule(random, 4, 8));
     plan
 }
 
@@ -190,14 +191,15 @@ fn drawn_ends(
     ends
 }
 
-fn drawn_rule(random: &mut Random) -> Rule {
-    match random.index(8) {
-        0 => Rule::Relabel {
-            from: random.index(4) as u8,
-            to: random.index(4) as u8,
-        },
+/// A relabel of one of so many materials, or a cap, each once in so many times.
+fn drawn_rule(random: &mut Random, materials: usize, times: usize) -> Rule {
+    let [from, to] = [(); 2].map(|()| random.index(materials) as u8);
+    let any = random.between(1, 65_535) as u16;
+    let near = random.pick(&MASSES[1..]);
+    match random.index(times) {
+        0 => Rule::Relabel { from, to },
         1 => Rule::Cap {
-            greatest: random.pick(&[1, 50, 100, 65_535]),
+            greatest: random.pick(&[any, near, near]),
         },
         _ => Rule::Keep,
     }
@@ -240,22 +242,9 @@ pub fn plan(random: &mut Random) -> Vec<u8> {
         channels.push(Channel::between(0, 1));
     }
     let mut plan = keeping(node_count, channels);
-    plan.rules.fill_with(|| any_rule(random));
+    plan.rules.fill_with(|| drawn_rule(random, 16, 3));
     sort_some_by_mass(random, &mut plan);
     plan.write()
-}
-
-fn any_rule(random: &mut Random) -> Rule {
-    match random.index(3) {
-        0 => Rule::Keep,
-        1 => Rule::Relabel {
-            from: random.index(16) as u8,
-            to: random.index(16) as u8,
-        },
-        _ => Rule::Cap {
-            greatest: random.between(1, 65_535) as u16,
-        },
-    }
 }
 
 pub fn mutate(random: &mut Random, bytes: &mut Vec<u8>) {
@@ -320,8 +309,7 @@ pub const CASES: [Case; 10] = [
     }),
     ("4 for a length of the other version", |bytes, plan| {
         let (nodes, channels) = (usize::from(bytes[3]), usize::from(bytes[4]));
-        let lengths =
-            [Version::First, Version::Second].map(|version| version.plan_length(nodes, channels));
+        let lengths = Version::ALL.map(|version| version.plan_length(nodes, channels));
         *plan == Err(PLAN_SIZE) && lengths.contains(&bytes.len())
     }),
     ("6 for a window alone", |bytes, plan| {

@@ -93,7 +93,9 @@ fn worked(program: &str, number: usize) -> Counts {
         work.compare(kind::MANY, &practice::many(random, shift));
     }
     for _ in share(1) {
-        work.compare(kind::MILLION, &practice::million(random));
+        // The sheet that is timed.
+        let million = practice::million(&mut Random::new(1));
+        work.compare(kind::MILLION, &million);
     }
     work.counts
 }

@@ -4,6 +4,7 @@ use std::collections::BTreeSet;
 
 use model::compare::{answer, under, Floor};
 use model::plan::practice::CASES;
+use model::plan::Version;
 use model::state::practice::{
     places, staged, Kind, CLAUSES, FEATURES, HARMLESS, SCRAMBLES, SHUFFLES,
 };
@@ -75,19 +76,12 @@ fn calls() -> Vec<Floor> {
     floors.extend(under(section::LOAD, 5_000, PLANS));
     floors.extend(under(section::LOAD, 5_000, LENGTHS));
     floors.extend(under(section::LOADED, 50, CASES.map(|(name, _)| name)));
-    let written_of = |answer| [1, 2].map(|version| written(answer, version));
-    let answers = [0, 8, 23];
-    floors.extend(under(
-        section::WRITE,
-        1_000,
-        answers.iter().copied().flat_map(written_of),
-    ));
+    let by_version = |answer| Version::ALL.map(|version| written(answer, version as u8));
+    let answers = [0, 8, 23].into_iter().flat_map(by_version);
+    floors.extend(under(section::WRITE, 1_000, answers));
     floors.extend(under(section::WRITE, 2_000, LENGTHS));
-    floors.extend(under(
-        section::WRITE_AGAIN,
-        500,
-        [0, 23].into_iter().flat_map(written_of),
-    ));
+    let answers = [0, 23].into_iter().flat_map(by_version);
+    floors.extend(under(section::WRITE_AGAIN, 500, answers));
     floors
 }
 

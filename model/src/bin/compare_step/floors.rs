@@ -73,9 +73,9 @@ pub fn all() -> Vec<Floor> {
         .iter()
         .flat_map(|caller| [true, false].map(|is| outcome(caller, is)));
     floors.extend(under(section::CALLERS, 20_000, outcomes));
-    let outcomes = [Version::First, Version::Second]
-        .into_iter()
-        .flat_map(|version| [true, false].map(|is| plan(version, is)));
+    let outcomes = Version::ALL
+        .iter()
+        .flat_map(|&version| [true, false].map(|is| plan(version, is)));
     floors.extend(under(section::PLANS, 100_000, outcomes));
     floors.extend(under(section::BOTH, 5_000, [true, false].map(both)));
     floors.extend(under(section::FROM_ALL, 1_000, FROM_ALL));

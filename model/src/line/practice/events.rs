@@ -111,10 +111,13 @@ pub const EVENTS: &[Event] = &[
             Table { items, ..table }.columns() != columns
         })
     }),
-    event("replay ended with a floor that a window lowers", |step| {
-        let tables = [step.last_table(|_| {}), step.last_table(open_windows)];
-        tables[0] != tables[1]
-    }),
+    event(
+        "replay ended with a record that is free by its mass",
+        |step| {
+            let tables = [step.last_table(|_| {}), step.last_table(open_windows)];
+            tables[0] != tables[1]
+        },
+    ),
     event("replay ended otherwise than without windows", |step| {
         let tables = [step.last_table(|_| {}), step.last_table(open_windows)];
         let [columns, without] = tables.map(|table| table.map(|table| table.columns()));
@@ -228,23 +231,17 @@ impl Stepped<'_> {
     /// record is before and after the node's rule.
     fn works(&self, is_such: fn(&Channel, &Record, &Record) -> bool) -> bool {
         let line = self.before;
-        let worked = match self.frame {
-            Frame::Feed { node, record } => {
-                Record::read(record).map(|record| (usize::from(node), record))
+        let (node, came) = match (self.frame, self.after) {
+            (Frame::Feed { node, record }, Ok(_)) => {
+                let record = Record::read(record).expect("an accepted record");
+                (usize::from(node), record)
             }
-            Frame::Take { channel } => {
-                line.plan
-                    .channels
-                    .get(usize::from(channel))
-                    .and_then(|ends| {
-                        let message = line.queues[usize::from(channel)].messages.first()?;
-                        Some((ends.receiver, message.record))
-                    })
+            (Frame::Take { channel }, Ok(_)) => {
+                let number = usize::from(channel);
+                let message = line.queues[number].messages[0];
+                (line.plan.channels[number].receiver, message.record)
             }
-            _ => None,
-        };
-        let (Some((node, came)), Ok(_)) = (worked, self.after) else {
-            return false;
+            _ => return false,
         };
         let made = line.plan.rules[node].apply(came);
         let mut leaving = line.plan.leaving(node);

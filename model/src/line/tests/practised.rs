@@ -78,7 +78,7 @@ fn practised_lines_stay_undamaged() {
         (2, "replay ended otherwise than without floors"),
         (20, "Take that drops a record for its mass alone"),
         (20, "a cap brings a record to the end of a window"),
-        (4, "replay ended with a floor that a window lowers"),
+        (4, "replay ended with a record that is free by its mass"),
     ] {
         assert!(seen.events[event] > least, "{event} too seldom: {seen:?}");
     }

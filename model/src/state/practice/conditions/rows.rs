@@ -81,15 +81,14 @@ pub const NOT_TAKEN: Clause = Clause {
         line("by the channels' windows", |random, line| {
             line.plan.version = Version::Second;
             turn_away(random, line, |random, channel, held| {
-                let (below, above) = (held.mass.checked_sub(1), held.mass.checked_add(1));
-                let is_below = above.is_none() || below.is_some() && random.one_in(2);
-                channel.window = match (below, above) {
-                    (Some(greatest), _) if is_below => Window { least: 0, greatest },
-                    (_, least) => Window {
-                        least: least.expect("no mass is least and greatest"),
-                        greatest: u16::MAX,
-                    },
-                };
+                let below = held.mass.checked_sub(1);
+                let below = below.map(|greatest| Window { least: 0, greatest });
+                let above = held.mass.checked_add(1).map(|least| Window {
+                    least,
+                    ..Window::ALL
+                });
+                let windows: Vec<Window> = below.into_iter().chain(above).collect();
+                channel.window = random.pick(&windows);
             })
         }),
     ],
@@ -100,17 +99,11 @@ pub const NOT_TAKEN: Clause = Clause {
 fn untaken_masses(line: &Line, node: usize, index: usize) -> Vec<u16> {
     let held = line.nodes[node].buffered[index].record;
     let is_taken = |mass| line.plan.passes_on(node, &Record { mass, ..held });
-    let windows = line.plan.leaving(node);
-    let windows = windows.map(|number| line.plan.channels[number].window);
-    windows
-        .flat_map(|window| {
-            [
-                window.least.wrapping_sub(1),
-                window.greatest.wrapping_add(1),
-            ]
-        })
-        .filter(|&mass| !is_taken(mass))
-        .collect()
+    let beside = line.plan.leaving(node).flat_map(|number| {
+        let Window { least, greatest } = line.plan.channels[number].window;
+        [least.wrapping_sub(1), greatest.wrapping_add(1)]
+    });
+    beside.filter(|&mass| !is_taken(mass)).collect()
 }
 
 /// Changes the channels that leave a replaying node so that none takes the first
