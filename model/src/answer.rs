@@ -9,11 +9,11 @@ pub const PLAN_LENGTH: u32 = 1;
 pub const PLAN_VERSION: u32 = 2;
 /// "N or M."
 pub const PLAN_COUNTS: u32 = 3;
-/// "Length is not 5 + 4N + 6M."
+/// "Length is not 5 + 4N + 6M", in version 2 10M.
 pub const PLAN_SIZE: u32 = 4;
 /// "Rule."
 pub const PLAN_RULE: u32 = 5;
-/// "Belt fields or order."
+/// "Belt fields or order", "a least mass above the greatest".
 pub const PLAN_CHANNEL: u32 = 6;
 /// "Over 4 belts in or out."
 pub const PLAN_DEGREE: u32 = 7;

@@ -1,10 +1,11 @@
 //! What the programs that compare the engine with the model have in common:
-//! lent buffers, the same step from every caller, and counts that have to reach
-//! their floors.
+//! lent buffers, the same step from every caller and with the plan in either
+//! version, and counts that have to reach their floors.
 
 mod callers;
 mod counts;
 mod lent;
+mod versions;
 
 use std::process::exit;
 use std::{env, fs};
@@ -12,6 +13,7 @@ use std::{env, fs};
 pub use callers::{from_all, FromAll};
 pub use counts::{answer, under, Counts, Floor};
 pub use lent::Lent;
+pub use versions::in_both_versions;
 
 /// What both give, or what went wrong.
 pub type Compared<T> = Result<T, String>;

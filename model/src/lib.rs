@@ -1,6 +1,6 @@
-//! A model of document 01 and request 2026-01, written from the papers alone,
-//! save that the bytes of a state lie as docs/LAYOUT.md says. The engine is
-//! executed and matched against it.
+//! A model of document 01 and requests 2026-01 and 2026-02, written from the
+//! papers alone, save that the bytes of a state lie as docs/LAYOUT.md says. The
+//! engine is executed and matched against it.
 
 pub mod answer;
 pub mod clock;

@@ -1,5 +1,5 @@
-//! Document 01, "The line": the plan, read and written by one layout, and
-//! which channel takes a record.
+//! Document 01, "The line", and request 2026-02: the plan, read and written by
+//! one layout, and which channel takes a record.
 
 pub mod practice;
 
@@ -9,6 +9,57 @@ use crate::answer::{
 use crate::record::Record;
 use crate::rule::Rule;
 
+/// "A plan of version 2 gives each belt a least and a greatest mass."
+#[derive(Clone, Copy, Debug, PartialEq, Eq)]
+pub enum Version {
+    First = 1,
+    Second = 2,
+}
+
+impl Version {
+    pub const ALL: [Version; 2] = [Version::First, Version::Second];
+
+    pub fn read(byte: u8) -> Option<Version> {
+        match byte {
+            1 => Some(Version::First),
+            2 => Some(Version::Second),
+            _ => None,
+        }
+    }
+
+    /// "M belts of 6"; in version 2 "a belt is 10 bytes".
+    pub fn channel_length(self) -> usize {
+        match self {
+            Version::First => 6,
+            Version::Second => 10,
+        }
+    }
+
+    /// 5 + 4N + 6M; in version 2 "check 4 counts 10M".
+    pub fn plan_length(self, node_count: usize, channel_count: usize) -> usize {
+        Plan::HEADER + Rule::LENGTH * node_count + self.channel_length() * channel_count
+    }
+}
+
+/// The masses that a channel takes; both ends belong to it.
+#[derive(Clone, Copy, Debug, PartialEq, Eq)]
+pub struct Window {
+    pub least: u16,
+    pub greatest: u16,
+}
+
+impl Window {
+    /// "A version 1 belt reads as 0..65535."
+    pub const ALL: Window = Window {
+        least: 0,
+        greatest: u16::MAX,
+    };
+
+    fn has(&self, mass: u16) -> bool {
+        self.least <= mass && mass <= self.greatest
+    }
+}
+
 /// The paper's belt.
 #[derive(Clone, Copy, Debug, PartialEq, Eq)]
 pub struct Channel {
@@ -17,61 +68,88 @@ pub struct Channel {
     pub mask: u16,
     pub modulus: u8,
     pub remainder: u8,
+    pub window: Window,
 }
 
 impl Channel {
-    pub const LENGTH: usize = 6;
-
-    /// "A belt: sender, receiver, mask (2 bytes), modulus 1..255, remainder
-    /// below the modulus. Sender < receiver < N, the mask is not 0."
-    pub fn read(bytes: [u8; Channel::LENGTH], node_count: usize) -> Option<Channel> {
-        let [sender, receiver, high, low, modulus, remainder] = bytes;
-        let channel = Channel {
-            sender: usize::from(sender),
-            receiver: usize::from(receiver),
-            mask: u16::from_be_bytes([high, low]),
-            modulus,
-            remainder,
-        };
-        let sound = channel.sender < channel.receiver
-            && channel.receiver < node_count
-            && channel.mask != 0
-            && channel.modulus >= 1
-            && channel.remainder < channel.modulus;
-        sound.then_some(channel)
+    /// It takes all records.
+    pub const fn between(sender: usize, receiver: usize) -> Channel {
+        Channel {
+            sender,
+            receiver,
+            mask: 0xFFFF,
+            modulus: 1,
+            remainder: 0,
+            window: Window::ALL,
+        }
     }
 
-    pub fn write(&self) -> [u8; Channel::LENGTH] {
-        let [high, low] = self.mask.to_be_bytes();
-        [
-            self.sender as u8,
-            self.receiver as u8,
-            high,
-            low,
-            self.modulus,
-            self.remainder,
-        ]
+    /// "A belt: sender, receiver, mask (2 bytes), modulus, remainder"; in version
+    /// 2 "a least and a greatest mass, 2 bytes each, after the remainder". Also of
+    /// a plan that would be refused.
+    #[inline]
+    pub fn spelled(version: Version, bytes: &[u8]) -> Channel {
+        let number = |at: usize| u16::from_be_bytes([bytes[at], bytes[at + 1]]);
+        Channel {
+            sender: usize::from(bytes[0]),
+            receiver: usize::from(bytes[1]),
+            mask: number(2),
+            modulus: bytes[4],
+            remainder: bytes[5],
+            window: match version {
+                Version::First => Window::ALL,
+                Version::Second => Window {
+                    least: number(6),
+                    greatest: number(8),
+                },
+            },
+        }
+    }
+
+    /// "Modulus 1..255, remainder below the modulus. Sender < receiver < N, the
+    /// mask is not 0." "A least mass above the greatest is 6."
+    pub fn is_sound(&self, node_count: usize) -> bool {
+        self.sender < self.receiver
+            && self.receiver < node_count
+            && self.mask != 0
+            && self.modulus >= 1
+            && self.remainder < self.modulus
+            && self.window.least <= self.window.greatest
+    }
+
+    fn write(&self, version: Version, bytes: &mut Vec<u8>) {
+        bytes.extend([self.sender as u8, self.receiver as u8]);
+        bytes.extend(self.mask.to_be_bytes());
+        bytes.extend([self.modulus, self.remainder]);
+        if version == Version::Second {
+            bytes.extend(self.window.least.to_be_bytes());
+            bytes.extend(self.window.greatest.to_be_bytes());
+        }
     }
 
     /// "A belt takes a record if mask bit `material` (bit 0 lowest) is set and
-    /// piece mod modulus = remainder, tested after the node's rule." The record
-    /// is one that the rule has been applied to.
+    /// piece mod modulus = remainder, tested after the node's rule", and "the
+    /// test gains this window". The record is one that the rule has been applied
+    /// to.
+    #[inline]
     pub fn takes(&self, record: &Record) -> bool {
         let wanted = 1 << record.material;
         self.mask & wanted != 0
+            && self.window.has(record.mass)
             && record.piece % u32::from(self.modulus) == u32::from(self.remainder)
     }
 }
 
 #[derive(Clone, Debug, PartialEq, Eq)]
 pub struct Plan {
+    /// "Write gives back the version that was loaded."
+    pub version: Version,
     /// One a node.
     pub rules: Vec<Rule>,
     pub channels: Vec<Channel>,
 }
 
 impl Plan {
-    pub const VERSION: u8 = 1;
     pub const HEADER: usize = 5;
     pub const LEAST_NODES: usize = 2;
     pub const MOST_NODES: usize = 12;
@@ -85,9 +163,7 @@ impl Plan {
         if bytes.len() < Plan::HEADER || bytes.len() != length_field(bytes) {
             return Err(PLAN_LENGTH);
         }
-        if bytes[2] != Plan::VERSION {
-            return Err(PLAN_VERSION);
-        }
+        let version = Version::read(bytes[2]).ok_or(PLAN_VERSION)?;
         let node_count = usize::from(bytes[3]);
         let channel_count = usize::from(bytes[4]);
         if !(Plan::LEAST_NODES..=Plan::MOST_NODES).contains(&node_count)
@@ -95,7 +171,7 @@ impl Plan {
         {
             return Err(PLAN_COUNTS);
         }
-        if bytes.len() != Plan::length(node_count, channel_count) {
+        if bytes.len() != version.plan_length(node_count, channel_count) {
             return Err(PLAN_SIZE);
         }
         let (rules, channels) = bytes[Plan::HEADER..].split_at(node_count * Rule::LENGTH);
@@ -103,15 +179,15 @@ impl Plan {
             .chunks_exact(Rule::LENGTH)
             .map(|bytes| Rule::read(bytes.try_into().expect("its length")))
             .collect();
-        let channels: Option<Vec<Channel>> = channels
-            .chunks_exact(Channel::LENGTH)
-            .map(|bytes| Channel::read(bytes.try_into().expect("its length"), node_count))
-            .collect();
+        let channels = channels.chunks_exact(version.channel_length());
         let plan = Plan {
+            version,
             rules: rules.ok_or(PLAN_RULE)?,
-            channels: channels.ok_or(PLAN_CHANNEL)?,
+            channels: channels
+                .map(|bytes| Channel::spelled(version, bytes))
+                .collect(),
         };
-        if !plan.channels_rise() {
+        if !plan.are_channels_sound() || !plan.channels_rise() {
             return Err(PLAN_CHANNEL);
         }
         if !plan.degrees_fit() {
@@ -120,22 +196,24 @@ impl Plan {
         Ok(plan)
     }
 
-    /// "Length of the whole plan (2 bytes), version 1, node count N 2..12, belt
-    /// count M 1..24; then N rules of 4 bytes, then M belts of 6."
+    /// "Length of the whole plan (2 bytes), version, node count N 2..12, belt
+    /// count M 1..24; then N rules of 4 bytes, then M belts."
     pub fn write(&self) -> Vec<u8> {
-        let length = Plan::length(self.rules.len(), self.channels.len());
+        let (node_count, channel_count) = (self.rules.len(), self.channels.len());
+        let length = self.version.plan_length(node_count, channel_count);
         let mut bytes = Vec::with_capacity(length);
         bytes.extend((length as u16).to_be_bytes());
-        bytes.push(Plan::VERSION);
-        bytes.push(self.rules.len() as u8);
-        bytes.push(self.channels.len() as u8);
+        bytes.extend([self.version as u8, node_count as u8, channel_count as u8]);
         bytes.extend(self.rules.iter().flat_map(Rule::write));
-        bytes.extend(self.channels.iter().flat_map(Channel::write));
+        for channel in &self.channels {
+            channel.write(self.version, &mut bytes);
+        }
         bytes
     }
 
-    fn length(node_count: usize, channel_count: usize) -> usize {
-        Plan::HEADER + Rule::LENGTH * node_count + Channel::LENGTH * channel_count
+    fn are_channels_sound(&self) -> bool {
+        let mut channels = self.channels.iter();
+        channels.all(|channel| channel.is_sound(self.node_count()))
     }
 
     /// "Belts rise strictly by sender then receiver."
@@ -206,8 +284,17 @@ mod tests {
     use super::*;
 
     fn plan_of(node_count: u8, channels: &[[u8; 6]]) -> Vec<u8> {
-        let length = 5 + 4 * usize::from(node_count) + 6 * channels.len();
-        let mut bytes = vec![0, length as u8, 1, node_count, channels.len() as u8];
+        bytes_of(1, node_count, channels)
+    }
+
+    fn bytes_of<const LENGTH: usize>(
+        version: u8,
+        node_count: u8,
+        channels: &[[u8; LENGTH]],
+    ) -> Vec<u8> {
+        let length = 5 + 4 * usize::from(node_count) + LENGTH * channels.len();
+        let [high, low] = (length as u16).to_be_bytes();
+        let mut bytes = vec![high, low, version, node_count, channels.len() as u8];
         bytes.extend(vec![0; 4 * usize::from(node_count)]);
         bytes.extend(channels.concat());
         bytes
@@ -217,11 +304,20 @@ mod tests {
         [sender, receiver, 255, 255, 1, 0]
     }
 
+    fn windowed(sender: u8, receiver: u8, window: [u8; 4]) -> [u8; 10] {
+        let [a, b, c, d] = window;
+        [sender, receiver, 255, 255, 1, 0, a, b, c, d]
+    }
+
+    fn answer(bytes: &[u8]) -> u32 {
+        Plan::read(bytes).err().unwrap_or(0)
+    }
+
     /// The answer to the plan with one byte changed.
     fn changed(bytes: &[u8], index: usize, byte: u8) -> u32 {
         let mut bytes = bytes.to_vec();
         bytes[index] = byte;
-        Plan::read(&bytes).err().unwrap_or(0)
+        answer(&bytes)
     }
 
     #[test]
@@ -245,7 +341,10 @@ mod tests {
         assert_eq!(Plan::read(&[]), Err(1));
         assert_eq!(changed(&bytes, 1, 18), 1);
         assert_eq!(changed(&bytes, 0, 1), 1);
-        assert_eq!(changed(&bytes, 2, 0), 2);
+        for version in [0, 3, 129, 255] {
+            assert_eq!(changed(&bytes, 2, version), 2);
+        }
+        assert_eq!(changed(&bytes, 2, 2), 4);
         assert_eq!(changed(&bytes, 3, 1), 3);
         assert_eq!(changed(&bytes, 3, 13), 3);
         assert_eq!(changed(&bytes, 4, 0), 3);
@@ -281,23 +380,87 @@ mod tests {
         assert_eq!(Plan::read(&bytes), Err(5));
     }
 
+    /// "A belt is 10 bytes and check 4 counts 10M."
     #[test]
-    fn taken_by_material_and_remainder() {
+    fn version_two() {
+        let bytes = bytes_of(2, 2, &[windowed(0, 1, [1, 2, 3, 4])]);
+        assert_eq!(bytes.len(), 23);
+        let plan = Plan::read(&bytes).unwrap();
+        let (least, greatest) = (0x0102, 0x0304);
+        assert_eq!(plan.channels[0].window, Window { least, greatest });
+        assert_eq!(plan.write(), bytes);
+        assert_eq!(changed(&bytes, 2, 1), 4);
+        assert_eq!(answer(&bytes_of(2, 2, &[edge(0, 1)])), 4);
+        let narrow = windowed(0, 1, [0; 4]);
+        assert_eq!(answer(&bytes_of(1, 2, &[narrow])), 4);
+        let most: Vec<[u8; 10]> = (0..12)
+            .flat_map(|sender| [1, 2, 3].map(|step| windowed(sender, sender + step, [0; 4])))
+            .filter(|channel| channel[1] < 12)
+            .take(24)
+            .collect();
+        let longest = bytes_of(2, 12, &most);
+        assert_eq!((longest.len(), answer(&longest)), (293, 0));
+    }
+
+    /// "A version 1 belt reads as 0..65535."
+    #[test]
+    fn version_one_has_all_masses() {
+        let first = Plan::read(&plan_of(3, &[edge(0, 1), edge(1, 2)])).unwrap();
+        let all = [0, 0, 255, 255];
+        let second = [windowed(0, 1, all), windowed(1, 2, all)];
+        let second = Plan::read(&bytes_of(2, 3, &second)).unwrap();
+        assert_eq!(first.channels, second.channels);
+        assert_eq!(first.rules, second.rules);
+        assert_ne!(first, second);
+    }
+
+    /// "A least mass above the greatest is 6", before 7 and after 5.
+    #[test]
+    fn least_above_greatest() {
+        for (window, expected) in [
+            ([0, 5, 0, 5], 0),
+            ([0, 6, 0, 5], 6),
+            ([1, 0, 0, 255], 6),
+            ([0, 255, 1, 0], 0),
+            ([255, 255, 255, 255], 0),
+            ([255, 255, 255, 254], 6),
+            ([0, 0, 0, 0], 0),
+        ] {
+            let bytes = bytes_of(2, 2, &[windowed(0, 1, window)]);
+            assert_eq!(answer(&bytes), expected, "{window:?}");
+            assert_eq!(changed(&bytes, 5, 3), 5);
+        }
+        let all = [0, 0, 255, 255];
+        let mut out: Vec<[u8; 10]> = (1..=5).map(|receiver| windowed(0, receiver, all)).collect();
+        assert_eq!(answer(&bytes_of(2, 6, &out)), 7);
+        out[4] = windowed(0, 5, [0, 1, 0, 0]);
+        assert_eq!(answer(&bytes_of(2, 6, &out)), 6);
+    }
+
+    #[test]
+    fn taken_by_material_remainder_and_mass() {
         let channel = Channel {
-            sender: 0,
-            receiver: 1,
             mask: 0x8001,
             modulus: 3,
             remainder: 2,
+            window: Window {
+                least: 50,
+                greatest: 100,
+            },
+            ..Channel::between(0, 1)
         };
-        let takes = |piece, material| {
+        let takes = |piece, material, mass| {
             channel.takes(&Record {
                 piece,
                 material,
-                mass: 0,
+                mass,
             })
         };
-        assert!(takes(2, 0) && takes(5, 15));
-        assert!(!takes(3, 0) && !takes(2, 1));
+        assert!(takes(2, 0, 75) && takes(5, 15, 75));
+        assert!(!takes(3, 0, 75) && !takes(2, 1, 75));
+        // Both ends belong to the window.
+        assert!(takes(2, 0, 50) && takes(2, 0, 100));
+        assert!(!takes(2, 0, 49) && !takes(2, 0, 101));
+        assert!(!takes(2, 0, 0) && !takes(2, 0, 65535));
     }
 }

@@ -52,7 +52,7 @@ pub fn sheet_in_place(input: &[u8]) -> Vec<u8> {
 
 /// The plan and the frames. "The plan is as long as its length field says, or all
 /// there is."
-fn parts(input: &[u8]) -> (&[u8], &[u8]) {
+pub fn parts(input: &[u8]) -> (&[u8], &[u8]) {
     if input.len() < 2 {
         (input, &[])
     } else {

@@ -14,7 +14,7 @@ pub use reading::read_line;
 pub use writing::line_bytes;
 
 use crate::answer::{ACCEPTED, SHORT_OUTPUT, STATE};
-use crate::line::{damaged, Line};
+use crate::line::{damaged, stepped, Line};
 
 /// 0 or 8: "state not 61,440 bytes, or damaged".
 pub fn check(state: &[u8]) -> u32 {
@@ -41,6 +41,18 @@ pub fn load(plan: &[u8], state: &mut [u8]) -> u32 {
     }
     state.copy_from_slice(&line_bytes(&line));
     ACCEPTED
+}
+
+/// "Step 8 to 21 and then 24", with 25 after 11.
+pub fn step(state: &mut [u8], frame: &[u8]) -> u32 {
+    let line = undamaged(state).ok_or(STATE);
+    match line.and_then(|line| stepped(&line, frame)) {
+        Ok(line) => {
+            state.copy_from_slice(&line_bytes(&line));
+            ACCEPTED
+        }
+        Err(refusal) => refusal,
+    }
 }
 
 /// "Write 8 and 23": writes the plan that was loaded and leaves the bytes past

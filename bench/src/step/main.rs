@@ -120,4 +120,8 @@ fn main() {
     row("Take that ends with 64 records", &ending, from(3, &ending));
     let by_rows = staged::holding_by_rows(Line::MOST_TARGETS - 1);
     row("the same, taken row by row", &by_rows, from(3, &by_rows));
+    // The same lines as those above.
+    row("Feed, plan of version 2", &staged::by_mass(nearly), feed);
+    let take = from(3, &ending);
+    row("Take that ends, version 2", &staged::by_mass(ending), take);
 }

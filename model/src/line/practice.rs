@@ -1,4 +1,4 @@
-//! Random plans and frames: mostly accepted, with many crashes and replays.
+//! Random frames: mostly accepted, with many crashes and replays.
 
 mod disturb;
 mod events;
@@ -12,134 +12,15 @@ pub use frames::{caller, cut_frames, every_frame, random_frames, stray};
 pub use late::{age, drawn_steps, greatest_time, make_late, reach, share_steps};
 pub use torn::torn;
 
-use std::collections::BTreeSet;
-
 use super::{stepped, Frame, Line, Status};
 use crate::answer::{ACCEPTED, ROW_COMPLETE, STEPS_USED_UP};
-use crate::plan::{Channel, Plan};
+use crate::plan::practice::MASSES;
 use crate::random::Random;
 use crate::record::Record;
-use crate::rule::Rule;
 
 /// How often a kind of frame, and then its place, is drawn anew in the hope of
 /// one that is accepted.
 const DRAWS: usize = 8;
-
-/// In most cases with a node whose crash can lead to a replay: one with parents
-/// and two children.
-pub fn any_plan(random: &mut Random) -> Plan {
-    loop {
-        let plan = drawn_plan(random);
-        let mut routers = (0..plan.node_count()).filter(|&node| !plan.is_source(node));
-        if routers.any(|node| plan.leaving(node).count() >= 2) || random.one_in(32) {
-            return plan;
-        }
-    }
-}
-
-fn drawn_plan(random: &mut Random) -> Plan {
-    if random.one_in(2) {
-        fan(random)
-    } else {
-        net(random)
-    }
-}
-
-/// Sources, a router and three or four sinks, each of which takes a few
-/// materials only: the router's children part ways so far that free records and
-/// floors come up in its replays.
-fn fan(random: &mut Random) -> Plan {
-    let sources = random.between(2, 4) as usize;
-    let sinks = random.between(3, 4) as usize;
-    let entering = (0..sources).map(|source| (source, sources, 0xFFFF));
-    let leaving = (1..=sinks).map(|sink| {
-        let mask = 1 << random.index(4) | 1 << random.index(4);
-        (sources, sources + sink, mask)
-    });
-    let channels = entering
-        .chain(leaving)
-        .map(|(sender, receiver, mask)| Channel {
-            sender,
-            receiver,
-            mask,
-            modulus: 1,
-            remainder: 0,
-        });
-    Plan {
-        rules: vec![Rule::Keep; sources + 1 + sinks],
-        channels: channels.collect(),
-    }
-}
-
-/// Any nodes and channels between them.
-fn net(random: &mut Random) -> Plan {
-    let most_nodes = random.pick(&[5, 8, Plan::MOST_NODES as u32]);
-    let node_count = random.between(Plan::LEAST_NODES as u32, most_nodes) as usize;
-    let most_channels = random.pick(&[2 * most_nodes, Plan::MOST_CHANNELS as u32]);
-    let wanted = random.between(1, most_channels) as usize;
-    let reach = random.pick(&[1, 2, 3, Plan::MOST_NODES]);
-    let ends = drawn_ends(random, node_count, wanted, reach);
-    let kinds = random.pick(&[1, 2, 3]);
-    Plan {
-        rules: (0..node_count).map(|_| drawn_rule(random)).collect(),
-        channels: ends
-            .into_iter()
-            .map(|(sender, receiver)| drawn_channel(random, kinds, sender, receiver))
-            .collect(),
-    }
-}
-
-/// Senders and receivers, rising, no more at a node than it may have.
-fn drawn_ends(
-    random: &mut Random,
-    node_count: usize,
-    wanted: usize,
-    reach: usize,
-) -> BTreeSet<(usize, usize)> {
-    let mut ends = BTreeSet::new();
-    let mut entering = vec![0; node_count];
-    let mut leaving = vec![0; node_count];
-    for _ in 0..4 * wanted {
-        let sender = random.index(node_count - 1);
-        let receiver = sender + 1 + random.index(reach.min(node_count - 1 - sender));
-        let fits = leaving[sender] < Plan::MOST_AT_A_NODE
-            && entering[receiver] < Plan::MOST_AT_A_NODE
-            && ends.len() < wanted;
-        if fits && ends.insert((sender, receiver)) {
-            leaving[sender] += 1;
-            entering[receiver] += 1;
-        }
-    }
-    ends
-}
-
-fn drawn_rule(random: &mut Random) -> Rule {
-    match random.index(8) {
-        0 => Rule::Relabel {
-            from: random.index(4) as u8,
-            to: random.index(4) as u8,
-        },
-        1 => Rule::Cap {
-            greatest: random.pick(&[1, 50, 100, 65535]),
-        },
-        _ => Rule::Keep,
-    }
-}
-
-/// `kinds` materials are told apart, besides those that every channel takes.
-fn drawn_channel(random: &mut Random, kinds: u32, sender: usize, receiver: usize) -> Channel {
-    let few = random.between(1, (1 << (kinds + 1)) - 1) as u16;
-    let many = random.between(1, 0xFFFF) as u16;
-    let mask = random.pick(&[0xFFFF, 0xFFFF, few, few, few, few, few, many]);
-    let modulus = random.pick(&[1, 1, 1, 1, 1, 2, 3, 255]);
-    Channel {
-        sender,
-        receiver,
-        mask,
-        modulus,
-        remainder: random.index(usize::from(modulus.min(3))) as u8,
-    }
-}
 
 /// What is done on a line, and how often.
 pub struct Practice {
@@ -242,7 +123,7 @@ fn drawn_record(random: &mut Random, piece: u32) -> Record {
     Record {
         piece,
         material: random.pick(&[0, 0, 1, 1, 2, 2, 3, 15]),
-        mass: random.pick(&[0, 1, 49, 50, 51, 99, 100, 101, 65535]),
+        mass: random.pick(&MASSES),
     }
 }
 

@@ -7,6 +7,8 @@ mod refusals;
 
 use super::*;
 use crate::plain::{Act, PlainLine};
+use crate::plan::practice::keeping;
+use crate::plan::{Channel, Version};
 
 fn feed(node: u8, piece: u32, material: u8) -> Vec<u8> {
     let record = Record {
@@ -55,19 +57,11 @@ fn refuse(line: &Line, frame: &[u8]) -> u32 {
 
 /// Rules keep; channels are sender, receiver and mask.
 fn line_of(node_count: usize, channels: &[(usize, usize, u16)]) -> Line {
-    let plan = Plan {
-        rules: vec![crate::rule::Rule::Keep; node_count],
-        channels: channels
-            .iter()
-            .map(|&(sender, receiver, mask)| crate::plan::Channel {
-                sender,
-                receiver,
-                mask,
-                modulus: 1,
-                remainder: 0,
-            })
-            .collect(),
-    };
+    let channels = channels.iter().map(|&(sender, receiver, mask)| Channel {
+        mask,
+        ..Channel::between(sender, receiver)
+    });
+    let plan = keeping(node_count, channels);
     Line::load(&plan.write()).expect("an accepted plan")
 }
 
@@ -239,6 +233,23 @@ fn rules_on_the_way() {
     accept(&mut line, &[take(0), send(1), take(1)]);
     assert_eq!(line.nodes[1].log[0].message.record.material, 2);
     assert_eq!(line.nodes[2].log[0].message.record.mass, 99);
+}
+
+/// The window is asked of what the cap leaves: the heavy piece goes where 100 does.
+#[test]
+fn window_after_the_cap() {
+    let mut line = line_of(3, &[(0, 1, 0xFFFF), (0, 2, 0xFFFF)]);
+    line.plan.version = Version::Second;
+    line.plan.rules[0] = crate::rule::Rule::Cap { greatest: 100 };
+    line.plan.channels[0].window.greatest = 100;
+    line.plan.channels[1].window.least = 101;
+    accept(&mut line, &[feed(0, 1, 0), send(0), take(0)]);
+    assert_eq!(line.nodes[1].log[0].message.record.mass, 100);
+    assert_eq!(refuse(&line, &send(1)), 18);
+    line.plan.channels[0].window.greatest = 99;
+    line.plan.channels[1].window.least = 100;
+    accept(&mut line, &[feed(0, 2, 0), send(1), send(1)]);
+    assert_eq!(refuse(&line, &send(0)), 18);
 }
 
 /// A router crashes again while it replays, and ends as if it had not.

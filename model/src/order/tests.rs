@@ -1,7 +1,9 @@
 use super::*;
 use crate::answer::{ACCEPTED, NO_REPLAY};
-use crate::line::practice::{any_plan, caller, Practice};
+use crate::line::practice::{caller, Practice};
 use crate::line::{damaged, step};
+use crate::plan::practice::any_plan;
+use crate::plan::Version;
 use crate::random::Random;
 
 /// Passes a frame; tells the order of an accepted one.
@@ -38,11 +40,13 @@ fn drain(random: &mut Random, line: &mut Line, order: &mut Order) {
 #[test]
 fn order_of_received_records() {
     let mut random = Random::new(11);
-    let mut quiet_ends = 0;
-    let mut ended_replays = 0;
-    let mut crashes_while_replaying = 0;
+    // By the version of the plan.
+    let mut quiet_ends = [0; 2];
+    let mut ended_replays = [0; 2];
+    let mut crashes_while_replaying = [0; 2];
     for _ in 0..600 {
         let mut line = Line::of(any_plan(&mut random));
+        let version = usize::from(line.plan.version == Version::Second);
         let mut order = Order::new(&line.plan);
         let mut practice = Practice::new(&mut random);
         for _ in 0..random.between(20, 250) {
@@ -54,8 +58,8 @@ fn order_of_received_records() {
             for node in 0..line.nodes.len() {
                 if replaying(&before, node) && !replaying(&line, node) {
                     match line.nodes[node].status {
-                        Status::Up => ended_replays += 1,
-                        _ => crashes_while_replaying += 1,
+                        Status::Up => ended_replays[version] += 1,
+                        _ => crashes_while_replaying[version] += 1,
                     }
                 }
             }
@@ -67,10 +71,13 @@ fn order_of_received_records() {
         drain(&mut random, &mut line, &mut order);
         assert!(order.holds(&line), "{:?}", line.plan);
         assert!(!damaged(&line));
-        quiet_ends += usize::from(is_quiet(&line));
+        quiet_ends[version] += usize::from(is_quiet(&line));
     }
-    println!("{quiet_ends} quiet, {ended_replays} ended, {crashes_while_replaying} crashed");
-    assert!(quiet_ends > 200, "{quiet_ends}");
-    assert!(ended_replays > 200, "{ended_replays}");
-    assert!(crashes_while_replaying > 50, "{crashes_while_replaying}");
+    println!("{quiet_ends:?} quiet, {ended_replays:?} ended, {crashes_while_replaying:?} crashed");
+    for version in 0..2 {
+        assert!(quiet_ends[version] > 100, "{quiet_ends:?}");
+        assert!(ended_replays[version] > 100, "{ended_replays:?}");
+        let crashes = crashes_while_replaying[version];
+        assert!(crashes > 25, "{crashes_while_replaying:?}");
+    }
 }

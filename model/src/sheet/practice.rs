@@ -4,10 +4,10 @@ use super::length_field;
 use crate::answer::FRAME_LENGTH;
 use crate::line::practice::{every_frame, random_frames};
 use crate::line::{step, Frame, Line};
-use crate::plan::practice::{mutate, noise, plan};
+use crate::plan::practice::{any_plan, mutate, noise, plan};
 use crate::plan::Plan;
 use crate::random::Random;
-use crate::state::practice::{any_plan, play, play_to_the_end, replay_on, staged, Played};
+use crate::state::practice::{play, play_to_the_end, replay_on, staged, Played};
 
 /// More than a block or a two-byte number counts.
 const MANY_FRAMES: usize = 70_000;
@@ -84,14 +84,17 @@ pub fn slipped(random: &mut Random) -> Vec<u8> {
     sheet
 }
 
-/// Random bytes, all of them or those behind a plan.
+/// Random bytes, all of them or those behind a plan, which may be mutated.
 pub fn raw(random: &mut Random) -> Vec<u8> {
     let mut sheet = match random.index(5) {
         0 => Vec::new(),
         1 => noise(random),
-        2 => plan(random),
+        2 | 3 => plan(random),
         _ => any_plan(random).write(),
     };
+    if sheet.len() > Plan::HEADER && random.one_in(2) {
+        mutate(random, &mut sheet);
+    }
     for _ in 0..random.index(8) {
         let length = random.pick(&[1, 5, 100]);
         let part = match random.index(3) {

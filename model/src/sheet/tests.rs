@@ -2,8 +2,9 @@ use std::path::Path;
 use std::time::Instant;
 
 use super::*;
-use crate::line::practice::{any_plan, Practice};
-use crate::plan::Plan;
+use crate::line::practice::Practice;
+use crate::plan::practice::{any_plan, keeping};
+use crate::plan::{Channel, Plan};
 use crate::random::Random;
 
 /// P1: "Plan .., frames .. print".
@@ -56,9 +57,12 @@ fn refused_plans() {
     for plan in [&[][..], &[0], &[0, 0], &[0, 4, 1, 2, 1], &[0, 19, 1]] {
         assert_eq!(written(&[plan]), "LINE 1\nA 0 1\n");
     }
-    let mut version = PLAN;
-    version[2] = 2;
-    assert_eq!(written(&[&version, &[0, 5, 1, 2, 0]]), "LINE 1\nA 0 2\n");
+    for (version, answer) in [(0, 2), (2, 4), (3, 2)] {
+        let mut plan = PLAN;
+        plan[2] = version;
+        let refused = format!("LINE 1\nA 0 {answer}\n");
+        assert_eq!(written(&[&plan, &[0, 5, 1, 2, 0]]), refused);
+    }
 }
 
 #[test]
@@ -88,19 +92,9 @@ fn cut_frames() {
 
 #[test]
 fn clock_of_three_layers() {
-    let line = Line::of(Plan {
-        rules: vec![crate::rule::Rule::Keep; 5],
-        channels: [(0, 2), (1, 2), (1, 3), (2, 3), (3, 4)]
-            .iter()
-            .map(|&(sender, receiver)| crate::plan::Channel {
-                sender,
-                receiver,
-                mask: 1,
-                modulus: 1,
-                remainder: 0,
-            })
-            .collect(),
-    });
+    let ends = [(0, 2), (1, 2), (1, 3), (2, 3), (3, 4)];
+    let channels = ends.map(|(sender, receiver)| Channel::between(sender, receiver));
+    let line = Line::of(keeping(5, channels));
     let mut text = Vec::new();
     list_clock(&mut text, &line.nodes[3].clock);
     assert_eq!(text, b"3:0[1:0 2:0[0:0 1:0]]");
@@ -114,7 +108,7 @@ fn kept_sheets() {
     let folder = Path::new(env!("CARGO_MANIFEST_DIR")).join("vectors/sheets");
     let checked = vectors::check_folder(&folder).unwrap();
     assert!(checked.wrong.is_empty(), "{:?}", checked.wrong);
-    assert_eq!(checked.sheets(), 110);
+    assert_eq!(checked.sheets(), 138);
 }
 
 /// Twelve nodes, 500 frames: well under 50 ms.

@@ -16,9 +16,10 @@ pub use step::{step, step_unchecked};
 use std::array::from_fn;
 
 use super::layout::*;
+use super::reading::read_record;
 use crate::answer::{ACCEPTED, STATE};
 use crate::line::Line;
-use crate::plan::Plan;
+use crate::plan::{Channel, Plan};
 use crate::record::MATERIALS;
 use shape::Shape;
 

@@ -19,7 +19,7 @@ pub use conditions::CLAUSES;
 pub use features::FEATURES;
 pub use harmless::HARMLESS;
 pub use places::{places, Place};
-pub use runs::{any_plan, any_record, call, lines, play, play_to_the_end, replay_on, Played};
+pub use runs::{any_record, call, lines, play, play_to_the_end, replay_on, Played};
 pub use scrambles::SCRAMBLES;
 pub use slots::SHUFFLES;
 
@@ -82,7 +82,8 @@ pub fn damaged(random: &mut Random, lines: &[Line], visit: Visit) {
 /// less, for the smaller ones also set to its edges.
 pub fn staged(random: &mut Random, visit: Visit) {
     let small = [staged::fresh(), staged::mixed()].map(|line| (line, true));
-    let large = [staged::full(), staged::replaying()].map(|line| (line, false));
+    let longest = staged::by_mass(staged::full());
+    let large = [staged::full(), longest, staged::replaying()].map(|line| (line, false));
     for (line, is_small) in small.into_iter().chain(large) {
         reached(&line, visit);
         made_of(random, &line, visit);

@@ -124,7 +124,7 @@ fn read_target(slot: &[u8]) -> Target {
 }
 
 /// Also of a material that no record has: that is a damage of its own.
-fn read_record(slot: &[u8]) -> Record {
+pub fn read_record(slot: &[u8]) -> Record {
     Record {
         piece: number_at(slot, PIECE),
         material: slot[MATERIAL],

@@ -2,12 +2,14 @@
 
 use model::compare::{answer, under, Floor};
 use model::line::Caller;
+use model::plan::practice::CASES;
 use model::sheet::practice::SHIFTS;
 
 /// What the rows stand under.
 pub mod section {
     pub const SHEETS: &str = "sheets";
     pub const PIECES: &str = "passed to the program";
+    pub const PLANS: &str = "sheets with plans as long as their field says";
     pub const ANSWERS: &str = "answers";
     pub const CALLERS: &str = "accepted frames, by who sends them";
     pub const LINES: &str = "lines of nodes";
@@ -35,6 +37,7 @@ pub const PIECES: [(&str, usize); 5] = [
     ("in pieces of 4,096 bytes", 4_096),
 ];
 
+pub const IN_BOTH: &str = "written alike with the plan in the other version";
 pub const AFTER_ANOTHERS_LAST: &str = "after 12 from another console";
 
 /// Lines of the text, by the first that they are.
@@ -72,11 +75,13 @@ pub fn all() -> Vec<Floor> {
         ],
     );
     floors.extend(under(section::SHEETS, 200, [kind::LIMITS, kind::LONG]));
-    floors.extend(under(section::SHEETS, 120, [kind::KEPT]));
+    floors.extend(under(section::SHEETS, 150, [kind::KEPT]));
     floors.extend(under(section::SHEETS, SHIFTS, [kind::MANY]));
     floors.extend(under(section::SHEETS, 1, [kind::MILLION]));
     floors.extend(under(section::PIECES, 20_000, [WHOLE]));
     floors.extend(under(section::PIECES, 1_000, PIECES.map(|(name, _)| name)));
+    floors.extend(under(section::PLANS, 5, CASES.map(|(name, _)| name)));
+    floors.extend(under(section::PLANS, 1_000, [IN_BOTH]));
     floors.extend(under(section::ANSWERS, 1_000_000, [0].map(answer)));
     floors.extend(under(
         section::ANSWERS,

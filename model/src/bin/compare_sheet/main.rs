@@ -12,11 +12,13 @@ use std::{env, fs, io, thread};
 use model::answer::{ACCEPTED, STEPS_USED_UP};
 use model::compare::{self, answer, Counts};
 use model::line::Frame;
+use model::plan::practice::{cases, in_other_version};
+use model::plan::Plan;
 use model::random::Random;
 use model::sheet::vectors::answers;
-use model::sheet::{practice, sheet_in_place, sheet_told};
+use model::sheet::{parts, practice, sheet, sheet_in_place, sheet_told};
 
-use floors::{kind, line, section, AFTER_ANOTHERS_LAST, PIECES, WHOLE};
+use floors::{kind, line, section, AFTER_ANOTHERS_LAST, IN_BOTH, PIECES, WHOLE};
 
 /// Each has its share of the sheets.
 const WORKERS: usize = 2;
@@ -29,6 +31,8 @@ const LONG: usize = 400;
 /// Short sheets: each is cut at every byte and has its length fields changed.
 const SHORT: usize = 60;
 const SHORT_LENGTH: usize = 160;
+/// One sheet in so many is also passed with its plan in the other version.
+const IN_OTHER: usize = 4;
 /// No made-up sheet is passed in more pieces than these.
 const MOST_PIECES: usize = 1_300;
 
@@ -89,7 +93,9 @@ fn worked(program: &str, number: usize) -> Counts {
         work.compare(kind::MANY, &practice::many(random, shift));
     }
     for _ in share(1) {
-        work.compare(kind::MILLION, &practice::million(random));
+        // The sheet that is timed.
+        let million = practice::million(&mut Random::new(1));
+        work.compare(kind::MILLION, &million);
     }
     work.counts
 }
@@ -154,14 +160,39 @@ impl Work<'_> {
             compare::fail(kind, "the model's two sheets differ", input);
         }
         for (name, piece) in [(WHOLE, usize::MAX)].into_iter().chain(pieces) {
-            match program::written(self.program, input, piece) {
-                Ok(written) if written == text => self.counts.add(section::PIECES, name),
-                Ok(_) => compare::fail(kind, &format!("{name}: another text"), input),
-                Err(error) => compare::fail(kind, &format!("{name}: {error}"), input),
-            }
+            self.pass(kind, input, name, piece, &text);
+            self.counts.add(section::PIECES, name);
         }
         self.counts.add(section::SHEETS, kind);
+        for case in cases(parts(input).0) {
+            self.counts.add(section::PLANS, case);
+        }
+        if self.passed % IN_OTHER == 0 {
+            self.compare_in_other_version(kind, input, &text);
+        }
         self.count_lines(&text);
+    }
+
+    fn pass(&self, kind: &str, input: &[u8], name: &str, piece: usize, text: &[u8]) {
+        match program::written(self.program, input, piece) {
+            Ok(written) if written == text => {}
+            Ok(_) => compare::fail(kind, &format!("{name}: another text"), input),
+            Err(error) => compare::fail(kind, &format!("{name}: {error}"), input),
+        }
+    }
+
+    /// The same text, where both versions can say the plan.
+    fn compare_in_other_version(&mut self, kind: &str, input: &[u8], text: &[u8]) {
+        let (plan, frames) = parts(input);
+        let other = Plan::read(plan).ok().as_ref().and_then(in_other_version);
+        if let Some(other) = other {
+            let input = [&other.write(), frames].concat();
+            if sheet(&input) != text {
+                compare::fail(kind, "the model's sheets differ in both versions", &input);
+            }
+            self.pass(kind, &input, IN_BOTH, usize::MAX, text);
+            self.counts.add(section::PLANS, IN_BOTH);
+        }
     }
 
     fn count_frame(&mut self, frame: &[u8], answer: u32, is_one_used_up: bool) {

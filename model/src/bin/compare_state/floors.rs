@@ -3,6 +3,8 @@
 use std::collections::BTreeSet;
 
 use model::compare::{answer, under, Floor};
+use model::plan::practice::CASES;
+use model::plan::Version;
 use model::state::practice::{
     places, staged, Kind, CLAUSES, FEATURES, HARMLESS, SCRAMBLES, SHUFFLES,
 };
@@ -73,10 +75,19 @@ fn calls() -> Vec<Floor> {
     let mut floors = under(section::LOAD, 500, (0..=8).map(answer));
     floors.extend(under(section::LOAD, 5_000, PLANS));
     floors.extend(under(section::LOAD, 5_000, LENGTHS));
-    floors.extend(under(section::WRITE, 2_000, [0, 8, 23].map(answer)));
+    floors.extend(under(section::LOADED, 50, CASES.map(|(name, _)| name)));
+    let by_version = |answer| Version::ALL.map(|version| written(answer, version as u8));
+    let answers = [0, 8, 23].into_iter().flat_map(by_version);
+    floors.extend(under(section::WRITE, 1_000, answers));
     floors.extend(under(section::WRITE, 2_000, LENGTHS));
-    floors.extend(under(section::WRITE_AGAIN, 1_000, [0, 23].map(answer)));
+    let answers = [0, 23].into_iter().flat_map(by_version);
+    floors.extend(under(section::WRITE_AGAIN, 500, answers));
     floors
+}
+
+/// The answer to Write, by the version of the plan.
+pub fn written(given: u32, version: u8) -> String {
+    format!("{}, version {version}", answer(given))
 }
 
 pub fn outcome(kind: Kind, is_accepted: bool) -> String {

@@ -5,7 +5,7 @@ use std::hash::{DefaultHasher, Hash, Hasher};
 
 use model::compare::{self, Counts};
 use model::line::Line;
-use model::plan::practice::{mutate, noise, plan};
+use model::plan::practice::{cases, mutate, noise, plan};
 use model::random::Random;
 use model::state::practice::{self, lines, play_to_the_end, staged, Case, Kind, FEATURES};
 use model::state::{line_bytes, read_line, LENGTH};
@@ -119,6 +119,9 @@ impl Run {
             .unwrap_or_else(|wrong| fail(seed, "Load", &wrong, &plan));
         self.counts.add(section::LOAD, compare::answer(left.answer));
         self.counts.add(section::LOAD, beside(length, LENGTH));
+        for case in cases(&plan) {
+            self.counts.add(section::LOADED, case);
+        }
         if left.answer == 0 {
             self.write_again(seed, &mut random, &left.bytes, &plan);
         }
@@ -155,8 +158,8 @@ impl Run {
         if left.bytes != expected || (left.answer == 0) != has_room {
             fail(seed, "Write", "not the plan that was loaded", state);
         }
-        let answer = compare::answer(left.answer);
-        self.counts.add(section::WRITE_AGAIN, answer);
+        let row = floors::written(left.answer, plan[2]);
+        self.counts.add(section::WRITE_AGAIN, row);
     }
 
     /// The line's plan, also of a damaged state.
@@ -171,8 +174,8 @@ impl Run {
         let needed = line.plan.write().len();
         let before = output(random, needed);
         let left = self.write(seed, &state, &before);
-        self.counts
-            .add(section::WRITE, compare::answer(left.answer));
+        let row = floors::written(left.answer, line.plan.version as u8);
+        self.counts.add(section::WRITE, row);
         self.counts
             .add(section::WRITE, beside(before.len(), needed));
     }

@@ -8,5 +8,6 @@ pub const FIELDS: &str = "one field changed";
 pub const SHUFFLES: &str = "slots and blocks moved";
 pub const SCRAMBLES: &str = "random bytes";
 pub const LOAD: &str = "Load";
+pub const LOADED: &str = "Load of plans as long as their field says";
 pub const WRITE: &str = "Write";
 pub const WRITE_AGAIN: &str = "Write of what the engine has loaded";

@@ -5,6 +5,7 @@ use std::fmt::Display;
 use model::compare::{answer, under, Floor};
 use model::line::practice::EVENTS;
 use model::line::{Caller, Frame};
+use model::plan::Version;
 use model::state::practice::{Kind, HARMLESS};
 
 /// What the rows stand under.
@@ -15,6 +16,8 @@ pub mod section {
     pub const VERSIONS: &str = "frames as long as their field says, by the version byte";
     pub const KINDS: &str = "frames of the right form on undamaged states";
     pub const CALLERS: &str = "the same, by who sends them";
+    pub const PLANS: &str = "the same, by the version of the plan";
+    pub const BOTH: &str = "the same step with the plan in either version";
     pub const FROM_ALL: &str = "the same step from every caller";
     pub const EVENTS: &str = "what steps do and why they are refused";
     pub const HARMLESS: &str = "undamaged states that no run leads to, each with every frame";
@@ -70,6 +73,11 @@ pub fn all() -> Vec<Floor> {
         .iter()
         .flat_map(|caller| [true, false].map(|is| outcome(caller, is)));
     floors.extend(under(section::CALLERS, 20_000, outcomes));
+    let outcomes = Version::ALL
+        .iter()
+        .flat_map(|&version| [true, false].map(|is| plan(version, is)));
+    floors.extend(under(section::PLANS, 100_000, outcomes));
+    floors.extend(under(section::BOTH, 5_000, [true, false].map(both)));
     floors.extend(under(section::FROM_ALL, 1_000, FROM_ALL));
     let events = EVENTS.iter().map(|event| event.name);
     floors.extend(under(section::EVENTS, 100, events));
@@ -120,6 +128,14 @@ pub fn kind(frame: &Frame, is_accepted: bool) -> String {
         Frame::Recover { .. } => 4,
     };
     outcome(KINDS[kind], is_accepted)
+}
+
+pub fn plan(version: Version, is_accepted: bool) -> String {
+    outcome(format!("version {}", version as u8), is_accepted)
+}
+
+pub fn both(is_accepted: bool) -> String {
+    outcome("in both", is_accepted)
 }
 
 pub fn outcome(of: impl Display, is_accepted: bool) -> String {

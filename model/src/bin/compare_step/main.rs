@@ -1,7 +1,8 @@
 // Compares the engine's Step, and the model's own step in place, with the
 // model's step on lines: on runs from Load and from late times, on undamaged
 // states that no run leads to, and on damaged ones; and the engine's Step with
-// itself, on the same step from every caller. Run in model/:
+// itself, on the same step from every caller and with the plan in either version.
+// Run in model/:
 //   cargo run --release --offline --features engine-state --bin compare_step [seed]
 
 mod floors;
@@ -17,7 +18,7 @@ use run::Run;
 const RUNS: u64 = 600;
 const CHANGED_RUNS: u64 = 80;
 const LAST_RUNS: u64 = 200;
-const TORN: u64 = 18_000;
+const TORN: u64 = 20_000;
 
 fn main() {
     let mut run = Run::new();

@@ -1,15 +1,16 @@
 // Calls on states and frames as they are drawn, counted.
 
 use model::answer::{ACCEPTED, FRAME_LENGTH, NO_REPLAY};
-use model::compare::{self, from_all, Counts};
+use model::compare::{self, from_all, in_both_versions, Counts};
 use model::engine;
 use model::line::practice::{
     age, cut_frames, every_frame, random_frames, stray, torn, Practice, Stepped, EVENTS,
 };
 use model::line::{Frame, Line};
+use model::plan::practice::any_plan;
 use model::random::Random;
-use model::state::line_bytes;
-use model::state::practice::{self, any_plan, call, replay_on, staged, Case, Kind, Played};
+use model::state::practice::{self, call, replay_on, staged, Case, Kind, Played};
+use model::state::{self, direct, line_bytes};
 
 use crate::floors::{self, on, section, with};
 use crate::states::States;
@@ -18,8 +19,9 @@ use crate::states::States;
 const STAGED_RUNS: usize = 100;
 /// How often wrong frames are drawn for a state.
 const WRONG: usize = 8;
-/// One call in so many is made from every caller.
-const FROM_ALL: u32 = 64;
+/// One call in so many is made from every caller, one with the plan in either
+/// version.
+const AGAIN: u32 = 64;
 
 pub struct Run {
     /// Of what is drawn for the calls, the practice's draws aside.
@@ -167,18 +169,21 @@ impl Run {
         }
     }
 
-    /// The staged lines, with every frame; their replays to the end.
+    /// The staged lines in both versions, with every frame; their replays to the
+    /// end.
     pub fn stage(&mut self) {
         self.seed = 0;
         let mut random = Random::new(0);
-        for line in [
+        let lines = [
             staged::fresh(),
             staged::mixed(),
             staged::full(),
             staged::nearly_full(),
             staged::replaying(),
             staged::down(),
-        ] {
+        ];
+        let by_mass = lines.clone().map(staged::by_mass);
+        for line in lines.into_iter().chain(by_mass) {
             let state = line_bytes(&line);
             let mut states = States::of(&mut self.random, &state);
             self.try_every_frame(&mut random, &mut states, on::STAGED);
@@ -248,8 +253,11 @@ impl Run {
                 frame: asked,
                 after: outcome.map_err(|&refusal| refusal),
             });
-            if self.random.one_in(FROM_ALL) {
+            if self.random.one_in(AGAIN) {
                 self.call_from_all(before, &states.bytes, asked);
+            }
+            if self.random.one_in(AGAIN) {
+                self.call_in_both_versions(before, &states.bytes, frame);
             }
         }
         match after {
@@ -277,8 +285,26 @@ impl Run {
         self.counts.add(section::FROM_ALL, row);
     }
 
+    /// The engine does the same, and so does the model, where both versions can say
+    /// the plan.
+    fn call_in_both_versions(&mut self, line: &Line, bytes: &[u8], frame: &[u8]) {
+        for step in [engine::step, direct::step, state::step] {
+            let answer = in_both_versions(step, &line.plan, bytes, frame);
+            let answer = answer.unwrap_or_else(|wrong| {
+                let told = format!("seed {}, {frame:02X?} in both versions", self.seed);
+                compare::fail(&told, &wrong, bytes)
+            });
+            if let Some(answer) = answer {
+                let row = floors::both(answer == ACCEPTED);
+                self.counts.add(section::BOTH, row);
+            }
+        }
+    }
+
     fn count(&mut self, step: &Stepped) {
         let is_accepted = step.after.is_ok();
+        let row = floors::plan(step.before.plan.version, is_accepted);
+        self.counts.add(section::PLANS, row);
         let row = floors::kind(&step.frame, is_accepted);
         self.counts.add(section::KINDS, row);
         let row = floors::outcome(step.caller, is_accepted);

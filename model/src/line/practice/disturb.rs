@@ -1,6 +1,7 @@
 //! Lines that no frames lead to.
 
 use crate::line::{restart, Line, Status};
+use crate::plan::practice::MASSES;
 use crate::random::Random;
 
 /// Changes one number, one sender or one part anywhere in the line.
@@ -18,6 +19,7 @@ pub fn disturb(random: &mut Random, line: &mut Line) {
     let near = (random.pick(&known) + 4).saturating_sub(random.between(0, 12));
     let time = random.pick(&[early, near]);
     let material = random.pick(&[0, 1, 2, 3]);
+    let mass = random.pick(&MASSES);
     let node = &mut line.nodes[number];
     let queue = &mut line.queues[channel];
     let entry = random.draw() as usize % node.log.len().max(1);
@@ -40,7 +42,7 @@ pub fn disturb(random: &mut Random, line: &mut Line) {
                 if let Some(input) = &mut entry.message.made_from {
                     input.time = time;
                 }
-                entry.message.record.material = material;
+                (entry.message.record.material, entry.message.record.mass) = (material, mass);
             }
         }
         5 => {
@@ -59,14 +61,14 @@ pub fn disturb(random: &mut Random, line: &mut Line) {
         7 => {
             if let Some(held) = node.buffered.get_mut(held) {
                 held.made_from.time = time;
-                held.record.material = material;
+                (held.record.material, held.record.mass) = (material, mass);
             }
         }
         8 => queue.mark = time,
         9 => {
             if let Some(message) = queue.messages.get_mut(message) {
                 message.time = time;
-                message.record.material = material;
+                (message.record.material, message.record.mass) = (material, mass);
             }
         }
         10 => {

@@ -2,11 +2,15 @@
 
 use std::collections::BTreeSet;
 
-use crate::answer::{NO_REPLAY, NO_SPACE, STEPS_USED_UP};
+use crate::answer::{NOTHING_THERE, NO_REPLAY, NO_SPACE, STEPS_USED_UP};
 use crate::line::replay::placed;
 use crate::line::{
     restart, stepped, Buffered, Caller, Entry, Frame, Line, Node, Origin, Restart, Status, Target,
 };
+use crate::placing::Item;
+use crate::plan::practice::refuses_by_mass;
+use crate::plan::{Channel, Window};
+use crate::record::Record;
 
 pub struct Stepped<'a> {
     pub before: &'a Line,
@@ -51,6 +55,43 @@ pub const EVENTS: &[Event] = &[
     }),
     event("Take that holds a record", |step| step.held(1)),
     event("Take that drops a record", |step| step.held(0)),
+    event("Take that drops a record for its mass alone", |step| {
+        step.held(0) && step.works(|channel, _, made| refuses_by_mass(channel, made))
+    }),
+    event("Take that holds what some window refuses", |step| {
+        step.held(1) && step.works(|channel, _, made| refuses_by_mass(channel, made))
+    }),
+    event("a cap brings a record into a window", |step| {
+        step.works(|channel, came, made| refuses_by_mass(channel, came) && channel.takes(made))
+    }),
+    event("a cap brings a record to the end of a window", |step| {
+        step.works(|channel, came, made| {
+            refuses_by_mass(channel, came)
+                && channel.takes(made)
+                && made.mass == channel.window.greatest
+        })
+    }),
+    event("a cap takes a record out of a window", |step| {
+        step.works(|channel, came, made| channel.takes(came) && refuses_by_mass(channel, made))
+    }),
+    event("Send passes over what only the window refuses", |step| {
+        step.after.is_ok() && step.passes_over(|_, _| true)
+    }),
+    event("18: only the window refuses what waits", |step| {
+        step.after == Err(NOTHING_THERE) && step.passes_over(|_, _| true)
+    }),
+    event("Send of a channel's least mass", |step| {
+        step.sends(|window, mass| mass == window.least && mass > 0)
+    }),
+    event("Send of a channel's greatest mass", |step| {
+        step.sends(|window, mass| mass == window.greatest && mass < u16::MAX)
+    }),
+    event("Send looks at one less than the least mass", |step| {
+        step.passes_over(|window, mass| mass.checked_add(1) == Some(window.least))
+    }),
+    event("Send looks at one more than the greatest mass", |step| {
+        step.passes_over(|window, mass| mass.checked_sub(1) == Some(window.greatest))
+    }),
     event("replay ended", |step| step.ended().is_some()),
     event("replay ended with an empty time", |step| {
         step.ended()
@@ -63,16 +104,24 @@ pub const EVENTS: &[Event] = &[
         })
     }),
     event("replay ended otherwise than without floors", |step| {
-        step.ended().is_some_and(|(low, number, ended)| {
-            let mut complete = step.before.clone();
-            complete.nodes[number].buffered = ended.log.iter().map(as_buffered).collect();
-            let (mut table, _) = complete.replay_table(number);
-            let columns = placed(low, ended.time(), &table);
-            for item in &mut table {
-                item.floor = 0;
-            }
-            placed(low, ended.time(), &table) != columns
+        step.last_table(|_| {}).is_some_and(|table| {
+            let columns = table.columns();
+            let without = table.items.iter().map(|&item| Item { floor: 0, ..item });
+            let items = without.collect();
+            Table { items, ..table }.columns() != columns
         })
+    }),
+    event(
+        "replay ended with a record that is free by its mass",
+        |step| {
+            let tables = [step.last_table(|_| {}), step.last_table(open_windows)];
+            tables[0] != tables[1]
+        },
+    ),
+    event("replay ended otherwise than without windows", |step| {
+        let tables = [step.last_table(|_| {}), step.last_table(open_windows)];
+        let [columns, without] = tables.map(|table| table.map(|table| table.columns()));
+        columns != without
     }),
     event("replay ended with 64 records", |step| {
         step.ended()
@@ -178,6 +227,76 @@ impl Stepped<'_> {
         }
     }
 
+    /// An accepted Feed or Take, and a channel that leaves its node: what the
+    /// record is before and after the node's rule.
+    fn works(&self, is_such: fn(&Channel, &Record, &Record) -> bool) -> bool {
+        let line = self.before;
+        let (node, came) = match (self.frame, self.after) {
+            (Frame::Feed { node, record }, Ok(_)) => {
+                let record = Record::read(record).expect("an accepted record");
+                (usize::from(node), record)
+            }
+            (Frame::Take { channel }, Ok(_)) => {
+                let number = usize::from(channel);
+                let message = line.queues[number].messages[0];
+                (line.plan.channels[number].receiver, message.record)
+            }
+            _ => return false,
+        };
+        let made = line.plan.rules[node].apply(came);
+        let mut leaving = line.plan.leaving(node);
+        leaving.any(|channel| is_such(&line.plan.channels[channel], &came, &made))
+    }
+
+    /// An accepted Send: the channel's window, and the mass sent.
+    fn sends(&self, is_such: fn(Window, u16) -> bool) -> bool {
+        match (self.frame, self.after) {
+            (Frame::Send { channel }, Ok(_)) => {
+                let number = usize::from(channel);
+                let message = self.before.next_to_send(number).expect("it is sent");
+                is_such(
+                    self.before.plan.channels[number].window,
+                    message.record.mass,
+                )
+            }
+            _ => false,
+        }
+    }
+
+    /// A Send that looks, in vain or before it finds one, at a record that only the
+    /// window refuses.
+    fn passes_over(&self, is_such: fn(Window, u16) -> bool) -> bool {
+        let Frame::Send { channel } = self.frame else {
+            return false;
+        };
+        if !matches!(self.after, Ok(_) | Err(NOTHING_THERE)) {
+            return false;
+        }
+        let (line, number) = (self.before, usize::from(channel));
+        let (channel, mark) = (&line.plan.channels[number], line.queues[number].mark);
+        let found = line.next_to_send(number);
+        let end = found.map_or(u32::MAX, |message| message.time);
+        let log = line.nodes[channel.sender].log.iter();
+        log.map(|entry| entry.message)
+            .filter(|message| mark < message.time && message.time < end)
+            .map(|message| message.record)
+            .any(|record| refuses_by_mass(channel, &record) && is_such(channel.window, record.mass))
+    }
+
+    /// The table that a replay ends with, had the line been changed before.
+    fn last_table(&self, change: fn(&mut Line)) -> Option<Table> {
+        let (low, number, ended) = self.ended()?;
+        let mut complete = self.before.clone();
+        complete.nodes[number].buffered = ended.log.iter().map(as_buffered).collect();
+        change(&mut complete);
+        let (items, _) = complete.replay_table(number);
+        Some(Table {
+            low,
+            high: ended.time(),
+            items,
+        })
+    }
+
     /// A replay's low, its node, and how that is after the end.
     fn ended(&self) -> Option<(u32, usize, &Node)> {
         let number = self.receiver(Status::Replaying)?;
@@ -224,6 +343,25 @@ impl Stepped<'_> {
             };
             !held.contains(&input) && last != Some(input)
         }))
+    }
+}
+
+#[derive(PartialEq)]
+struct Table {
+    low: u32,
+    high: u32,
+    items: Vec<Item>,
+}
+
+impl Table {
+    fn columns(&self) -> Option<Vec<u32>> {
+        placed(self.low, self.high, &self.items)
+    }
+}
+
+fn open_windows(line: &mut Line) {
+    for channel in &mut line.plan.channels {
+        channel.window = Window::ALL;
     }
 }
 

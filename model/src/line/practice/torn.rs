@@ -6,6 +6,7 @@
 use super::late::each_time;
 use super::{age, greatest_time, reach};
 use crate::line::{Entry, Line, Message, Node, Origin, Status};
+use crate::plan::practice::{keeping, sort_some_by_mass, MASSES};
 use crate::plan::{Channel, Plan};
 use crate::random::Random;
 use crate::record::Record;
@@ -18,7 +19,7 @@ const MASKS: [u16; Plan::MOST_AT_A_NODE] = [0xAAAA, 0xCCCC, 0xF0F0, 0xFF00];
 struct Made {
     time: u32,
     input: Origin,
-    material: u8,
+    record: Record,
 }
 
 /// The line, and its router.
@@ -32,13 +33,18 @@ pub fn torn(random: &mut Random) -> (Line, usize) {
         fill_source(random, &mut line.nodes[source], source, &made);
     }
     let is_right = !random.one_in(4);
-    for (sink, mask) in MASKS.into_iter().take(sinks).enumerate() {
+    let rule = if is_right {
+        line.plan.rules[sources]
+    } else {
+        Rule::Keep
+    };
+    for channel in &line.plan.channels[sources..] {
         let any = random.between(0, high);
         let entry = random.pick(&[any, any, high]);
-        let node = &mut line.nodes[sources + 1 + sink];
+        let node = &mut line.nodes[channel.receiver];
         node.clock.raise_taken(sources, entry);
         let made = made.iter().filter(|made| made.time <= entry);
-        for made in made.filter(|made| mask >> made.material & 1 == 1) {
+        for made in made.filter(|made| channel.takes(&rule.apply(made.record))) {
             log_made(random, node, sources, made, is_right);
         }
     }
@@ -60,26 +66,20 @@ pub fn torn(random: &mut Random) -> (Line, usize) {
 }
 
 fn plan(random: &mut Random, sources: usize, sinks: usize) -> Plan {
-    let channel = |sender, receiver, mask| Channel {
-        sender,
-        receiver,
-        mask,
-        modulus: 1,
-        remainder: 0,
-    };
-    let entering = (0..sources).map(|source| channel(source, sources, 0xFFFF));
-    let leaving = (0..sinks).map(|sink| channel(sources, sources + 1 + sink, MASKS[sink]));
-    let mut rules = vec![Rule::Keep; sources + 1 + sinks];
-    rules[sources] = random.pick(&[
+    let entering = (0..sources).map(|source| Channel::between(source, sources));
+    let leaving = (0..sinks).map(|sink| Channel {
+        mask: MASKS[sink],
+        ..Channel::between(sources, sources + 1 + sink)
+    });
+    let mut plan = keeping(sources + 1 + sinks, entering.chain(leaving));
+    plan.rules[sources] = random.pick(&[
         Rule::Keep,
         Rule::Keep,
-        Rule::Cap { greatest: 7 },
+        Rule::Cap { greatest: 50 },
         Rule::Relabel { from: 5, to: 0 },
     ]);
-    Plan {
-        rules,
-        channels: entering.chain(leaving).collect(),
-    }
+    sort_some_by_mass(random, &mut plan);
+    plan
 }
 
 /// Most times up to high, each from another input; along a parent inputs rise.
@@ -100,7 +100,7 @@ fn drawn_made(random: &mut Random, sources: usize, high: u32) -> Vec<Made> {
                 sender,
                 time: last[sender],
             },
-            material: random.between(1, 15) as u8,
+            record: drawn_record(random, 1),
         });
     }
     made
@@ -114,10 +114,10 @@ fn fill_source(random: &mut Random, node: &mut Node, source: usize, made: &[Made
     let misses = random.pick(&[8, 1_000, 1_000]);
     for time in 1..=last.unwrap_or(0) + random.between(0, 70) {
         let known = of_source.clone().find(|made| made.input.time == time);
-        let any = random.index(16) as u8;
+        let any = drawn_record(random, 0);
         if node.log.len() < Line::MOST_ENTRIES && !random.one_in(misses) {
-            let material = known.map_or(any, |made| made.material);
-            node.log.push(entry(random, time, material, None, None));
+            let record = known.map_or(any, |made| made.record);
+            node.log.push(entry(time, record, None, None));
         }
         node.clock.time = time;
     }
@@ -144,22 +144,24 @@ fn log_made(random: &mut Random, node: &mut Node, router: usize, made: &Made, is
     node.clock.raise_heard(router, input.sender, input.time);
     node.clock.time += 1;
     let own = node.clock.time;
-    let logged = entry(random, own, made.material, Some(sender), Some(input));
-    node.log.push(logged);
+    node.log
+        .push(entry(own, made.record, Some(sender), Some(input)));
+}
+
+fn drawn_record(random: &mut Random, least_material: u32) -> Record {
+    Record {
+        piece: random.draw() as u32,
+        material: random.between(least_material, 15) as u8,
+        mass: random.pick(&MASSES),
+    }
 }
 
 fn entry(
-    random: &mut Random,
     time: u32,
-    material: u8,
+    record: Record,
     made_from: Option<Origin>,
     input_made_from: Option<Origin>,
 ) -> Entry {
-    let record = Record {
-        piece: random.draw() as u32,
-        material,
-        mass: random.pick(&[0, 7, 8, 65_535]),
-    };
     Entry {
         message: Message {
             record,

@@ -57,6 +57,14 @@ fn damages() {
     type Change = fn(&mut Line);
     let changes: &[(&str, Change)] = &[
         ("plan: a channel", |line| line.plan.channels[0].mask = 0),
+        ("plan: a window", |line| {
+            line.plan.version = Version::Second;
+            line.plan.channels[0].window.greatest = 0;
+            line.plan.channels[0].window.least = 1;
+        }),
+        ("plan: a window in version 1", |line| {
+            line.plan.channels[0].window.least = 1;
+        }),
         ("plan: a rule", |line| {
             line.plan.rules[0] = crate::rule::Rule::Cap { greatest: 0 };
         }),
@@ -219,6 +227,16 @@ fn damages() {
         ("held record that no channel takes", |line| {
             line.nodes[3].buffered[0].record.material = 0;
         }),
+        ("held record below all windows", |line| {
+            line.plan.version = Version::Second;
+            line.plan.channels[3].window.least = 251;
+            line.plan.channels[4].window.least = 300;
+        }),
+        ("held record above all windows", |line| {
+            line.plan.version = Version::Second;
+            line.plan.channels[3].window.greatest = 249;
+            line.plan.channels[4].window.greatest = 0;
+        }),
         ("down without a crash mark", |line| {
             line.nodes[7].crash_marked = false
         }),
@@ -349,6 +367,19 @@ fn no_damages() {
         }),
         ("a queued record that its channel would not take", |line| {
             line.plan.channels[8].mask = 4;
+        }),
+        ("the plan in version 2", |line| {
+            line.plan.version = Version::Second;
+        }),
+        ("a held record that one window has", |line| {
+            line.plan.version = Version::Second;
+            line.plan.channels[3].window.least = 251;
+            line.plan.channels[4].window.least = 250;
+            line.plan.channels[4].window.greatest = 250;
+        }),
+        ("a queued record that its channel's window lacks", |line| {
+            line.plan.version = Version::Second;
+            line.plan.channels[8].window.greatest = 249;
         }),
         ("a crash mark on an up router", |line| {
             line.nodes[10].crash_marked = true;

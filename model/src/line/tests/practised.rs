@@ -5,9 +5,9 @@ use std::collections::BTreeMap;
 
 use super::*;
 use crate::answer::NO_REPLAY;
-use crate::line::practice::{
-    age, any_plan, disturb, reach, retarget, stray, Practice, Stepped, EVENTS,
-};
+use crate::line::practice::{age, disturb, reach, retarget, stray, Practice, Stepped, EVENTS};
+use crate::plan::practice::any_plan;
+use crate::plan::Window;
 use crate::random::Random;
 
 /// How often each answer was given and each event met.
@@ -39,7 +39,7 @@ impl Seen {
 fn practised_lines_stay_undamaged() {
     let mut random = Random::new(5);
     let mut seen = Seen::default();
-    for _ in 0..500 {
+    for _ in 0..800 {
         let plan = any_plan(&mut random);
         assert_eq!(Plan::read(&plan.write()), Ok(plan.clone()));
         let mut line = Line::of(plan);
@@ -76,6 +76,9 @@ fn practised_lines_stay_undamaged() {
         (100, "replay ended with an empty time"),
         (50, "replay ended with a free record"),
         (2, "replay ended otherwise than without floors"),
+        (20, "Take that drops a record for its mass alone"),
+        (20, "a cap brings a record to the end of a window"),
+        (4, "replay ended with a record that is free by its mass"),
     ] {
         assert!(seen.events[event] > least, "{event} too seldom: {seen:?}");
     }
@@ -128,4 +131,76 @@ fn undamaged_lines_stay_undamaged() {
     }
     println!("{starts} lines, {answers:?}");
     assert!(starts > 2_000, "{starts}");
+}
+
+/// With masses in the place of materials, and windows in that of masks, all goes as
+/// it did.
+#[test]
+fn windows_do_as_masks() {
+    let mut random = Random::new(13);
+    let mut seen = Seen::default();
+    for _ in 0..300 {
+        let mut plan = any_plan(&mut random);
+        plan.version = Version::First;
+        plan.rules.fill(crate::rule::Rule::Keep);
+        let mut by_mass = plan.clone();
+        by_mass.version = Version::Second;
+        let pairs = plan.channels.iter_mut().zip(&mut by_mass.channels);
+        for (channel, other) in pairs {
+            let least = random.index(4) as u16;
+            let greatest = random.pick(&[least, 3, 15]);
+            channel.mask = u16::MAX << least & u16::MAX >> (15 - greatest);
+            channel.window = Window::ALL;
+            other.mask = 1;
+            other.window = Window { least, greatest };
+        }
+        let (mut line, mut other) = (Line::of(plan), Line::of(by_mass));
+        let mut practice = Practice::new(&mut random);
+        for _ in 0..random.between(50, 300) {
+            let frame = practice.frame(&mut random, &line);
+            let before = other.clone();
+            let answer = step(&mut line, &frame);
+            let weighed = weighed(&frame);
+            assert_eq!(step(&mut other, &weighed), answer, "{weighed:?} {before:?}");
+            let after = if answer == 0 { Ok(&other) } else { Err(answer) };
+            seen.look(&before, &weighed, after);
+            assert_eq!(damaged(&other), damaged(&line));
+        }
+        assert_eq!(without_kinds(&other), without_kinds(&line));
+    }
+    println!("{seen:?}");
+    assert!(seen.events["Take that drops a record for its mass alone"] > 50);
+    assert!(seen.events["replay ended otherwise than without windows"] > 5);
+}
+
+/// The frame with the material of what is fed as its mass.
+fn weighed(frame: &[u8]) -> Vec<u8> {
+    match Frame::read(frame) {
+        Ok((caller, Frame::Feed { node, record })) if Record::read(record).is_some() => {
+            let record = Record::read(record).expect("a record");
+            let weighed = Record {
+                material: 0,
+                mass: record.material.into(),
+                ..record
+            };
+            let record = weighed.write();
+            Frame::Feed { node, record }.sent_by(caller)
+        }
+        _ => frame.to_vec(),
+    }
+}
+
+/// Nodes and queues, with neither materials nor masses.
+fn without_kinds(line: &Line) -> (Vec<Node>, Vec<Queue>) {
+    let (mut nodes, mut queues) = (line.nodes.clone(), line.queues.clone());
+    let entries = nodes.iter_mut().map(|node| {
+        let logged = node.log.iter_mut().map(|entry| &mut entry.message.record);
+        logged.chain(node.buffered.iter_mut().map(|held| &mut held.record))
+    });
+    let queued = queues.iter_mut().map(|queue| queue.messages.iter_mut());
+    let queued = queued.flatten().map(|message| &mut message.record);
+    for record in entries.flatten().chain(queued) {
+        (record.material, record.mass) = (0, 0);
+    }
+    (nodes, queues)
 }

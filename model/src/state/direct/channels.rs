@@ -6,7 +6,9 @@ use super::*;
 impl View<'_> {
     pub(super) fn is_channel_sound(&self, number: usize) -> bool {
         let block = self.channel(number);
-        let (sender, receiver) = (self.shape.sender[number], self.shape.receiver[number]);
+        let Channel {
+            sender, receiver, ..
+        } = self.shape.channels[number];
         if has(self.marked, sender) && has(self.marked, receiver) {
             return false;
         }
@@ -48,7 +50,7 @@ impl View<'_> {
     }
 
     fn is_message_made(&self, number: usize, slot: &[u8]) -> bool {
-        let sender = self.shape.sender[number];
+        let sender = self.shape.channels[number].sender;
         if has(self.shape.sources, sender) {
             return is_zero(&slot[MADE_FROM..]);
         }

@@ -52,7 +52,7 @@ impl View<'_> {
 
     /// What an input from the channel was made from.
     fn is_input_heard(&self, entering: usize, origin: &[u8]) -> bool {
-        let sender = self.shape.sender[entering];
+        let sender = self.shape.channels[entering].sender;
         if has(self.shape.sources, sender) {
             return is_zero(origin);
         }
@@ -82,7 +82,7 @@ impl View<'_> {
                 && is_record_sound(slot)
                 && self.is_input_heard(entering, &slot[HELD_INPUT_MADE_FROM..HELD_USED])
                 && is_zero(&slot[HELD_USED..])
-                && self.shape.passes_on(number, slot);
+                && self.shape.passes_on(number, &read_record(slot));
             if !is_sound {
                 return false;
             }

@@ -27,7 +27,7 @@ impl View<'_> {
         let mut told: u64 = 0;
         let mut restored = [0; Plan::MOST_AT_A_NODE];
         for &leaving in self.shape.leaving(number) {
-            let block = self.node(self.shape.receiver[leaving]);
+            let block = self.node(self.shape.channels[leaving].receiver);
             let count = number_at(block, LOG.count) as usize;
             for slot in block[LOG.slot(0)..LOG.slot(count)].chunks_exact(LOG.length) {
                 if usize::from(slot[MADE_FROM]) != number + 1 {

@@ -1,7 +1,7 @@
 //! A plan read from its bytes into tables of fixed size.
 
-use super::{number_at, MATERIAL, PIECE};
-use crate::plan::{length_field, Channel, Plan};
+use crate::plan::{length_field, Channel, Plan, Version};
+use crate::record::Record;
 use crate::rule::Rule;
 
 const NO_CHANNEL: u8 = u8::MAX;
@@ -10,17 +10,13 @@ pub struct Shape {
     pub length: usize,
     pub node_count: usize,
     pub channel_count: usize,
-    pub sender: [usize; Plan::MOST_CHANNELS],
-    pub receiver: [usize; Plan::MOST_CHANNELS],
+    pub channels: [Channel; Plan::MOST_CHANNELS],
     /// The channel's place among those that enter its receiver.
     pub row: [usize; Plan::MOST_CHANNELS],
     pub parent_count: [usize; Plan::MOST_NODES],
     /// A bit for each node.
     pub sources: u32,
     pub sinks: u32,
-    mask: [u16; Plan::MOST_CHANNELS],
-    modulus: [u8; Plan::MOST_CHANNELS],
-    remainder: [u8; Plan::MOST_CHANNELS],
     /// By node, then by its parent's number and 1.
     from: [[u8; Plan::MOST_NODES + 1]; Plan::MOST_NODES],
     leaving: [[usize; Plan::MOST_AT_A_NODE]; Plan::MOST_NODES],
@@ -30,11 +26,10 @@ pub struct Shape {
 impl Shape {
     /// The plan at the start of the bytes, if it would be accepted.
     pub fn read(bytes: &[u8]) -> Option<Shape> {
-        let (version, node_count, channel_count) = (bytes[2], bytes[3], bytes[4]);
-        let (node_count, channel_count) = (usize::from(node_count), usize::from(channel_count));
-        let length = Plan::HEADER + Rule::LENGTH * node_count + Channel::LENGTH * channel_count;
-        let is_head_sound = version == Plan::VERSION
-            && (Plan::LEAST_NODES..=Plan::MOST_NODES).contains(&node_count)
+        let version = Version::read(bytes[2])?;
+        let (node_count, channel_count) = (usize::from(bytes[3]), usize::from(bytes[4]));
+        let length = version.plan_length(node_count, channel_count);
+        let is_head_sound = (Plan::LEAST_NODES..=Plan::MOST_NODES).contains(&node_count)
             && (Plan::LEAST_CHANNELS..=Plan::MOST_CHANNELS).contains(&channel_count)
             && length_field(bytes) == length;
         if !is_head_sound {
@@ -47,10 +42,10 @@ impl Shape {
         }
         let mut shape = Shape::without_channels(length, node_count);
         let mut last = (0, 0);
-        for bytes in channels.chunks_exact(Channel::LENGTH) {
-            let channel = Channel::read(bytes.try_into().expect("its length"), node_count)?;
+        for bytes in channels.chunks_exact(version.channel_length()) {
+            let channel = Channel::spelled(version, bytes);
             let ends = (channel.sender, channel.receiver);
-            if ends <= last || !shape.add(channel) {
+            if ends <= last || !channel.is_sound(node_count) || !shape.add(channel) {
                 return None;
             }
             last = ends;
@@ -64,15 +59,11 @@ impl Shape {
             length,
             node_count,
             channel_count: 0,
-            sender: [0; Plan::MOST_CHANNELS],
-            receiver: [0; Plan::MOST_CHANNELS],
+            channels: [Channel::between(0, 0); Plan::MOST_CHANNELS],
             row: [0; Plan::MOST_CHANNELS],
             parent_count: [0; Plan::MOST_NODES],
             sources: all,
             sinks: all,
-            mask: [0; Plan::MOST_CHANNELS],
-            modulus: [0; Plan::MOST_CHANNELS],
-            remainder: [0; Plan::MOST_CHANNELS],
             from: [[NO_CHANNEL; Plan::MOST_NODES + 1]; Plan::MOST_NODES],
             leaving: [[0; Plan::MOST_AT_A_NODE]; Plan::MOST_NODES],
             child_count: [0; Plan::MOST_NODES],
@@ -90,12 +81,8 @@ impl Shape {
             return false;
         }
         let number = self.channel_count;
-        self.sender[number] = sender;
-        self.receiver[number] = receiver;
+        self.channels[number] = channel;
         self.row[number] = row;
-        self.mask[number] = channel.mask;
-        self.modulus[number] = channel.modulus;
-        self.remainder[number] = channel.remainder;
         self.from[receiver][sender + 1] = number as u8;
         self.leaving[sender][child] = number;
         self.parent_count[receiver] += 1;
@@ -118,13 +105,9 @@ impl Shape {
         &self.leaving[node][..self.child_count[node]]
     }
 
-    /// Whether a leaving channel takes the record at the start of the bytes.
-    pub fn passes_on(&self, node: usize, record: &[u8]) -> bool {
-        let piece = number_at(record, PIECE);
-        let material = record[MATERIAL];
-        self.leaving(node).iter().any(|&number| {
-            self.mask[number] >> material & 1 == 1
-                && piece % u32::from(self.modulus[number]) == u32::from(self.remainder[number])
-        })
+    /// Whether a leaving channel takes the record.
+    pub fn passes_on(&self, node: usize, record: &Record) -> bool {
+        let mut leaving = self.leaving(node).iter();
+        leaving.any(|&number| self.channels[number].takes(record))
     }
 }

@@ -6,13 +6,13 @@ mod recover;
 mod take;
 
 use super::super::layout::*;
-use super::is_undamaged;
+use super::{is_undamaged, read_record};
 use crate::answer::{
     ACCEPTED, CHANNEL_FULL, CRASHED_NEIGHBOUR, NOTHING_THERE, NO_REPLAY, NO_SPACE, NO_SUCH_PLACE,
     ROW_COMPLETE, STATE, STEPS_USED_UP, WRONG_PLACE, WRONG_RECORD, WRONG_STATUS,
 };
 use crate::line::{Frame, Line};
-use crate::plan::{Channel, Plan};
+use crate::plan::{Channel, Plan, Version};
 use crate::record::Record;
 use crate::rule::Rule;
 
@@ -27,6 +27,7 @@ pub fn step(state: &mut [u8], frame: &[u8]) -> u32 {
 /// The step without the check: the state is undamaged.
 pub fn step_unchecked(state: &mut [u8; LENGTH], frame: &[u8]) -> u32 {
     let mut line = InPlace {
+        version: Version::read(state[PLAN + 2]).expect("an accepted plan"),
         node_count: usize::from(state[PLAN + 3]),
         channel_count: usize::from(state[PLAN + 4]),
         state,
@@ -38,6 +39,7 @@ pub fn step_unchecked(state: &mut [u8; LENGTH], frame: &[u8]) -> u32 {
 /// slots are the bytes of one slot.
 struct InPlace<'a> {
     state: &'a mut [u8; LENGTH],
+    version: Version,
     node_count: usize,
     channel_count: usize,
 }
@@ -181,21 +183,20 @@ impl InPlace<'_> {
     }
 
     /// The channel's bytes in the plan.
-    fn planned(&self, channel: usize) -> [u8; Channel::LENGTH] {
+    fn planned(&self, channel: usize) -> &[u8] {
         let channels = PLAN + Plan::HEADER + Rule::LENGTH * self.node_count;
-        part(self.state, channels + Channel::LENGTH * channel)
+        let length = self.version.channel_length();
+        &self.state[channels + length * channel..][..length]
     }
 
     fn ends(&self, channel: usize) -> (usize, usize) {
-        let [sender, receiver, ..] = self.planned(channel);
-        (sender.into(), receiver.into())
+        let planned = self.planned(channel);
+        (planned[0].into(), planned[1].into())
     }
 
     /// Whether the channel takes the record at the start of the slot.
     fn takes(&self, channel: usize, slot: &[u8]) -> bool {
-        let [_, _, high, low, modulus, remainder] = self.planned(channel);
-        u16::from_be_bytes([high, low]) >> slot[MATERIAL] & 1 == 1
-            && number_at(slot, PIECE) % u32::from(modulus) == remainder.into()
+        Channel::spelled(self.version, self.planned(channel)).takes(&read_record(slot))
     }
 
     fn entering(&self, node: usize) -> impl Iterator<Item = usize> + '_ {

@@ -2,6 +2,8 @@
 
 use crate::line::practice::greatest_time;
 use crate::line::{Line, Node, Status};
+use crate::plan::practice::refuses_by_mass;
+use crate::plan::Version;
 
 pub struct Feature {
     pub name: &'static str,
@@ -37,6 +39,16 @@ pub const FEATURES: &[Feature] = &[
             let mut held = node.buffered.iter();
             held.any(|held| held.input_made_from.is_some())
         })
+    }),
+    feature("a held record that some window refuses", |line| {
+        let mut channels = line.plan.channels.iter();
+        channels.any(|channel| {
+            let mut held = line.nodes[channel.sender].buffered.iter();
+            held.any(|held| refuses_by_mass(channel, &held.record))
+        })
+    }),
+    feature("a plan of version 2", |line| {
+        line.plan.version == Version::Second
     }),
     feature("a node recovered", |line| has_node(line, is_recovered)),
     feature("a node recovered with a log", |line| {

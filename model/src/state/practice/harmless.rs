@@ -6,6 +6,8 @@ use super::runs::any_record;
 use super::{pick, staged};
 use crate::line::practice::{drawn_steps, greatest_time, reach};
 use crate::line::{restart, Line, Status};
+use crate::plan::practice::{in_other_version, MASSES};
+use crate::plan::{Version, Window};
 use crate::random::Random;
 use crate::rule::Rule;
 
@@ -44,21 +46,28 @@ pub const HARMLESS: &[Harmless] = &[
         Some(())
     }),
     harmless("another mask of a channel", |random, line| {
-        let channel = pick::channel(random, line, |channel| {
-            let sender = line.plan.channels[channel].sender;
-            line.nodes[sender].buffered.is_empty()
-        })?;
+        let channel = free_channel(random, line)?;
         line.plan.channels[channel].mask = random.between(1, 0xFFFF) as u16;
         Some(())
     }),
     harmless("another remainder of a channel", |random, line| {
-        let channel = pick::channel(random, line, |channel| {
-            let sender = line.plan.channels[channel].sender;
-            line.nodes[sender].buffered.is_empty()
-        })?;
+        let channel = free_channel(random, line)?;
         let channel = &mut line.plan.channels[channel];
         channel.modulus = random.between(1, 255) as u8;
         channel.remainder = random.index(usize::from(channel.modulus)) as u8;
+        Some(())
+    }),
+    harmless("another window of a channel", |random, line| {
+        let channel = free_channel(random, line)?;
+        line.plan.version = Version::Second;
+        let least = random.draw() as u16;
+        let any = random.between(least.into(), 0xFFFF) as u16;
+        let greatest = random.pick(&[least, any]);
+        line.plan.channels[channel].window = Window { least, greatest };
+        Some(())
+    }),
+    harmless("the plan in the other version", |_, line| {
+        line.plan = in_other_version(&line.plan)?;
         Some(())
     }),
     harmless("crash mark of an up router", |random, line| {
@@ -196,10 +205,24 @@ pub const HARMLESS: &[Harmless] = &[
                 }
                 record.piece = random.draw() as u32;
                 record.material = random.index(16) as u8;
+                record.mass = random.pick(&MASSES);
             }
             None
         },
     ),
+    harmless("a held record at an end of a window", |random, line| {
+        let (node, index) = pick::held(random, line, |_, _| true)?;
+        let held = &mut line.nodes[node].buffered[index].record;
+        let channels = &line.plan.channels;
+        let taking = line.plan.leaving(node);
+        let taking = pick::any(
+            random,
+            taking.filter(|&number| channels[number].takes(held)),
+        )?;
+        let Window { least, greatest } = channels[taking].window;
+        held.mass = random.pick(&[least, greatest]);
+        Some(())
+    }),
     harmless(
         "held records of two rows in another order",
         |random, line| {
@@ -261,6 +284,14 @@ pub const HARMLESS: &[Harmless] = &[
         Some(())
     }),
 ];
+
+/// One whose sender holds nothing that it would have to take.
+fn free_channel(random: &mut Random, line: &Line) -> Option<usize> {
+    pick::channel(random, line, |channel| {
+        let sender = line.plan.channels[channel].sender;
+        line.nodes[sender].buffered.is_empty()
+    })
+}
 
 /// A node that holds something holds as much as it can, all the rest from one
 /// parent.

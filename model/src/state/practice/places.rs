@@ -3,7 +3,7 @@
 use std::ops::Range;
 
 use crate::line::{Line, Node, Origin, Queue};
-use crate::plan::Plan;
+use crate::plan::{Plan, Version};
 use crate::record::Record;
 
 #[derive(Clone, Copy, Debug)]
@@ -95,6 +95,10 @@ impl Walk {
             self.used("channel: mask", 2);
             self.used("channel: modulus", 1);
             self.used("channel: remainder", 1);
+            if line.plan.version == Version::Second {
+                self.used("channel: least mass", 2);
+                self.used("channel: greatest mass", 2);
+            }
         }
         self.unused("after the plan", 512 - self.at);
         for console in STEPS {

@@ -4,12 +4,11 @@ use std::cmp::Reverse;
 
 use super::{pick, staged};
 use crate::answer::ACCEPTED;
-use crate::line::practice::{self, age, caller, tear, Practice};
+use crate::line::practice::{age, caller, tear, Practice};
 use crate::line::{step, Frame, Line, Status};
-use crate::plan::{Channel, Plan};
+use crate::plan::practice::{any_plan, MASSES};
 use crate::random::Random;
 use crate::record::Record;
-use crate::rule::Rule;
 
 /// What frames are played on.
 pub trait Played {
@@ -66,49 +65,6 @@ pub fn play_to_the_end(random: &mut Random, played: &mut dyn Played) -> Vec<Line
     }
     lines.push(played.line().clone());
     lines
-}
-
-pub fn any_plan(random: &mut Random) -> Plan {
-    if random.one_in(3) {
-        deep(random)
-    } else {
-        practice::any_plan(random)
-    }
-}
-
-/// Sources, two to four routers, a router that all of them send to, and sinks
-/// that take a few materials each: in the last router's replays all that is held
-/// was itself made from something.
-fn deep(random: &mut Random) -> Plan {
-    let sources = random.between(1, 2) as usize;
-    let routers = random.between(2, 4) as usize;
-    let last = sources + routers;
-    let sinks = random.between(3, 4) as usize;
-    let entering = (0..sources).flat_map(|source| (sources..last).map(move |node| (source, node)));
-    let between = (sources..last).map(|router| (router, last));
-    let leaving = (last + 1..=last + sinks).map(|sink| (last, sink));
-    let ends = entering.chain(between).chain(leaving);
-    let channels = ends.map(|(sender, receiver)| {
-        let is_last = sender == last;
-        let few = 1 << random.index(3) | 1 << random.index(3);
-        let modulus = if is_last {
-            random.pick(&[1, 2, 2, 3])
-        } else {
-            1
-        };
-        Channel {
-            sender,
-            receiver,
-            mask: if is_last { few } else { 0xFFFF },
-            modulus,
-            remainder: random.index(usize::from(modulus)) as u8,
-        }
-    });
-    let channels = channels.collect();
-    Plan {
-        rules: vec![Rule::Keep; last + 1 + sinks],
-        channels,
-    }
 }
 
 /// A mixture of all frames, some of them refused.
@@ -217,6 +173,6 @@ pub fn any_record(random: &mut Random) -> Record {
     Record {
         piece: random.pick(&[0, 1, 2, 3, 254, 255, 256, 65_536, u32::MAX]),
         material: random.pick(&[0, 0, 1, 1, 2, 2, 3, 15]),
-        mass: random.pick(&[0, 1, 50, 51, 100, 65_535]),
+        mass: random.pick(&MASSES),
     }
 }

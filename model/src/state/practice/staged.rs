@@ -5,10 +5,10 @@ use super::pick::channel_between;
 use super::Played;
 use crate::line::practice::make_late;
 use crate::line::{Frame, Line, Status};
-use crate::plan::{Channel, Plan};
+use crate::plan::practice::keeping;
+use crate::plan::{Channel, Plan, Version};
 use crate::random::Random;
 use crate::record::Record;
-use crate::rule::Rule;
 
 pub trait Staged: Played + From<Plan> {}
 
@@ -19,12 +19,12 @@ pub fn fresh<T: Staged>() -> T {
     plan_of(2, vec![(0, 1)]).into()
 }
 
-/// A little of everything: node 3 replays and holds a record from node 1, node 7
-/// is down, messages wait before node 11.
+/// A little of everything, of version 2: node 3 replays and holds a record from
+/// node 1, node 7 is down, messages wait before node 11.
 pub fn mixed<T: Staged>() -> T {
     let replay = [(0, 1), (1, 3), (2, 3), (3, 4), (3, 5)];
     let others = [(6, 7), (7, 8), (9, 10), (10, 11)];
-    let mut line: T = plan_of(12, [&replay[..], &others[..]].concat()).into();
+    let mut line: T = windowed(plan_of(12, [&replay[..], &others[..]].concat())).into();
     for piece in 1..=3 {
         feed(&mut line, 0, piece);
         pass(&mut line, 0);
@@ -177,17 +177,25 @@ pub fn worn_by_all(random: &mut Random, worn: &Line) -> Line {
 /// Rules keep, channels take all.
 pub fn plan_of(node_count: usize, mut ends: Vec<(usize, usize)>) -> Plan {
     ends.sort_unstable();
-    let channels = ends.into_iter().map(|(sender, receiver)| Channel {
-        sender,
-        receiver,
-        mask: 0xFFFF,
-        modulus: 1,
-        remainder: 0,
-    });
-    Plan {
-        rules: vec![Rule::Keep; node_count],
-        channels: channels.collect(),
+    let channels = ends
+        .into_iter()
+        .map(|(from, to)| Channel::between(from, to));
+    keeping(node_count, channels)
+}
+
+/// The line with its plan in version 2, windows and all.
+pub fn by_mass(mut line: Line) -> Line {
+    line.plan = windowed(line.plan);
+    line
+}
+
+/// In version 2, with windows that have every mass that is fed here.
+fn windowed(mut plan: Plan) -> Plan {
+    plan.version = Version::Second;
+    for channel in &mut plan.channels {
+        channel.window.greatest = 999;
     }
+    plan
 }
 
 fn accept(line: &mut impl Played, frame: Frame) {

@@ -91,6 +91,25 @@ fn first_marked_sheet() {
     assert_eq!(read_line(&line_bytes(&line)), Some(line));
 }
 
+/// In version 2 the plan's own bytes are longer, and nothing else is elsewhere.
+#[test]
+fn plan_of_version_two() {
+    let (first, second): (Line, Line) = (staged::full(), staged::by_mass(staged::full()));
+    let (state, other) = (line_bytes(&first), line_bytes(&second));
+    assert_eq!(state[512..], other[512..]);
+    assert_eq!(
+        (state[..5].to_vec(), state[197..512] == [0; 315]),
+        (vec![0, 197, 1, 12, 24], true)
+    );
+    assert_eq!(other[..5], [1, 37, 2, 12, 24]);
+    assert_eq!(
+        other[283..512][..10],
+        [10, 11, 255, 255, 1, 0, 0, 0, 3, 231]
+    );
+    assert_eq!(other[293..512], [0; 219]);
+    assert_eq!(read_line(&other), Some(second));
+}
+
 /// A line with every part in it, some of its bytes spelled out.
 #[test]
 fn replaying_routers() {

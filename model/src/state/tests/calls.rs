@@ -1,15 +1,15 @@
 //! Load and Write: every answer, and what is left in the buffers. Step: the same
-//! from every caller.
+//! from every caller, and with the plan in either version.
 
-use crate::compare::from_all;
-use crate::line::practice::{any_plan, every_frame};
-use crate::line::{stepped, Frame, Line};
-use crate::plan::practice::{mutate, plan};
+use crate::compare::{from_all, in_both_versions};
+use crate::line::practice::every_frame;
+use crate::line::{Frame, Line};
+use crate::plan::practice::{any_plan, mutate, plan};
 use crate::plan::Plan;
 use crate::random::Random;
 use crate::state::practice::staged;
 use crate::state::tests::runs;
-use crate::state::{direct, line_bytes, load, read_line, undamaged, write, LENGTH};
+use crate::state::{direct, line_bytes, load, read_line, step, write, LENGTH};
 
 #[test]
 fn loaded_plans() {
@@ -84,20 +84,6 @@ fn damaged_state_before_a_short_output() {
     assert_eq!(write(&state[1..], &mut [0; 512]), 8);
 }
 
-/// The step on lines, as a call on bytes.
-fn step_by_lines(state: &mut [u8], frame: &[u8]) -> u32 {
-    match undamaged(state)
-        .ok_or(8)
-        .and_then(|line| stepped(&line, frame))
-    {
-        Ok(line) => {
-            state.copy_from_slice(&line_bytes(&line));
-            0
-        }
-        Err(refusal) => refusal,
-    }
-}
-
 #[test]
 fn same_step_from_every_caller() {
     let mut random = Random::new(6);
@@ -107,7 +93,7 @@ fn same_step_from_every_caller() {
         let frames = every_frame(&mut random, line);
         let [frame, _] = &frames[random.index(frames.len())];
         let (_, frame) = Frame::read(frame).expect("the right form");
-        for step in [step_by_lines, direct::step] {
+        for step in [step, direct::step] {
             let from = from_all(&mut random, step, line, &state, frame);
             let from = from.unwrap_or_else(|wrong| panic!("{wrong}: {frame:?} {line:?}"));
             let is_accepted = from.answer == Some(0);
@@ -116,4 +102,22 @@ fn same_step_from_every_caller() {
     }
     println!("{seen:?}");
     assert!(seen.iter().all(|&times| times > 40), "{seen:?}");
+}
+
+#[test]
+fn same_step_in_both_versions() {
+    let mut random = Random::new(7);
+    let mut seen = [0; 3];
+    for line in runs().iter().flatten() {
+        let state = line_bytes(line);
+        let frames = every_frame(&mut random, line);
+        let [frame, _] = &frames[random.index(frames.len())];
+        for step in [step, direct::step] {
+            let answer = in_both_versions(step, &line.plan, &state, frame);
+            let answer = answer.unwrap_or_else(|wrong| panic!("{wrong}: {frame:?} {line:?}"));
+            seen[answer.map_or(2, |answer| usize::from(answer != 0))] += 1;
+        }
+    }
+    println!("{seen:?}");
+    assert!(seen.iter().all(|&times| times > 100), "{seen:?}");
 }

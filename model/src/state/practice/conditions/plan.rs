@@ -1,6 +1,6 @@
 use super::*;
 use crate::plan::practice::WRONG_RULES;
-use crate::plan::{Channel, Plan};
+use crate::plan::{Plan, Version, Window};
 use crate::rule::Rule;
 use crate::state::layout::put;
 use crate::state::practice::staged::plan_of;
@@ -11,12 +11,16 @@ pub const REFUSED: Clause = Clause {
         bytes("length", |random, line, state| {
             let length = line.plan.write().len() as u16;
             let any = random.draw() as u16;
-            let other = random.pick(&[0, 4, 5, length - 1, length + 1, length + 256, 513, any]);
+            let channels = line.plan.channels.len() as u16;
+            let others = [length + 4 * channels, length - 4 * channels];
+            let near = [0, 4, 5, length - 1, length + 1, length + 256, 513, any];
+            let other = random.pick(&[&near[..], &others].concat());
             put(state, 0, &other.to_be_bytes());
             (other != length).then_some(())
         }),
         bytes("version", |random, _, state| {
-            state[2] = random.pick(&[0, 2, 129, 255]);
+            // The other version's plan has another length.
+            state[2] = random.pick(&[0, 3 - state[2], 3, 129, 255]);
             Some(())
         }),
         bytes("number of nodes", |random, _, state| {
@@ -30,11 +34,11 @@ pub const REFUSED: Clause = Clause {
         bytes(
             "numbers that the length does not fit",
             |random, line, state| {
-                let nodes = line.plan.node_count() as u32;
-                let channels = line.plan.channels.len() as u32;
-                let others = (random.between(2, 12), random.between(1, 24));
-                (state[3], state[4]) = (others.0 as u8, others.1 as u8);
-                (4 * others.0 + 6 * others.1 != 4 * nodes + 6 * channels).then_some(())
+                let nodes = random.between(2, 12) as usize;
+                let channels = random.between(1, 24) as usize;
+                (state[3], state[4]) = (nodes as u8, channels as u8);
+                let needed = line.plan.version.plan_length(nodes, channels);
+                (needed != line.plan.write().len()).then_some(())
             },
         ),
         bytes("rule", |random, line, state| {
@@ -45,7 +49,7 @@ pub const REFUSED: Clause = Clause {
         }),
         bytes("channel", |random, line, state| {
             let number = random.index(line.plan.channels.len());
-            let slot = &mut state[channel_at(&line.plan, number)..][..Channel::LENGTH];
+            let slot = &mut state[channel_at(&line.plan, number)..];
             match random.index(7) {
                 0 => slot[0] = slot[1],
                 1 => slot.swap(0, 1),
@@ -63,14 +67,34 @@ pub const REFUSED: Clause = Clause {
             }
             let first = random.index(line.plan.channels.len() - 1);
             let at = channel_at(&line.plan, first);
-            let both = &mut state[at..][..2 * Channel::LENGTH];
+            let length = line.plan.version.channel_length();
+            let both = &mut state[at..][..2 * length];
             if random.one_in(2) {
-                both.rotate_left(Channel::LENGTH);
+                both.rotate_left(length);
             } else {
-                let (first, second) = both.split_at_mut(Channel::LENGTH);
+                let (first, second) = both.split_at_mut(length);
                 second[..2].copy_from_slice(&first[..2]);
             }
             Some(())
+        }),
+        line("least mass above the greatest", |random, line| {
+            let number = random.index(line.plan.channels.len());
+            let Window { least, greatest } = line.plan.channels[number].window;
+            let near = random.between(0, 65_534) as u16;
+            let far = random.between(near.into(), 65_534) as u16;
+            let wrong = random.pick(&[
+                (far + 1, near),
+                (near + 1, near),
+                (greatest.saturating_add(1), greatest),
+                (least, least.saturating_sub(1)),
+                (greatest, least),
+            ]);
+            line.plan.version = Version::Second;
+            line.plan.channels[number].window = Window {
+                least: wrong.0,
+                greatest: wrong.1,
+            };
+            (wrong.0 > wrong.1).then_some(())
         }),
         line("no channels", |random, line| {
             let nodes = random.between(2, 12) as usize;
@@ -109,7 +133,7 @@ fn rule_at(node: usize) -> usize {
 }
 
 fn channel_at(plan: &Plan, number: usize) -> usize {
-    rule_at(plan.node_count()) + Channel::LENGTH * number
+    rule_at(plan.node_count()) + plan.version.channel_length() * number
 }
 
 /// A line before any step; nothing but its plan is wrong.

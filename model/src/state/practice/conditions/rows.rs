@@ -1,5 +1,6 @@
 use super::*;
 use crate::line::Status;
+use crate::plan::{Channel, Version, Window};
 use crate::record::Record;
 
 pub const NOT_RISING: Clause = Clause {
@@ -57,29 +58,69 @@ pub const NOT_TAKEN: Clause = Clause {
             line.nodes[node].buffered[index].record.piece = piece;
             Some(())
         }),
-        line("by the channels' masks", |random, line| {
-            let node = pick::node_that_is(random, line, Status::Replaying)?;
-            let held = line.nodes[node].buffered.first()?.record;
-            let leaving: Vec<usize> = line.plan.leaving(node).collect();
-            for channel in leaving {
-                line.plan.channels[channel].mask = !(1 << held.material);
-            }
+        line("by its mass", |random, line| {
+            let (node, index) = pick::held(random, line, |node, index| {
+                !untaken_masses(line, node, index).is_empty()
+            })?;
+            let mass = random.pick(&untaken_masses(line, node, index));
+            line.nodes[node].buffered[index].record.mass = mass;
             Some(())
         }),
+        line("by the channels' masks", |random, line| {
+            turn_away(random, line, |_, channel, held| {
+                channel.mask = !(1 << held.material);
+            })
+        }),
         line("by the channels' remainders", |random, line| {
-            let node = pick::node_that_is(random, line, Status::Replaying)?;
-            let held = line.nodes[node].buffered.first()?.record;
-            let leaving: Vec<usize> = line.plan.leaving(node).collect();
-            for channel in leaving {
-                let channel = &mut line.plan.channels[channel];
+            turn_away(random, line, |random, channel, held| {
                 channel.modulus = random.between(2, 255) as u8;
                 let taken = held.piece % u32::from(channel.modulus);
                 channel.remainder = ((taken + 1) % u32::from(channel.modulus)) as u8;
-            }
-            Some(())
+            })
+        }),
+        line("by the channels' windows", |random, line| {
+            line.plan.version = Version::Second;
+            turn_away(random, line, |random, channel, held| {
+                let below = held.mass.checked_sub(1);
+                let below = below.map(|greatest| Window { least: 0, greatest });
+                let above = held.mass.checked_add(1).map(|least| Window {
+                    least,
+                    ..Window::ALL
+                });
+                let windows: Vec<Window> = below.into_iter().chain(above).collect();
+                channel.window = random.pick(&windows);
+            })
         }),
     ],
 };
+
+/// Masses beside the windows of the channels that leave the node: with them none
+/// takes the held record.
+fn untaken_masses(line: &Line, node: usize, index: usize) -> Vec<u16> {
+    let held = line.nodes[node].buffered[index].record;
+    let is_taken = |mass| line.plan.passes_on(node, &Record { mass, ..held });
+    let beside = line.plan.leaving(node).flat_map(|number| {
+        let Window { least, greatest } = line.plan.channels[number].window;
+        [least.wrapping_sub(1), greatest.wrapping_add(1)]
+    });
+    beside.filter(|&mass| !is_taken(mass)).collect()
+}
+
+/// Changes the channels that leave a replaying node so that none takes the first
+/// record that it holds.
+fn turn_away(
+    random: &mut Random,
+    line: &mut Line,
+    change: fn(&mut Random, &mut Channel, &Record),
+) -> Option<()> {
+    let node = pick::node_that_is(random, line, Status::Replaying)?;
+    let held = line.nodes[node].buffered.first()?.record;
+    let channels = line.plan.channels.iter_mut();
+    for channel in channels.filter(|channel| channel.sender == node) {
+        change(random, channel, &held);
+    }
+    Some(())
+}
 
 /// A node and two of the records that it holds from one parent.
 fn two_of_a_row(random: &mut Random, line: &Line) -> Option<(usize, usize, usize)> {
