@@ -1,4 +1,4 @@
--- The base, before 2026-01, on bytes: a Step by a frame that is not of version 2, on a state whose other consoles have done nothing, answers what the base answered and leaves the bytes that the base left.
+-- The base, before 2026-01, on bytes: a Step by a frame that is not of version 2, on a state whose other consoles have done nothing, answers what the base answered and leaves the bytes that the base left. Of plans of version 1: the base refused the others.
 use Prim.Native.Nat.{ℕ}
 use mathlib.Core.Path.{_≡_}
 use mathlib.Core.Bool.{true, not}

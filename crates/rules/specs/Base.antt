@@ -1,4 +1,4 @@
--- The base, before 2026-01: frames of version 1 alone, one count of accepted steps, and replay tables to 1,000,000. What it gave is what frames that are not of version 2 still give on an undamaged line whose other consoles have done nothing.
+-- The base, before 2026-01: frames of version 1 alone, one count of accepted steps, and replay tables to 1,000,000. What it gave is what frames that are not of version 2 still give on an undamaged line whose other consoles have done nothing. Of plans of version 1: the base refused the others.
 use Prim.Native.Nat.{ℕ, zero, suc}
 use mathlib.Core.Path.{_≡_}
 use mathlib.Core.Bool.{Bool, true, false, cond, not, _&&_, _||_}
@@ -127,13 +127,13 @@ noneOfTwo (suc fuel) (b ∷ bs) =
     let n = lengthField (b ∷ bs) in
     frameCut (b ∷ bs) || (not (eqb (frameVersion (lists.take n (b ∷ bs))) 2) && noneOfTwo fuel (drop n (b ∷ bs)))
 
--- The base's sheet: the same text, worked by its own step.
+-- The base's sheet: the same text, worked by its own step. A plan of version 2, which it answered with 2, is let through as it is now.
 unfoldable pub baseSheet : List ℕ → List ℕ
 unfolding planRefusal planOf initialLine baseStep entering zipWith decimal answerLine entryLine clockText nodeText lineText
 baseSheet input =
     let n = lengthField input in
     opening ++ planTextBy baseStep (planRefusal (lists.take n input)) (lists.take n input) (drop n input)
 
--- The old sheets stand as they were.
+-- The old sheets, whose plans are of version 1, stand as they were.
 abbrev pub SheetAsBefore : Type 0
 SheetAsBefore = (input : List ℕ) → Bytes input → (let n = lengthField input in noneOfTwo (length (drop n input)) (drop n input)) ≡ true → sheet input ≡ baseSheet input

@@ -1,4 +1,4 @@
--- The base's bytes, before 2026-01: one count of accepted steps, and nothing behind it. A line whose other consoles have done nothing is still written so.
+-- The base's bytes, before 2026-01: one count of accepted steps, and nothing behind it. A line whose other consoles have done nothing is still written so; of plans of version 1, since the base had no others.
 use Prim.Native.Nat.{ℕ}
 use mathlib.Core.Path.{_≡_}
 use mathlib.Core.List.{List, map}
