@@ -2,9 +2,8 @@
 ghost use mathlib.Core.Path.{_≡_};
 ghost use mathlib.Core.Bool.{cond};
 ghost use Prim.Native.Nat.{_+_, _-_, _^_, _≤_, _<_};
-ghost use Rattle.plan.specs.Plan.{planOf, numbersFrom, entering, leaving};
+ghost use Rattle.plan.specs.Plan.{planOf, planChannels, channelAt, numbersFrom, entering, leaving};
 ghost use Rattle.plan.specs.Mask.{picked, taking, someTakes, planMask, CountOf, FirstOf, TakingOf};
-use crate::Channel;
 use crate::Pick;
 use crate::Record;
 use crate::bytes;
@@ -24,13 +23,15 @@ pub fn mask_next(mask: u32) -> u32
     u32::trailing_zeros(mask)
 }
 
-// Whether a channel is one of those picked.
-fn picks(p: Pick, c: Channel) -> bool
-    ensures { λ r. ⌜ r ≡ picked p c ⌝ }
+// Whether a channel is one of those picked, by the end that is asked for.
+fn picks(plan: &[u8], p: Pick, b: usize) -> bool
+    requires { ⌜ (b < planChannels (now plan)) × (b < 256) ⌝ }
+    ensures { λ r. ⌜ r ≡ picked p (channelAt (planOf (now (plan .entry))) b) ⌝ }
 {
+    let at = bytes::channel_from(plan, b);
     match p {
-        Pick::Entering(node) => bytes::index_of(c.receiver) == node,
-        Pick::Leaving(node) => bytes::index_of(c.sender) == node,
+        Pick::Entering(node) => bytes::index_of(bytes::byte_at(plan, at + 1)) == node,
+        Pick::Leaving(node) => bytes::index_of(bytes::byte_at(plan, at)) == node,
     }
 }
 
@@ -52,7 +53,7 @@ fn picked_mask(plan: &[u8], p: Pick) -> u32
     let mut bit: u32 = 1;
     let mut b: usize = 0;
     while b < m {
-        mask += bit_if(picks(p, channels::channel_at(plan, b)), bit);
+        mask += bit_if(picks(plan, p, b), bit);
         bit *= 2;
         b += 1;
     }

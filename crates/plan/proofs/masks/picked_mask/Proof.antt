@@ -23,14 +23,21 @@ loop-holds c =
     grown-start (picked (a .p)) (planOf (a .plan .now) .channels) (omega (arith, channel-count (a .plan .now), c .before .channel-count .ensures .0))
 
 add-mask : tie.Need-add-mask Inv-loop μ-loop
-add-mask c = omega (arith, c .bit-if .ensures, bit-at-most (c .before .picks .result) (c .before .before .before .before .loop .bit))
+add-mask c = omega (arith, c .bit-if .ensures, bit-at-most (c .before .picks .result) (c .before .before .before .loop .bit))
 
 loop-again : tie.Need-loop-again Inv-loop μ-loop
 loop-again c =
-    let a = c .before .before .before .before .before .before .before .before .args in
-    let t = c .before .before .before .before .loop in
-    let l : t .b < channelCount (planOf (a .plan .now)) = omega (arith, channel-count (a .plan .now), c .before .before .before .before .before .before .channel-count .ensures .0) in
-    rw (c .bit-if .ensures, c .before .picks .ensures, c .before .before .channel-at .ensures) (grown-more (picked (a .p)) (planOf (a .plan .now) .channels) (t .mask) (t .bit) (t .b) (t .inv) l)
+    let looping = c .before .before .before in
+    let t = looping .loop in
+    let count = looping .before .before in
+    let a = count .before .before .args in
+    let l : t .b < channelCount (planOf (a .plan .now)) = omega (arith, channel-count (a .plan .now), count .channel-count .ensures .0) in
+    rw (c .bit-if .ensures, c .before .picks .ensures) (grown-more (picked (a .p)) (planOf (a .plan .now) .channels) (t .mask) (t .bit) (t .b) (t .inv) l)
+
+picks-requires : tie.Need-picks-requires Inv-loop μ-loop
+picks-requires c κs =
+    let count = c .before .before .before .channel-count in
+    (omega (arith, count .ensures .0), omega (arith, count .ensures .1))
 
 returns-2 : tie.Need-returns-2 Inv-loop μ-loop
 returns-2 c =
@@ -50,8 +57,7 @@ picked-mask-spec =
     (λ c κs. tt)
     returns
     loop-holds
-    (λ c κs. tt)
-    (λ c κs. tt)
+    picks-requires
     (λ c κs. tt)
     add-mask
     (λ c. omega arith)
