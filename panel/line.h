@@ -17,7 +17,8 @@
 
 /* Load: checks a plan, of version 1 (document 01) or 2 (request 2026-02), and writes the line that it starts as into a
    state.
-   Returns 0, or the first number of document 01 that applies: 1 to 7 for the plan, 8 for a state of another size.
+   Returns 0, or the first number of document 01, with request 2026-02, that applies: 1 to 7 for the plan, 8 for a state
+   of another size.
    A refusal leaves the state as it was. The plan is only read. */
 uint32_t line_load(const uint8_t *plan, size_t plan_length,
                    uint8_t *state, size_t state_length);
