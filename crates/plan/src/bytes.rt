@@ -70,7 +70,7 @@ pub fn channel_count(plan: &[u8]) -> usize
     index_of(byte_at(plan, 4))
 }
 
-// Where a channel's bytes start; past the last channel, where the plan ends.
+// Where a channel's bytes start; for the count of channels, where the plan ends.
 pub fn channel_from(plan: &[u8], b: usize) -> usize
     requires { ⌜ b < 256 ⌝ }
     ensures { λ r. ⌜ (r ≡ channelFrom (now (plan .entry)) b) × (r ≤ 3575) ⌝ }

@@ -32,6 +32,6 @@ RunAlike = (p q : Plan) (frames : List (List ℕ)) → SameButVersion p q → St
 abbrev pub SheetAlike : Type 0
 SheetAlike = (s t frames : List ℕ) → planRefusal s ≡ 0 → planRefusal t ≡ 0 → SameButVersion (planOf s) (planOf t) → sheet (s ++ frames) ≡ sheet (t ++ frames)
 
--- So of every plan of version 1 and the plan of version 2 with the same channels.
+-- So of every accepted plan of version 1 and the plan of version 2 with the same rules and channels.
 abbrev pub WidenedAlike : Type 0
 WidenedAlike = (s frames : List ℕ) → Bytes s → planRefusal s ≡ 0 → planVersion s ≡ 1 → sheet (s ++ frames) ≡ sheet (inVersionTwo s ++ frames)

@@ -39,7 +39,7 @@ pub unused-refused : stateAnswer (set (lineBytes twoNodes) 61_439 1) ≡ 8
 unfolding lineBytes stateAnswer twoNodes
 unused-refused = refl
 
--- A version that is none.
+-- A version that is none: the bytes are still those of their line, so it is the plan that is refused.
 pub version-refused : stateAnswer (set (lineBytes twoNodes) 2 3) ≡ 8
 unfolding lineBytes stateAnswer twoNodes
 version-refused = refl
