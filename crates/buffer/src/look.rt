@@ -1,13 +1,18 @@
 // Lookups in a state, read in place: the plan at its front, whose channels have their sender and receiver first; a node's status and crash mark, the first bytes of its page.
 ghost use mathlib.Core.Path.{_≡_};
+ghost use mathlib.Core.Bool.{cond};
 ghost use Prim.Native.Nat.{_+_, _≤_, _<_};
-ghost use Rattle.plan.specs.Plan.{planOf, planNodes, planChannels, channelAt, isSource, isSink};
+ghost use lib.ListN.{length, take, drop};
+ghost use Rattle.plan.specs.Layout.{spelled};
+ghost use Rattle.plan.specs.Channel.{hasWindows};
+ghost use Rattle.plan.specs.Plan.{planOf, planVersion, planNodes, planChannels, channelFrom, channelAt, isSource, isSink};
 ghost use Rattle.rules.specs.Line.{consoleCount, stepsFrom, nodeAt};
 ghost use Rattle.rules.specs.Step.{nodeDown, replaying};
 ghost use Rattle.state.specs.State.{lineOf};
 ghost use Rattle.buffer.specs.Ready.{Ready, OnChannel};
 use crate::bytes;
 use crate::layout;
+use plan::Channel;
 
 pub fn index(b: u8) -> usize
     ensures { λ r. ⌜ (r ≡ b) × (r < 256) ⌝ }
@@ -31,12 +36,59 @@ pub fn channel_count(s: &[u8]) -> usize
     index(s[4])
 }
 
+// Whether the plan's channels have a window of masses.
+fn has_windows(s: &[u8]) -> bool
+    requires { ⌜ Ready (now s) ⌝ }
+    ensures { λ r. ⌜ r ≡ hasWindows (planVersion (now (s .entry))) ⌝ }
+{
+    s[2] == 2
+}
+
+// Where a channel's bytes start.
+fn channel_from(s: &[u8], b: usize) -> usize
+    requires { ⌜ OnChannel (now s) b ⌝ }
+    ensures { λ r. ⌜ (r ≡ channelFrom (now (s .entry)) b) × (r ≤ 293) ⌝ }
+{
+    let at = 5 + 4 * node_count(s);
+    if has_windows(s) {
+        at + 10 * b
+    } else {
+        at + 6 * b
+    }
+}
+
+// One end of a channel's window, at a place; what stands for it where the plan has none.
+fn bound_of(s: &[u8], at: usize, windows: bool, other: u16) -> u16
+    requires { ⌜ at + 2 ≤ length (now s) ⌝ }
+    ensures { λ r. ⌜ r ≡ cond windows (spelled 0 (take 2 (drop at (now (s .entry))))) other ⌝ }
+{
+    if windows { bytes::get16(s, at) } else { other }
+}
+
+// A channel.
+pub fn channel_of(s: &[u8], b: usize) -> Channel
+    requires { ⌜ OnChannel (now s) b ⌝ }
+    ensures { λ c. ⌜ c ≡ channelAt (planOf (now (s .entry))) b ⌝ }
+{
+    let at = channel_from(s, b);
+    let windows = has_windows(s);
+    Channel {
+        sender: s[at],
+        receiver: s[at + 1],
+        mask: bytes::get16(s, at + 2),
+        modulus: s[at + 4],
+        remainder: s[at + 5],
+        least: bound_of(s, at + 6, windows, 0),
+        greatest: bound_of(s, at + 8, windows, 65_535),
+    }
+}
+
 // A channel's sender and its receiver.
 pub fn sender_of(s: &[u8], b: usize) -> usize
     requires { ⌜ OnChannel (now s) b ⌝ }
     ensures { λ r. ⌜ (r ≡ channelAt (planOf (now (s .entry))) b .sender) × (r < planNodes (now (s .entry))) ⌝ }
 {
-    let at = plan::bytes::channel_from(s, b);
+    let at = channel_from(s, b);
     index(s[at])
 }
 
@@ -44,7 +96,7 @@ pub fn receiver_of(s: &[u8], b: usize) -> usize
     requires { ⌜ OnChannel (now s) b ⌝ }
     ensures { λ r. ⌜ (r ≡ channelAt (planOf (now (s .entry))) b .receiver) × (r < planNodes (now (s .entry))) ⌝ }
 {
-    let at = plan::bytes::channel_from(s, b);
+    let at = channel_from(s, b);
     index(s[at + 1])
 }
 

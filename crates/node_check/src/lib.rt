@@ -94,8 +94,10 @@ fn passed_on(s: &[u8], n: usize, mask: u32, at: usize) -> bool
     requires { ⌜ Ready (now s) × (mask ≡ planMask (now s) (leaving (planOf (now s)) n)) × (at + 8 ≤ length (now s)) ⌝ }
     ensures { λ r. ⌜ r ≡ passedOn (planOf (now (s .entry))) n (recordIn at (now (s .entry))) ⌝ }
 {
-    let what = slots::record_at(s, at);
-    plan::masks::some_takes(s, mask, what)
+    let piece = bytes::get32(s, at);
+    let material = s[at + 4];
+    let mass = bytes::get16(s, at + 6);
+    plan::masks::some_takes(s, mask, piece, material, mass)
 }
 
 // A held record's record and its two unused bytes.

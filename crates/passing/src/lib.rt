@@ -109,7 +109,7 @@ fn next_of(s: &[u8], b: usize) -> Next
     requires { ⌜ AtLane (now s) b ⌝ }
     ensures { λ r. ⌜ nextIs r ≡ sendable (lineOf (now (s .entry))) b ⌝ }
 {
-    let c = plan::channels::channel_at(s, b);
+    let c = look::channel_of(s, b);
     let n = look::index(c.sender);
     let mark = channel_fields::mark_of(s, b);
     let count = node_fields::log_count(s, n);
@@ -173,7 +173,7 @@ pub fn take_up(s: &mut [u8], b: usize) -> u32
     requires { ⌜ Taking (now s) b ⌝ }
     ensures { λ r. ⌜ Did (now (s .entry)) (frames.take b) (now (s .exit)) r ⌝ }
 {
-    let c = plan::channels::channel_at(s, b);
+    let c = look::channel_of(s, b);
     let n = look::index(c.receiver);
     if LOG <= node_fields::log_count(s, n) {
         return 21;

@@ -30,13 +30,20 @@ fn left_over(piece: u32, modulus: u8) -> u32
     piece % (modulus as u32)
 }
 
+// Whether a channel takes a record, whose fields are passed: as one value they would be packed and unpacked for each channel.
+pub fn takes_fields(c: Channel, piece: u32, material: u8, mass: u16) -> bool
+    ensures { λ t. ⌜ t ≡ takes c (record { piece = piece; material = material; mass = mass }) ⌝ }
+{
+    let bit = bit_set(c.mask, material);
+    let left = left_over(piece, c.modulus);
+    bit & (left == (c.remainder as u32)) & ((c.least <= mass) & (mass <= c.greatest))
+}
+
 // Whether a channel takes a record.
 pub fn channel_takes(c: Channel, r: Record) -> bool
     ensures { λ t. ⌜ t ≡ takes c r ⌝ }
 {
-    let bit = bit_set(c.mask, r.material);
-    let left = left_over(r.piece, c.modulus);
-    bit & (left == (c.remainder as u32)) & ((c.least <= r.mass) & (r.mass <= c.greatest))
+    takes_fields(c, r.piece, r.material, r.mass)
 }
 
 // The number of two bytes at i, where the plan has windows; else what stands for it.

@@ -108,14 +108,15 @@ pub fn taking_among(plan: &[u8], mask: u32, r: Record) -> u32
     found
 }
 
-// Whether one of a mask's channels takes a record.
-pub fn some_takes(plan: &[u8], mask: u32, r: Record) -> bool
-    ensures { λ t. ⌜ t ≡ someTakes (planOf (now (plan .entry))) r mask ⌝ }
+// Whether one of a mask's channels takes a record, by its fields.
+pub fn some_takes(plan: &[u8], mask: u32, piece: u32, material: u8, mass: u16) -> bool
+    ensures { λ t. ⌜ t ≡ someTakes (planOf (now (plan .entry))) (record { piece = piece; material = material; mass = mass }) mask ⌝ }
 {
     let mut left = mask;
     while left != 0 {
         let b = mask_next(left);
-        if channels::channel_takes(channels::channel_at(plan, b as usize), r) {
+        let c = channels::channel_at(plan, b as usize);
+        if channels::takes_fields(c, piece, material, mass) {
             return true;
         }
         left -= bit_of(b);

@@ -103,7 +103,7 @@ fn waiting_of(s: &[u8], n: usize, b: usize, m: Sent) -> Waiting
     requires { ⌜ AtNode (now s) n × (b < planChannels (now s)) × (n ≡ receiverOf (lineOf (now s)) b) ⌝ }
     ensures { λ r. ⌜ heldIs r ≡ wouldHold (lineOf (now (s .entry))) b (messageIs m) ⌝ }
 {
-    let c = plan::channels::channel_at(s, b);
+    let c = look::channel_of(s, b);
     let before = m.made;
     Waiting {
         what: passing::made_by(s, n, m.what),

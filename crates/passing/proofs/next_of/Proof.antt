@@ -7,7 +7,7 @@ use Rattle.plan.specs.declared.Channel.{Channel}
 use Rattle.rules.specs.Line.{nodeAt}
 use Rattle.state.specs.State.{lineOf}
 use Rattle.slots.specs.Slots.{entryIs}
-use Rattle.passing.proofs.StateLaws.{at-sender}
+use Rattle.passing.proofs.StateLaws.{on-channel, at-sender}
 use Rattle.passing.proofs.NextLaws.{Passed, sendable-in, none-passed, next-none, next-found, next-passed}
 use Rattle.passing.proofs.next_of.Statement.{statement}
 use Rattle.passing.proofs.next_of.Tie as tie
@@ -21,19 +21,19 @@ abbrev μ-loop : tie.MeasureT-loop
 log-count-requires : tie.Need-log-count-requires Inv-loop μ-loop
 log-count-requires c κs =
     let at = c .before .before in
-    at-sender (at .before .before .pre) (c .before .index .ensures .0 ∙ ap (λ (d : Channel). d .sender) (at .channel-at .ensures))
+    at-sender (at .before .before .pre) (c .before .index .ensures .0 ∙ ap (λ (d : Channel). d .sender) (at .channel-of .ensures))
 
 loop-holds : tie.Need-loop-holds Inv-loop μ-loop
 loop-holds c =
     let mark = c .before in
     let at = mark .before .before in
-    none-passed (at .channel-at .result) (mark .mark-of .result) (nodeAt (lineOf (at .before .before .args .s .now)) (mark .before .index .result) .log)
+    none-passed (at .channel-of .result) (mark .mark-of .result) (nodeAt (lineOf (at .before .before .args .s .now)) (mark .before .index .result) .log)
 
 entry-of-requires : tie.Need-entry-of-requires Inv-loop μ-loop
 entry-of-requires c κs =
     let counted = c .before .before in
     let at = counted .before .before .before in
-    (at-sender (at .before .before .pre) (counted .before .before .index .ensures .0 ∙ ap (λ (d : Channel). d .sender) (at .channel-at .ensures)), omega (arith, counted .log-count .ensures .0))
+    (at-sender (at .before .before .pre) (counted .before .before .index .ensures .0 ∙ ap (λ (d : Channel). d .sender) (at .channel-of .ensures)), omega (arith, counted .log-count .ensures .0))
 
 returns : tie.Need-returns Inv-loop μ-loop
 returns c =
@@ -47,8 +47,8 @@ returns c =
     let log = nodeAt (lineOf (a .s .now)) (n .result) .log in
     let h : turn .loop .i < length log = omega (arith, counted .log-count .ensures .0) in
     sym
-    (sendable-in (a .s .now) (a .b) (at .channel-at .result) (n .result) (mark .mark-of .result) (at .channel-at .ensures) (n .ensures .0 ∙ ap (λ (d : Channel). d .sender) (at .channel-at .ensures)) (mark .mark-of .ensures)
-    ∙ next-found (at .channel-at .result) (mark .mark-of .result) log (turn .loop .i) (turn .loop .inv) h (entryIs (e .result)) (e .ensures) (sym (c .before .goes-on .ensures) ∙ c .if1 .taken))
+    (sendable-in (a .s .now) (a .b) (at .channel-of .result) (n .result) (mark .mark-of .result) (at .channel-of .ensures) (n .ensures .0 ∙ ap (λ (d : Channel). d .sender) (at .channel-of .ensures)) (mark .mark-of .ensures)
+    ∙ next-found (at .channel-of .result) (mark .mark-of .result) log (turn .loop .i) (turn .loop .inv) h (entryIs (e .result)) (e .ensures) (sym (c .before .goes-on .ensures) ∙ c .if1 .taken))
 
 loop-again : tie.Need-loop-again Inv-loop μ-loop
 loop-again c =
@@ -59,7 +59,7 @@ loop-again c =
     let at = mark .before .before in
     let log = nodeAt (lineOf (at .before .before .args .s .now)) (mark .before .index .result) .log in
     let h : turn .loop .i < length log = omega (arith, counted .log-count .ensures .0) in
-    next-passed (at .channel-at .result) (mark .mark-of .result) log (turn .loop .i) (turn .loop .inv) h (entryIs (e .result)) (e .ensures) (sym (c .before .goes-on .ensures) ∙ c .if1 .left)
+    next-passed (at .channel-of .result) (mark .mark-of .result) log (turn .loop .i) (turn .loop .inv) h (entryIs (e .result)) (e .ensures) (sym (c .before .goes-on .ensures) ∙ c .if1 .left)
 
 returns-2 : tie.Need-returns-2 Inv-loop μ-loop
 returns-2 c =
@@ -71,8 +71,8 @@ returns-2 c =
     let a = at .before .before .args in
     let log = nodeAt (lineOf (a .s .now)) (n .result) .log in
     sym
-    (sendable-in (a .s .now) (a .b) (at .channel-at .result) (n .result) (mark .mark-of .result) (at .channel-at .ensures) (n .ensures .0 ∙ ap (λ (d : Channel). d .sender) (at .channel-at .ensures)) (mark .mark-of .ensures)
-    ∙ next-none (at .channel-at .result) (mark .mark-of .result) log (turn .loop .i) (turn .loop .inv) (omega (arith, counted .log-count .ensures .0)))
+    (sendable-in (a .s .now) (a .b) (at .channel-of .result) (n .result) (mark .mark-of .result) (at .channel-of .ensures) (n .ensures .0 ∙ ap (λ (d : Channel). d .sender) (at .channel-of .ensures)) (mark .mark-of .ensures)
+    ∙ next-none (at .channel-of .result) (mark .mark-of .result) log (turn .loop .i) (turn .loop .inv) (omega (arith, counted .log-count .ensures .0)))
 
 pub next-of-spec : {M : Type 1} → statement M
 next-of-spec =
@@ -80,7 +80,7 @@ next-of-spec =
     (tie.spec
     Inv-loop
     μ-loop
-    (λ c κs. tt)
+    (λ c κs. on-channel (c .before .pre))
     (λ c κs. tt)
     (λ c κs. search needs)
     log-count-requires

@@ -19,7 +19,7 @@ log-count-requires : tie.Need-log-count-requires
 log-count-requires c κs =
     let at = c .before .before in
     let given = at .before .before .before .pre in
-    at-receiver (at-lane (given .undamaged) (given .below)) (c .before .index .ensures .0 ∙ ap (λ (d : Channel). d .receiver) (at .channel-at .ensures))
+    at-receiver (at-lane (given .undamaged) (given .below)) (c .before .index .ensures .0 ∙ ap (λ (d : Channel). d .receiver) (at .channel-of .ensures))
 
 returns : tie.Need-returns
 returns c =
@@ -28,7 +28,7 @@ returns c =
     let start = at .before .before .before in
     let a = start .args in
     let l = lineOf (a .s .now) in
-    let is : n .index .result ≡ receiverOf l (a .b) = n .index .ensures .0 ∙ ap (λ (d : Channel). d .receiver) (at .channel-at .ensures) ∙ rw (line-plan (a .s .now)) in
+    let is : n .index .result ≡ receiverOf l (a .b) = n .index .ensures .0 ∙ ap (λ (d : Channel). d .receiver) (at .channel-of .ensures) ∙ rw (line-plan (a .s .now)) in
     take-full (a .s .now) (a .b) (start .pre) (rw (← is) (omega (arith, c .before .log-count .ensures .0)))
 
 made-by-requires : tie.Need-made-by-requires
@@ -45,7 +45,7 @@ add-t21 c =
     let start = at .before .before .before in
     let a = start .args in
     let u = start .pre .undamaged in
-    let inside : at .channel-at .result .sender < planNodes (a .s .now) = rw (at .channel-at .ensures) (sender-inside (a .s .now) (a .b) (on-channel (at-lane u (start .pre .below)))) in
+    let inside : at .channel-of .result .sender < planNodes (a .s .now) = rw (at .channel-of .ensures) (sender-inside (a .s .now) (a .b) (on-channel (at-lane u (start .pre .below)))) in
     omega (arith, inside, u .holds .ready .nodes)
 
 log-made-requires : tie.Need-log-made-requires
@@ -59,7 +59,7 @@ log-made-requires c κs =
     let a = start .args in
     let u = start .pre .undamaged in
     let q = laneAt (lineOf (a .s .now)) (a .b) .queue in
-    let there = at-receiver (at-lane u (start .pre .below)) (n .index .ensures .0 ∙ ap (λ (d : Channel). d .receiver) (at .channel-at .ensures)) in
+    let there = at-receiver (at-lane u (start .pre .below)) (n .index .ensures .0 ∙ ap (λ (d : Channel). d .receiver) (at .channel-of .ensures)) in
     taken-loggable (a .s .now) (gone .take-first .last .0) (a .b) (messageIs (m .result)) (drop 1 q)
     (gone .take-first .ensures (drop 1 q) (first-is q (messageIs (m .result)) (start .pre .waiting) (m .ensures)))
     (n .index .result)
@@ -79,18 +79,18 @@ returns-2 c =
     let l = lineOf (a .s .now) in
     let q = laneAt l (a .b) .queue in
     let first = first-is q (messageIs (m .result)) (start .pre .waiting) (m .ensures) in
-    let is : n .index .result ≡ receiverOf l (a .b) = n .index .ensures .0 ∙ ap (λ (d : Channel). d .receiver) (at .channel-at .ensures) ∙ rw (line-plan (a .s .now)) in
+    let is : n .index .result ≡ receiverOf l (a .b) = n .index .ensures .0 ∙ ap (λ (d : Channel). d .receiver) (at .channel-of .ensures) ∙ rw (line-plan (a .s .now)) in
     take-done (a .s .now) (a .b) (start .pre) (done .log-made .last .0) (messageIs (m .result)) (drop 1 q)
     (rw (← is) (omega (arith, logs .log-count .ensures .0, gone .before .before .before .before .if1 .left)))
     first
     (taken-up (a .s .now) (gone .take-first .last .0) (a .b) (messageIs (m .result)) (drop 1 q) (gone .take-first .ensures (drop 1 q) first)
-    (done .log-made .last .0) (at .channel-at .result) (n .index .result) (what .result) (at .channel-at .ensures) (n .index .ensures .0) (what .ensures) (done .log-made .ensures))
+    (done .log-made .last .0) (at .channel-of .result) (n .index .result) (what .result) (at .channel-of .ensures) (n .index .ensures .0) (what .ensures) (done .log-made .ensures))
 
 pub take-up-spec : {M : Type 1} → statement M
 take-up-spec =
     tie.close
     (tie.spec
-    (λ c κs. search needs)
+    (λ c κs. let given = c .before .before .pre in on-channel (at-lane (given .undamaged) (given .below)))
     (λ c κs. search needs)
     log-count-requires
     (λ c. search needs)

@@ -9,9 +9,6 @@ use Rattle.buffer.proofs.LookLaws.{sender-byte}
 use Rattle.buffer.proofs.look.sender_of.Statement.{statement}
 use Rattle.buffer.proofs.look.sender_of.Tie as tie
 
-channel-from-requires : tie.Need-channel-from-requires
-channel-from-requires c κs = omega (arith, c .before .pre .below, c .before .pre .ready .channels)
-
 shared-slice-read-index : tie.Need-shared-slice-read-index
 shared-slice-read-index c = omega (arith, c .before .channel-from .ensures .1, c .before .before .before .pre .ready .long)
 
@@ -28,7 +25,7 @@ pub sender-of-spec : {M : Type 1} → statement M
 sender-of-spec =
     tie.close
     (tie.spec
-    channel-from-requires
+    (λ c κs. c .before .pre)
     shared-slice-read-index
     (λ c κs. search needs)
     returns)

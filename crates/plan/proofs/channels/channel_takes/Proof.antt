@@ -1,16 +1,8 @@
-use Rattle.plan.specs.Channel.{takes}
-use borrow.Author.Needs.{needs}
 use Rattle.plan.proofs.channels.channel_takes.Statement.{statement}
 use Rattle.plan.proofs.channels.channel_takes.Tie as tie
 
 returns : tie.Need-returns
-unfolding takes
-returns c = let left = c .before .before .before .before .before in rw (left .before .bit-set .ensures, left .left-over .ensures)
+returns c = c .takes-fields .ensures
 
 pub channel-takes-spec : {M : Type 1} → statement M
-channel-takes-spec = tie.close
-    (tie.spec
-    (λ c κs. tt)
-    (λ c κs. tt)
-    (λ c. search needs)
-    returns)
+channel-takes-spec = tie.close (tie.spec (λ c κs. tt) returns)
