@@ -193,10 +193,10 @@ fn target_ok(s: &[u8], t: &[u8; 156], steps: u32, n: usize, at: usize) -> bool
     requires { ⌜ Tabled (now s) (now t) steps × (at + 12 ≤ length (now s)) ⌝ }
     ensures { λ r. ⌜ r ≡ (targetExact at (now (s .entry)) && targetRight (lineOf (now (s .entry))) n (targetIn at (now (s .entry)))) ⌝ }
 {
-    let time = bytes::get32(s, at);
-    let other = bytes::get32(s, at + 4);
     let parent = look::index(s[at + 8]);
     let code = table::joined(s, t, parent, n);
+    let time = bytes::get32(s, at);
+    let other = bytes::get32(s, at + 4);
     let unused = ((s[at + 9] | s[at + 10]) | s[at + 11]) == 0;
     unused & ((time <= steps) & (other <= steps) & (code != 255))
 }

@@ -9,11 +9,11 @@ use Rattle.node_check.proofs.target_ok.Tie as tie
 
 returns : tie.Need-returns
 returns c =
-    let found = c .before .before .before in
-    let parent = found .before in
-    let other = parent .before .before in
+    let other = c .before .before .before in
     let time = other .before in
-    let start = time .before .before in
+    let found = time .before in
+    let parent = found .before in
+    let start = parent .before .before .before in
     let a = start .args in
     let s = a .s .now in
     rw (start .pre .0 .same)
@@ -24,12 +24,12 @@ pub target-ok-spec : {M : Type 1} → statement M
 target-ok-spec =
     tie.close
     (tie.spec
-    (λ c κs. search needs)
-    (λ c. search needs)
-    (λ c κs. search needs)
     (λ c. search needs)
     (λ c. search needs)
     (λ c κs. search needs)
+    (λ c κs. search needs)
+    (λ c κs. search needs)
+    (λ c. search needs)
     (λ c κs. search needs)
     (λ c. search needs)
     (λ c. search needs)
