@@ -36,6 +36,8 @@ pub fn channel_count(s: &[u8]) -> usize
     index(s[4])
 }
 
+// These four read as `plan` does, but do not look for the end of the bytes, which is far behind a ready state's plan.
+
 // Whether the plan's channels have a window of masses.
 fn has_windows(s: &[u8]) -> bool
     requires { ⌜ Ready (now s) ⌝ }
@@ -57,7 +59,7 @@ fn channel_from(s: &[u8], b: usize) -> usize
     }
 }
 
-// One end of a channel's window, at a place; what stands for it where the plan has none.
+// An end of a channel's window, at a place; what stands for it where the plan has no windows.
 fn bound_of(s: &[u8], at: usize, windows: bool, other: u16) -> u16
     requires { ⌜ at + 2 ≤ length (now s) ⌝ }
     ensures { λ r. ⌜ r ≡ cond windows (spelled 0 (take 2 (drop at (now (s .entry))))) other ⌝ }

@@ -195,6 +195,7 @@ fn target_ok(s: &[u8], t: &[u8; 156], steps: u32, n: usize, at: usize) -> bool
 {
     let parent = look::index(s[at + 8]);
     let code = table::joined(s, t, parent, n);
+    // Read behind the lookup, each number is one load.
     let time = bytes::get32(s, at);
     let other = bytes::get32(s, at + 4);
     let unused = ((s[at + 9] | s[at + 10]) | s[at + 11]) == 0;
