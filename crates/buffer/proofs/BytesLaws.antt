@@ -4,18 +4,17 @@ use mathlib.Core.Path.{_≡_, refl, sym, ap, _∙_}
 use mathlib.Core.Bool.{Bool, true, false, _&&_, and-assoc, and-true}
 use mathlib.Core.List.{List, [], _∷_, _++_}
 use native.Mathlib.Nat.{add-zero}
-use native.Mathlib.Numerals.{add-one}
 use native.Mathlib.Omega.{arith}
 use borrow.Author.Tests.{ne-eqb, eqb-true}
 use lib.Dec.{eqb, eqb·zero-suc, eqb·suc-zero}
 use lib.Bits.{bitOr, or-zero-l, or-add-and, and-le-r}
 use lib.ListN.{length, getD, take, drop, set, replicate, length-drop}
-use lib.Seq.{length-take-le, take-suc, take-all, getD-drop, paste, paste-suc}
+use lib.Seq.{length-take-le, take-suc, take-all, take-add, drop-drop, getD-drop, paste, paste-suc}
 use Rattle.plan.specs.Layout.{spelled}
 use Rattle.plan.specs.Lawful.{Zeros}
 use Rattle.state.specs.State.{sameBytes}
 use Rattle.basics.specs.Bools.{both-true}
-use Rattle.basics.specs.Put.{put, length-put, put-replicate, put-set, getD-put, put-behind}
+use Rattle.basics.specs.Put.{put, put-replicate, drop-put, put-behind}
 use Rattle.buffer.specs.Zero.{zeroBytes}
 use Rattle.buffer.specs.Exact.{zeroAt}
 
@@ -108,16 +107,14 @@ module _ (s : List ℕ) (at gap : ℕ) where
   behind-gap : (n : ℕ) → at + gap + n ≤ length s → length (take n (drop (at + gap) s)) ≡ n
   behind-gap n h = length-take-le n (drop (at + gap) s) (simp length-drop (omega arith))
 
-  -- One byte more.
-  pub gap-turn : (i : ℕ) → at + gap + i < length s
-      → set (put s at (take i (drop (at + gap) s))) (at + i) (getD (put s at (take i (drop (at + gap) s))) (at + gap + i) 0) ≡ put s at (take (i + 1) (drop (at + gap) s))
-  gap-turn i h =
+  -- So many bytes more.
+  pub gap-turn : (i w : ℕ) → at + gap + i + w ≤ length s
+      → put (put s at (take i (drop (at + gap) s))) (at + i) (take w (drop (at + gap + i) (put s at (take i (drop (at + gap) s))))) ≡ put s at (take (i + w) (drop (at + gap) s))
+  gap-turn i w h =
       let rest : List ℕ = drop (at + gap) s in
       let moved : List ℕ = take i rest in
       let many : length moved ≡ i = behind-gap i (omega arith) in
-      let size : length (put s at moved) ≡ length s = length-put s at moved (omega arith) in
-      let below : i < length rest = simp length-drop (omega arith) in
-      rw (getD-put s at (at + gap + i) moved 0 (omega arith) (omega arith), put-set (put s at moved) (at + i) (getD s (at + gap + i) 0) (omega arith), put-behind s at moved (at + i) (getD s (at + gap + i) 0 ∷ []) (omega arith) (omega arith), add-one, take-suc rest i 0 below, getD-drop) refl
+      rw (drop-put s at (at + gap + i) moved (omega arith) (omega arith), put-behind s at moved (at + i) (take w (drop (at + gap + i) s)) (omega arith) (omega arith), take-add i w rest, drop-drop i (at + gap) s) refl
 
   pub gap-closed : (n to : ℕ) → at + gap + n ≤ length s → at + n + gap ≡ to
       → take (at + n) (put s at (take n (drop (at + gap) s))) ++ replicate (to - (at + n)) 0 ++ drop to (put s at (take n (drop (at + gap) s))) ≡ put s at (take n (drop (at + gap) s) ++ replicate gap 0)

@@ -1,5 +1,6 @@
 -- What reading the lent buffer rests on.
 pub mod BytesLaws
+pub mod WordLaws
 pub mod PieceReads
 pub mod ReadyLaws
 pub mod LookLaws

@@ -6,14 +6,16 @@ use mathlib.Core.List.{List}
 use mathlib.Core.Option.{none, some}
 use native.Mathlib.Omega.{arith}
 use borrow.Author.Tests.{lt-ltb, ne-eqb, eqb-true, eqb-false}
-use lib.Seq.{take-take}
+use lib.Seq.{take-take, drop-drop}
 use lib.Dec.{lit≤, leb, ltb, eqb, eqb·suc-zero}
 use lib.ListN.{length, getD, take, drop, length-map}
 use Rattle.plan.specs.Lawful.{Bytes}
 use Rattle.plan.specs.Layout.{spelled}
 use Rattle.plan.specs.Plan.{Plan, planOf, planChannels, channelAt, entering, isSource}
+use Rattle.plan.specs.Record.{recordFits}
 use Rattle.plan.proofs.NumberLaws.{spelled-below}
 use Rattle.plan.proofs.PlanLaws.{channel-count}
+use Rattle.plan.proofs.ReadLaws.{byte-field}
 use Rattle.rules.specs.Line.{Origin, fed, made, Line, laneAt, parents}
 use Rattle.rules.specs.Damaged.{isFed}
 use Rattle.state.specs.Sizes.{takenAt, heardAt, parentLimit, blockAt}
@@ -40,7 +42,7 @@ use Rattle.buffer.proofs.TableLaws.{coded, not-found}
 word-small : (w a : ℕ) (s : List ℕ) → Bytes s → a + w ≤ length s → spelled 0 (take w (drop a s)) < 256 ^ w
 word-small w a s h l = rw (part-long a w s l) at (spelled-below (take w (drop a s)) (part-bytes a w s h))
 
-pub record-in : (a : ℕ) (s : List ℕ) → recordIn a s ≡ record { piece = wordAt a s; material = getD s (a + 4) 0; mass = spelled 0 (take 2 (drop (a + 6) s)) }
+record-in : (a : ℕ) (s : List ℕ) → recordIn a s ≡ record { piece = wordAt a s; material = getD s (a + 4) 0; mass = spelled 0 (take 2 (drop (a + 6) s)) }
 record-in a s =
     record-read (take 8 (drop a s))
     ∙ (λ i. record { piece = spelled 0 (take-take 4 8 (drop a s) (lit≤ tt) i); material = byte-part 4 8 a s (omega arith) i; mass = spelled 0 (part-part 2 6 8 a s (omega arith) i) })
@@ -50,8 +52,12 @@ record-right a s h l =
     ap recordRight (record-in a s)
     ∙ rw (lt-ltb (wordAt a s) 4294967296 (word-small 4 a s h (omega arith)), lt-ltb (spelled 0 (take 2 (drop (a + 6) s))) 65536 (word-small 2 (a + 6) s h (omega arith)), and-true, and-true)
 
-pub record-tested : (a : ℕ) (s : List ℕ) → Bytes s → a + 8 ≤ length s → (eqb (getD s (a + 5) 0) 0 && leb (getD s (a + 4) 0) 15) ≡ (recordExact a s && recordRight (recordIn a s))
-record-tested a s h l = ap (λ (t : Bool). recordExact a s && t) (sym (record-right a s h l))
+pub record-tested : (a : ℕ) (s : List ℕ) → Bytes s → a + 8 ≤ length s → recordFits (take 8 (drop a s)) ≡ (recordExact a s && recordRight (recordIn a s))
+unfolding recordFits
+record-tested a s h l =
+    let b : List ℕ = take 8 (drop a s) in
+    rw (drop-drop 1 4 b, byte-field 4 b, byte-field 5 b, byte-part 4 8 a s (omega arith), byte-part 5 8 a s (omega arith))
+    (and-comm (leb (getD s (a + 4) 0) 15) (eqb (getD s (a + 5) 0) 0) ∙ ap (λ (t : Bool). recordExact a s && t) (sym (record-right a s h l)))
 
 -- ---- what an input was made from
 

@@ -1,4 +1,5 @@
 -- Right bytes at an offset of the state, and the plan at its front as it is looked up.
+pub mod Words
 pub mod Zero
 pub mod Exact
 pub mod Ready

@@ -1,10 +1,11 @@
 // Bytes of a lent buffer, read and written in place. Numbers are big-endian.
 ghost use mathlib.Core.Path.{_≡_};
-ghost use Prim.Native.Nat.{_+_, _-_, _≤_, _<_, max};
+ghost use Prim.Native.Nat.{_+_, _*_, _^_, _-_, _≤_, _<_, max};
 ghost use lib.ListN.{length, take, drop, replicate};
 ghost use mathlib.Core.List.{_++_};
 ghost use Rattle.basics.specs.Put.{put};
 ghost use Rattle.plan.specs.Layout.{spelled, bytesOf};
+ghost use Rattle.buffer.specs.Words.{number64, withNumber64};
 ghost use Rattle.buffer.specs.Zero.{zeroBytes};
 
 fn wide16(b: u8) -> u16
@@ -17,6 +18,12 @@ pub fn wide32(b: u8) -> u32
     ensures { λ r. ⌜ (r ≡ b) × (r < 256) ⌝ }
 {
     b as u32
+}
+
+fn wide64(x: u32) -> u64
+    ensures { λ r. ⌜ (r ≡ x) × (r < 4_294_967_296) ⌝ }
+{
+    x as u64
 }
 
 // A number of four bytes as a place or a count.
@@ -49,12 +56,42 @@ pub fn get16(s: &[u8], at: usize) -> u16
     wide16(s[at]) * 256 + wide16(s[at + 1])
 }
 
+// The order of the bytes, said once: of four as a number, and of eight, in halves.
+fn spell32(a: u8, b: u8, c: u8, d: u8) -> u32
+    ensures { λ r. ⌜ r ≡ ((a * 256 + b) * 256 + c) * 256 + d ⌝ }
+{
+    ((wide32(a) * 256 + wide32(b)) * 256 + wide32(c)) * 256 + wide32(d)
+}
+
+fn spell64(a: u8, b: u8, c: u8, d: u8, e: u8, f: u8, g: u8, h: u8) -> u64
+    ensures { λ r. ⌜ r ≡ a * 256 ^ 7 + b * 256 ^ 6 + c * 256 ^ 5 + d * 256 ^ 4 + e * 256 ^ 3 + f * 256 ^ 2 + g * 256 + h ⌝ }
+{
+    wide64(spell32(a, b, c, d)) * 4_294_967_296 + wide64(spell32(e, f, g, h))
+}
+
 // The number that four bytes spell.
 pub fn get32(s: &[u8], at: usize) -> u32
     requires { ⌜ at + 4 ≤ length (now s) ⌝ }
     ensures { λ r. ⌜ r ≡ spelled 0 (take 4 (drop at (now (s .entry)))) ⌝ }
 {
-    ((wide32(s[at]) * 256 + wide32(s[at + 1])) * 256 + wide32(s[at + 2])) * 256 + wide32(s[at + 3])
+    spell32(s[at], s[at + 1], s[at + 2], s[at + 3])
+}
+
+// The number that eight bytes spell.
+pub fn get64(s: &[u8], at: usize) -> u64
+    requires { ⌜ at + 8 ≤ length (now s) ⌝ }
+    ensures { λ r. ⌜ r ≡ number64 at (now (s .entry)) ⌝ }
+{
+    spell64(
+        s[at],
+        s[at + 1],
+        s[at + 2],
+        s[at + 3],
+        s[at + 4],
+        s[at + 5],
+        s[at + 6],
+        s[at + 7],
+    )
 }
 
 // Whether the bytes from a place up to another are all 0. They are or-ed together and tested once, so that the compiler takes many at a time.
@@ -123,15 +160,17 @@ pub fn put32(s: &mut [u8], at: usize, v: u32)
     s[at + 3] = (v % 256) as u8;
 }
 
-// So many bytes from behind a gap move down to its start; what they leave becomes 0.
-pub fn close_gap(s: &mut [u8], at: usize, gap: usize, count: usize)
-    requires { ⌜ at + gap + count ≤ length (now s) ⌝ }
-    ensures { λ _. ⌜ now (s .exit) ≡ put (now (s .entry)) at (take count (drop (at + gap) (now (s .entry))) ++ replicate gap 0) ⌝ }
+// A number in eight bytes.
+pub fn put64(s: &mut [u8], at: usize, v: u64)
+    requires { ⌜ at + 8 ≤ length (now s) ⌝ }
+    ensures { λ _. ⌜ now (s .exit) ≡ withNumber64 at v (now (s .entry)) ⌝ }
 {
-    let mut i: usize = 0;
-    while i < count {
-        s[at + i] = s[at + gap + i];
-        i += 1;
-    }
-    fill_zero(s, at + count, at + count + gap);
+    s[at] = (v / 72_057_594_037_927_936 % 256) as u8;
+    s[at + 1] = (v / 281_474_976_710_656 % 256) as u8;
+    s[at + 2] = (v / 1_099_511_627_776 % 256) as u8;
+    s[at + 3] = (v / 4_294_967_296 % 256) as u8;
+    s[at + 4] = (v / 16_777_216 % 256) as u8;
+    s[at + 5] = (v / 65_536 % 256) as u8;
+    s[at + 6] = (v / 256 % 256) as u8;
+    s[at + 7] = (v % 256) as u8;
 }

@@ -1,4 +1,4 @@
-// Records and origins at an offset of the state. An origin's first byte is 0 for none, else the sender and 1; a time stands with a sender only.
+// Records at an offset, and origins in the state. An origin's first byte is 0 for none, else the sender and 1; a time stands with a sender only.
 ghost use mathlib.Core.Path.{_≡_};
 ghost use mathlib.Core.Bool.{_&&_};
 ghost use Prim.Native.Nat.{_+_, _≤_, _<_};
@@ -14,14 +14,16 @@ ghost use Rattle.buffer.specs.Ready.{Ready};
 ghost use Rattle.buffer.specs.Table.{Table};
 use crate::bytes;
 use crate::layout;
+use crate::record;
 use crate::table;
 
-// A record: its material and its zero byte.
+// Whether eight bytes are a record's: its material and its zero byte.
 pub fn record_ok(s: &[u8], at: usize) -> bool
     requires { ⌜ at + 8 ≤ length (now s) ⌝ }
     ensures { λ r. ⌜ r ≡ (recordExact at (now (s .entry)) && recordRight (recordIn at (now (s .entry)))) ⌝ }
 {
-    (s[at + 5] == 0) & (s[at + 4] <= 15)
+    let number = bytes::get64(s, at);
+    (record::material_of(number) <= 15) & (record::zero_of(number) == 0)
 }
 
 // What an input was made from that came on channel b from a sender.

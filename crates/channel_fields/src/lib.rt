@@ -123,12 +123,7 @@ pub fn drop_first(s: &mut [u8], b: usize)
     let at = layout::BLOCKS + layout::BLOCK * b + layout::QUEUE;
     let count = bytes::get32(s, at);
     bytes::put32(s, at, count - 1);
-    bytes::close_gap(
-        s,
-        at + layout::COUNT,
-        layout::MESSAGE_SIZE,
-        layout::MESSAGE_SIZE * bytes::size(count - 1),
-    );
+    slots::close_gap(s, at + layout::COUNT, bytes::size(count - 1));
 }
 
 // Where a parent stands among the parents of a node, 4 for none.

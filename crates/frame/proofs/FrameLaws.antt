@@ -4,7 +4,6 @@ use mathlib.Core.Path.{_≡_, refl, sym, ap, _∙_}
 use mathlib.Core.Logic.{_≢_}
 use mathlib.Core.Bool.{Bool, true, false, cond, not, _&&_}
 use mathlib.Core.List.{List}
-use native.Mathlib.Nat.{add-assoc}
 use native.Mathlib.Omega.{arith}
 use borrow.Author.Tests.{eqb-true, eq-eqb, ne-eqb, leb-false, ltb-false, not-false}
 use lib.Dec.{leb, ltb, eqb}
@@ -40,13 +39,13 @@ by-kind f kind console n k c m = rw (k, m, c)
 
 -- ---- the record behind it
 
-pub fits-fields : (a : ℕ) (s : List ℕ) → recordFits (drop a s) ≡ (materialFits (spelled 0 (take 1 (drop (a + 4) s))) && eqb (spelled 0 (take 1 (drop (a + 5) s))) 0)
-unfolding recordFits
-fits-fields a s = simp (drop-drop, add-assoc)
-
 pub record-front : (s : List ℕ) → recordLayout .read s ≡ recordLayout .read (take 8 s)
 unfolding recordLayout
 record-front s = ap recordOf (sym (fields-front recordWidths s))
+
+pub fits-front : (s : List ℕ) → recordFits s ≡ recordFits (take 8 s)
+unfolding recordFits
+fits-front s = ap (λ (ns : List ℕ). materialFits (getD ns 1 0) && eqb (getD ns 2 0) 0) (sym (fields-front recordWidths s))
 
 -- ---- refusals
 

@@ -4,12 +4,12 @@ ghost use mathlib.Core.Bool.{cond};
 ghost use Prim.Native.Nat.{_+_, _≤_, _<_};
 ghost use lib.Dec.{eqb};
 ghost use lib.ListN.{length, getD, drop};
-ghost use Rattle.plan.specs.Record.{recordFits};
 ghost use Rattle.rules.specs.Frame.{feed, frameVersion, frameKind, consoleBytes, frameConsole, frameOf, badFrameLength, badFrameVersion, badKind, badConsole, frameRefusal};
 ghost use Rattle.frame.specs.Reading.{Asks};
 use buffer::Line;
 use buffer::bytes;
 use buffer::look;
+use buffer::origin;
 use plan::Record;
 
 // What a frame asks of a node or a channel, by its kind. A Feed has its record, and whether its bytes are a record's.
@@ -135,14 +135,6 @@ pub fn refusal_of(frame: &[u8]) -> u32
     0
 }
 
-// Whether the eight bytes at a place are a record's: its material, and its zero byte.
-fn record_fits(s: &[u8], at: usize) -> bool
-    requires { ⌜ at + 8 ≤ length (now s) ⌝ }
-    ensures { λ r. ⌜ r ≡ recordFits (drop at (now (s .entry))) ⌝ }
-{
-    (bytes::get8(s, at + 4) <= 15) & (bytes::get8(s, at + 5) == 0)
-}
-
 // A Feed of a node, whose record stands at a place.
 fn feed_of(frame: &[u8], node: usize, at: usize) -> Frame
     requires { ⌜ at + 8 ≤ length (now frame) ⌝ }
@@ -151,7 +143,7 @@ fn feed_of(frame: &[u8], node: usize, at: usize) -> Frame
     Frame::Feed {
         node,
         what: slots::record_at(frame, at),
-        fits: record_fits(frame, at),
+        fits: origin::record_ok(frame, at),
     }
 }
 

@@ -23,6 +23,7 @@ use buffer::bytes;
 use buffer::layout;
 use buffer::look;
 use buffer::origin;
+use buffer::record;
 use buffer::table;
 
 // A log entry's record and its two unused bytes.
@@ -94,9 +95,10 @@ fn passed_on(s: &[u8], n: usize, mask: u32, at: usize) -> bool
     requires { ⌜ Ready (now s) × (mask ≡ planMask (now s) (leaving (planOf (now s)) n)) × (at + 8 ≤ length (now s)) ⌝ }
     ensures { λ r. ⌜ r ≡ passedOn (planOf (now (s .entry))) n (recordIn at (now (s .entry))) ⌝ }
 {
-    let piece = bytes::get32(s, at);
-    let material = s[at + 4];
-    let mass = bytes::get16(s, at + 6);
+    let number = bytes::get64(s, at);
+    let piece = record::piece_of(number);
+    let material = record::material_of(number);
+    let mass = record::mass_of(number);
     plan::masks::some_takes(s, mask, piece, material, mass)
 }
 

@@ -19,7 +19,7 @@ number-below w s h =
     let short : length (take w s) ≤ w = simp length-take (omega arith) in
     lt-of-lt-of-le (spelled-below (take w s) (bytes-take w s h)) (pow-le-pow-right (lit< tt) short)
 
-number-written : (w : ℕ) (s : List ℕ) → w ≤ length s → Bytes s → bytesOf w (spelled 0 (take w s)) ≡ take w s
+pub number-written : (w : ℕ) (s : List ℕ) → w ≤ length s → Bytes s → bytesOf w (spelled 0 (take w s)) ≡ take w s
 number-written w s e h = rw (length-take-le w s e) at (bytes-written 0 (take w s) (bytes-take w s h))
 
 pub number-lawful : (w : ℕ) → Lawful (number w) (λ v. v < 256 ^ w) (λ s. Unit {0})

@@ -1,16 +1,22 @@
 -- What stands in a slot, written part by part.
 use Prim.Native.Nat.{ℕ, zero, suc, _+_, _≤_, _<_}
-use mathlib.Core.Path.{_≡_, refl, _∙_}
-use mathlib.Core.List.{List, [], _∷_, append-assoc}
+use mathlib.Core.Path.{_≡_, refl, ap, _∙_}
+use mathlib.Core.List.{List, [], _∷_, _++_, append-assoc, append-nil}
+use native.Mathlib.Nat.{add-assoc}
 use native.Mathlib.Omega.{arith}
-use lib.ListN.{length}
+use lib.ListN.{length, take, drop}
+use lib.Seq.{take-add, drop-drop}
 use Rattle.basics.specs.Put.{put, puts, puts-joined}
 use Rattle.plan.specs.Layout.{bytesOf}
-use Rattle.plan.specs.declared.Record.{Record}
+use Rattle.plan.specs.Lawful.{Bytes}
 use Rattle.plan.specs.Record.{recordLayout}
 use Rattle.rules.specs.Line.{Origin, Message, Entry, Held, Target}
 use Rattle.state.specs.Pieces.{originFrom, originLayout, messageLayout, entryLayout, heldLayout, targetLayout}
+use Rattle.state.specs.Right.{wordAt}
 use Rattle.state.proofs.PieceLaws.{origin-sound}
+use Rattle.state.proofs.RightAt.{part-long}
+use Rattle.buffer.specs.Words.{number64}
+use Rattle.buffer.proofs.WordLaws.{part-written}
 use Rattle.slots.specs.Slots.{timeOf}
 
 pub time-some : (from time : ℕ) → 0 < from → time ≡ timeOf from time
@@ -19,9 +25,6 @@ time-some (suc f) time h = refl
 
 -- The parts of a slot, each with its place.
 module _ (at : ℕ) where
-  abbrev recordParts : Record → List (ℕ × List ℕ)
-  recordParts r = (at, bytesOf 4 (r .piece)) ∷ (at + 4, bytesOf 1 (r .material)) ∷ (at + 5, bytesOf 1 0) ∷ (at + 6, bytesOf 2 (r .mass)) ∷ []
-
   abbrev madeParts : ℕ → ℕ → List (ℕ × List ℕ)
   madeParts from time = (at, bytesOf 1 from) ∷ (at + 1, bytesOf 4 (timeOf from time)) ∷ []
 
@@ -43,10 +46,6 @@ unfolding originLayout
 origin-long o = origin-sound .sized o
 
 module _ (s : List ℕ) (at : ℕ) (h : at ≤ length s) where
-  pub record-written : (r : Record) → puts s (recordParts at r) ≡ put s at (recordLayout .write r)
-  unfolding recordLayout
-  record-written r = puts-joined s at (recordParts at r) h (refl, (omega arith, (omega arith, (omega arith, tt))))
-
   pub made-written : (from time : ℕ) → puts s (madeParts at from time) ≡ put s at (originLayout .write (originFrom from time))
   unfolding originLayout
   made-written zero time = puts-joined s at (madeParts at 0 time) h (refl, (omega arith, tt))
@@ -74,3 +73,17 @@ module _ (s : List ℕ) (at : ℕ) (h : at ≤ length s) where
   pub target-written : (t : Target) → puts s (targetParts at t) ≡ put s at (targetLayout .write t)
   unfolding targetLayout
   target-written t = puts-joined s at (targetParts at t) h (refl, (omega arith, (omega arith, (omega arith, (omega arith, tt)))))
+
+-- A message's slot, written elsewhere part by part.
+pub slot-copied : (s : List ℕ) (from to : ℕ) → Bytes s → from + 20 ≤ length s → to ≤ length s
+    → puts s ((to, bytesOf 8 (number64 from s)) ∷ (to + 8, bytesOf 8 (number64 (from + 8) s)) ∷ (to + 16, bytesOf 4 (wordAt (from + 16) s)) ∷ []) ≡ put s to (take 20 (drop from s))
+slot-copied s from to k h l =
+    let slot : List ℕ = drop from s in
+    let first : List ℕ = take 8 slot in
+    let second : List ℕ = take 8 (drop (from + 8) s) in
+    let third : List ℕ = take 4 (drop (from + 16) s) in
+    let long : length first ≡ 8 = part-long from 8 s (omega arith) in
+    let long-second : length second ≡ 8 = part-long (from + 8) 8 s (omega arith) in
+    let whole : first ++ (second ++ (third ++ [])) ≡ take 20 slot = rw (append-nil, take-add 8 12 slot, drop-drop 8 from s, take-add 8 4 (drop (from + 8) s), drop-drop 8 (from + 8) s, add-assoc from 8 8) in
+    rw (part-written 8 from s k (omega arith), part-written 8 (from + 8) s k (omega arith), part-written 4 (from + 16) s k (omega arith))
+    (puts-joined s to ((to, first) ∷ (to + 8, second) ∷ (to + 16, third) ∷ []) l (refl, (omega arith, (omega arith, tt))) ∙ ap (put s to) whole)

@@ -1,13 +1,16 @@
-// What stands in the slots (docs/LAYOUT.md), read and written at an offset: records, what something was made from, messages, log entries, held records and targets.
+// What stands in the slots (docs/LAYOUT.md), read and written at an offset: records, what something was made from, messages, log entries, held records and targets. A record's eight bytes go as one number. Messages move up by one slot.
 ghost use mathlib.Core.Path.{_≡_};
-ghost use Prim.Native.Nat.{_+_, _≤_, _<_};
-ghost use lib.ListN.{length, take, drop};
+ghost use mathlib.Core.List.{_++_};
+ghost use Prim.Native.Nat.{_+_, _*_, _≤_, _<_};
+ghost use lib.ListN.{length, take, drop, replicate};
 ghost use Rattle.basics.specs.Put.{put};
 ghost use Rattle.plan.specs.Record.{recordLayout};
 ghost use Rattle.state.specs.Pieces.{originLayout, messageLayout, entryLayout, heldLayout, targetLayout};
 ghost use Rattle.buffer.specs.Check.{recordIn};
 ghost use Rattle.slots.specs.Slots.{timeOf, originIs, messageIs, entryIs, heldIs, targetIs};
 use buffer::bytes;
+use buffer::layout;
+use buffer::record;
 use plan::Record;
 
 // What something was made from: 0 for nothing, else the sender and 1; and the sender's time.
@@ -52,11 +55,7 @@ pub fn record_at(s: &[u8], at: usize) -> Record
     requires { ⌜ at + 8 ≤ length (now s) ⌝ }
     ensures { λ r. ⌜ r ≡ recordIn at (now (s .entry)) ⌝ }
 {
-    Record {
-        piece: bytes::get32(s, at),
-        material: s[at + 4],
-        mass: bytes::get16(s, at + 6),
-    }
+    record::record_of(bytes::get64(s, at))
 }
 
 pub fn made_at(s: &[u8], at: usize) -> Made
@@ -121,10 +120,7 @@ pub fn put_record(s: &mut [u8], at: usize, r: Record)
     requires { ⌜ at + 8 ≤ length (now s) ⌝ }
     ensures { λ _. ⌜ now (s .exit) ≡ put (now (s .entry)) at (recordLayout .write r) ⌝ }
 {
-    bytes::put32(s, at, r.piece);
-    bytes::put8(s, at + 4, r.material);
-    bytes::put8(s, at + 5, 0);
-    bytes::put16(s, at + 6, r.mass);
+    bytes::put64(s, at, record::number_of(r));
 }
 
 // The time beside nothing is 0.
@@ -185,4 +181,34 @@ pub fn put_target(s: &mut [u8], at: usize, g: Goal)
     bytes::put8(s, at + 8, g.parent as u8);
     bytes::put8(s, at + 9, 0);
     bytes::put16(s, at + 10, 0);
+}
+
+// ---- moved
+
+// A message's slot to another: its record, then twelve bytes.
+fn copy_message(s: &mut [u8], from: usize, to: usize)
+    requires { ⌜ (from + 20 ≤ length (now s)) × (to + 20 ≤ length (now s)) ⌝ }
+    ensures { λ _. ⌜ now (s .exit) ≡ put (now (s .entry)) to (take 20 (drop from (now (s .entry)))) ⌝ }
+{
+    let number = bytes::get64(s, from);
+    let middle = bytes::get64(s, from + 8);
+    let last = bytes::get32(s, from + 16);
+    bytes::put64(s, to, number);
+    bytes::put64(s, to + 8, middle);
+    bytes::put32(s, to + 16, last);
+}
+
+// So many messages behind a slot move up by one; the last slot becomes 0.
+pub fn close_gap(s: &mut [u8], at: usize, count: usize)
+    requires { ⌜ at + 20 + 20 * count ≤ length (now s) ⌝ }
+    ensures { λ _. ⌜ now (s .exit) ≡ put (now (s .entry)) at (take (20 * count) (drop (at + 20) (now (s .entry))) ++ replicate 20 0) ⌝ }
+{
+    let mut i: usize = 0;
+    while i < count {
+        let to = at + layout::MESSAGE_SIZE * i;
+        copy_message(s, to + layout::MESSAGE_SIZE, to);
+        i += 1;
+    }
+    let last = at + layout::MESSAGE_SIZE * count;
+    bytes::fill_zero(s, last, last + layout::MESSAGE_SIZE);
 }

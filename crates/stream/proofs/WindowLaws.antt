@@ -7,9 +7,9 @@ use native.Mathlib.Nat.{zero-add}
 use native.Mathlib.Omega.{arith}
 use borrow.Author.Tests.{lt-ltb, lt-leb, le-leb}
 use lib.Dec.{ltb}
-use lib.ListN.{length, getD, take, drop, set, length-take, drop-of-length-le}
-use lib.Seq.{slice, length-slice, length-take-le, take-take, take-all, drop-drop}
-use Rattle.basics.specs.Put.{put}
+use lib.ListN.{length, getD, take, drop, set, length-take, length-drop, drop-of-length-le}
+use lib.Seq.{slice, length-slice, length-take-le, take-take, take-all, drop-cons, drop-drop}
+use Rattle.basics.specs.Put.{put, length-put, put-set}
 use Rattle.plan.specs.Layout.{spelled}
 use Rattle.plan.specs.Plan.{planLength}
 use Rattle.plan.specs.Check.{badLength, planRefusal}
@@ -138,4 +138,9 @@ module _ (w : List ℕ) (end : ℕ) (inside : end ≤ length w) where
 
 pub move-turn : (w : List ℕ) (at i : ℕ) → at + i < length w
     → set (put w 0 (take i (drop at w))) i (getD (put w 0 (take i (drop at w))) (at + i) 0) ≡ put w 0 (take (i + 1) (drop at w))
-move-turn w at i h = simp zero-add at (gap-turn w 0 at i (simp zero-add h))
+move-turn w at i h =
+    let front : List ℕ = take i (drop at w) in
+    let moved : List ℕ = put w 0 front in
+    let few : length front ≡ i = length-take-le i (drop at w) (simp length-drop (omega arith)) in
+    let long : length moved ≡ length w = length-put w 0 front (omega arith) in
+    put-set moved i (getD moved (at + i) 0) (omega arith) ∙ ap (put moved i) (sym (ap (take 1) (drop-cons moved (at + i) 0 (omega arith)))) ∙ simp zero-add at (gap-turn w 0 at i 1 (omega arith))

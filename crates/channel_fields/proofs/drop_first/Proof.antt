@@ -54,7 +54,6 @@ drop-first-spec =
     (λ c. search needs)
     sub-size
     (λ c κs. search needs)
-    (λ c. search needs)
     close-gap-requires
     (λ c. search needs)
     returns)

@@ -1,5 +1,4 @@
-use mathlib.Core.Path.{sym}
-use native.Mathlib.Omega.{arith}
+use mathlib.Core.Path.{sym, _∙_}
 use borrow.Author.Needs.{needs}
 use Rattle.buffer.proofs.BytesLaws.{four-field}
 use Rattle.buffer.proofs.bytes.get32.Statement.{statement}
@@ -7,29 +6,19 @@ use Rattle.buffer.proofs.bytes.get32.Tie as tie
 
 returns : tie.Need-returns
 returns c =
-    let first = c .before .before .before .before .before .before in
-    let a = first .before .before .before .args in
-    rw (first .wide32 .ensures .0, c .before .before .before .before .wide322 .ensures .0, c .before .before .wide323 .ensures .0, c .wide324 .ensures .0) (sym (four-field (a .at) (a .s .now) (omega arith)))
+    let start = c .before .before .before .before .before .before in
+    c .spell32 .ensures ∙ sym (four-field (start .args .at) (start .args .s .now) (start .pre))
 
 pub get32-spec : {M : Type 1} → statement M
 get32-spec =
     tie.close
     (tie.spec
     (λ c. search needs)
-    (λ c κs. tt)
     (λ c. search needs)
     (λ c. search needs)
-    (λ c. search needs)
-    (λ c κs. tt)
     (λ c. search needs)
     (λ c. search needs)
     (λ c. search needs)
     (λ c. search needs)
     (λ c κs. tt)
-    (λ c. search needs)
-    (λ c. search needs)
-    (λ c. search needs)
-    (λ c. search needs)
-    (λ c κs. tt)
-    (λ c. search needs)
     returns)

@@ -1,13 +1,25 @@
+use Prim.Native.Nat.{ℕ}
+use mathlib.Core.Path.{ap, _∙_}
 use borrow.Author.Needs.{needs}
+use Rattle.plan.specs.Record.{recordFits}
+use Rattle.plan.specs.Layout.{bytesOf}
 use Rattle.plan.proofs.BytesLaws.{bytes-known}
+use Rattle.buffer.proofs.WordLaws.{part-written}
 use Rattle.buffer.proofs.OriginLaws.{record-tested}
 use Rattle.buffer.proofs.origin.record_ok.Statement.{statement}
 use Rattle.buffer.proofs.origin.record_ok.Tie as tie
 
 returns : tie.Need-returns
+unfolding recordFits
 returns c =
-    let a = c .before .before .args in
-    record-tested (a .at) (a .s .now) (bytes-known (a .s .now) (λ i. c .shared-slice-known2 .given i .fits)) (c .before .before .pre)
+    let number = c .before .before .get64 in
+    let known = c .before .before .before in
+    let start = known .before in
+    let a = start .args in
+    let s = a .s .now in
+    let bytes = bytes-known s (λ i. known .shared-slice-known .given i .fits) in
+    rw (c .before .material-of .ensures, c .zero-of .ensures)
+    (ap (λ (n : ℕ). recordFits (bytesOf 8 n)) (number .ensures) ∙ ap recordFits (part-written 8 (a .at) s bytes (start .pre)) ∙ record-tested (a .at) s bytes (start .pre))
 
 pub record-ok-spec : {M : Type 1} → statement M
-record-ok-spec = tie.close (tie.spec (λ c. search needs) (λ c. search needs) (λ c. search needs) (λ c. search needs) returns)
+record-ok-spec = tie.close (tie.spec (λ c κs. search needs) (λ c κs. tt) (λ c κs. tt) returns)
