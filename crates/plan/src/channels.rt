@@ -30,7 +30,7 @@ fn left_over(piece: u32, modulus: u8) -> u32
     piece % (modulus as u32)
 }
 
-// Whether a channel takes a record, whose fields are passed: as one value they would be packed and unpacked for each channel.
+// Whether a channel takes a record, by its fields: a record passed as one value is packed and unpacked again, which the check of held records would pay for.
 pub fn takes_fields(c: Channel, piece: u32, material: u8, mass: u16) -> bool
     ensures { λ t. ⌜ t ≡ takes c (record { piece = piece; material = material; mass = mass }) ⌝ }
 {
