@@ -6,6 +6,8 @@ pub mod Conclusion
 pub mod Grow
 pub mod Stays
 pub mod Swept
+pub mod Logs
+pub mod Heard
 pub mod Logging
 pub mod Rooms
 pub mod Limits

@@ -44,3 +44,9 @@ raiseHeard (p ∷ ps) (h ∷ hs) (made s t) = cond (eqb p s) (max h t) h ∷ rai
 -- "the receiver removes the belt's first message, raises its clock by it": for the sender its time, for the sender's parents what the message was made from. The rest of the queue stays.
 unfoldable pub takenFrom : List ℕ → Message → List Message → Lane → Lane
 takenFrom senderParents m rest s = record { mark = s .mark; taken = max (s .taken) (m .time); heard = raiseHeard senderParents (s .heard) (m .origin); queue = rest }
+
+-- The entry for a parent of the sender, among those heard: 0 for a node that is none.
+abbrev pub entryFor : ℕ → List ℕ → List ℕ → ℕ
+entryFor a [] hs = 0
+entryFor a (p ∷ ps) [] = 0
+entryFor a (p ∷ ps) (h ∷ hs) = cond (eqb p a) h (entryFor a ps hs)

@@ -6,26 +6,28 @@ use mathlib.Core.Bool.{Bool, true, false, true≢false, cond}
 use mathlib.Core.List.{List, [], _++_, map, map-map}
 use native.Mathlib.Omega.{arith}
 use native.Mathlib.Decide.{ℕ-discrete}
-use lib.ListN.{length, length-map}
+use lib.ListN.{length}
 use lib.Dec.{eqb, ltb}
 use borrow.Author.Tests.{eq-eqb, ne-eqb}
 use Rattle.plan.specs.Plan.{channelAt, nodeCount, isSource}
 use Rattle.basics.specs.Update.{changed-there, changed-else}
 use Rattle.rules.specs.Lists.{keep, greatestOf}
+use Rattle.rules.specs.Replay.{passedOn}
 use Rattle.rules.specs.Line.{Message, up, down, replay, Node, Line, nodeAt, laneAt}
 use Rattle.rules.specs.Clock.{messageOf}
 use Rattle.rules.specs.Plain.{Act, Receipt}
-use Rattle.rules.proofs.lists.ListLaws.{keep-append}
+use Rattle.rules.proofs.lists.ListLaws.{keep-append, keep-swap, keep-wider}
 use Rattle.rules.proofs.lists.Rising.{until, past, Rises, Within, rises-past, until-none, past-none, within-higher, within-until, rises-keep, rises-map}
-use Rattle.rules.proofs.lists.Counts.{keep-short}
+use Rattle.rules.proofs.lists.Members.{In}
 use Rattle.rules.proofs.histories.PlainRun.{receiptsIn}
 use Rattle.rules.proofs.histories.Witness.{Taken}
 use Rattle.rules.proofs.histories.Ghost.{Event, Ghost, inputOf, entryOf, sentOf, takesMessage, put, got, gotOf, put-same, got-same, logPut}
 use Rattle.rules.proofs.histories.Passing.{passing}
-use Rattle.rules.proofs.invariant.Inv.{timeOf, isUp, Enters, Leaves, Nodes, Channels, Events, Ends, Replays, Room, Inv}
+use Rattle.rules.proofs.invariant.Inv.{timeOf, isUp, Enters, Leaves, Nodes, Channels, Events, Ends, Replays, logPassing, Room, Inv}
 use Rattle.rules.proofs.invariant.InvLaws.{up-not-replay, replay-not-down, replay-marked, marked-took, ends-up}
 use Rattle.rules.proofs.invariant.MarkedLaws.{sender-other, receiver-other, parent-up, child-unmarked, child-up}
-use Rattle.rules.proofs.invariant.Stays.{moved, unmarked-other, marks-beside, channels-beside, ends-beside, events-stay, replays-stay}
+use Rattle.rules.proofs.invariant.Stays.{heard-same, moved, unmarked-other, marks-beside, channels-beside, ends-beside, events-stay, replays-stay}
+use Rattle.rules.proofs.invariant.Logs.{Grows, logged-stays}
 use Rattle.rules.proofs.invariant.Rooms.{room-stays}
 use Rattle.rules.proofs.invariant.Grow.{sender-same, sender-cut, sender-receiving}
 use Rattle.rules.proofs.ending.RebuildEvents.{Rebuilding, events, ghost, got-rebuilt, took-rebuilt, passing-rebuilt, rise-rebuilt, within-rebuilt, put-rebuilt, put-rises, put-within, until-rebuilt}
@@ -147,12 +149,12 @@ module _ (l : Line) (g : Ghost) (cut base : ℕ → ℕ) (fed : List Act) (recei
   unmarked-was m e = ap (λ (x : Node). x .crashed) (sym (other m (other-unmarked m e))) ∙ e
 
   ends-enters : (b : ℕ) → Enters (l .plan) n b → Ends k ghostAfter b
-  ends-enters b h = ends-up (ap (λ (x : Node). x .status) (other (channelAt (l .plan) b .sender) (sender-other inv n b h)) ∙ parent-up inv n marked b h) (λ e. absurd (other-unmarked (channelAt (l .plan) b .receiver) e (h .1)))
+  ends-enters b h = ends-up (ap (λ (x : Node). x .status) (other (channelAt (l .plan) b .sender) (sender-other inv n b h)) ∙ parent-up inv n marked b h) (λ e. absurd (other-unmarked (channelAt (l .plan) b .receiver) e (h .1))) (λ e. absurd (other-unmarked (channelAt (l .plan) b .receiver) e (h .1)))
 
   ends-leaves : (c : ℕ) → Leaves (l .plan) n c → Ends k ghostAfter c
   ends-leaves c h =
-      ends-up (ap (λ (x : ℕ). nodeAt k x .status) (h .1) ∙ alive) λ e.
-      inv .ends c (h .0) .exact (child-unmarked inv n marked c h) ∙ ap (λ (x : List Message). greatestOf (map timeOf x)) (sym (got-other c (receiver-other inv n c h)))
+      ends-up (ap (λ (x : ℕ). nodeAt k x .status) (h .1) ∙ alive) (λ e. inv .ends c (h .0) .exact (child-unmarked inv n marked c h) ∙ ap (λ (x : List Message). greatestOf (map timeOf x)) (sym (got-other c (receiver-other inv n c h))))
+      (λ e a. heard-same (inv .ends c (h .0) .through (child-unmarked inv n marked c h) a) refl (sym (got-other c (receiver-other inv n c h))))
 
   rebuild-nodes : Nodes k ghostAfter fed receipts
   rebuild-nodes =
@@ -170,10 +172,10 @@ module _ (l : Line) (g : Ghost) (cut base : ℕ → ℕ) (fed : List Act) (recei
         );
         beyond = λ m h. ghost-other m (λ q. omega arith) ∙ old .beyond m h;
         received = λ m e. old .received m (unmarked-was m e) ∙ ap (λ (x : List Event). receiptsIn (l .plan) m (map inputOf x)) (sym (ghost-other m (other-unmarked m e)));
-        logged = λ m e.
-            (let d = other-unmarked m e in
-            ap (λ (x : Node). x .log) (other m d) ∙ old .logged m (unmarked-was m e) ∙ ap (map (entryOf (l .plan) m)) (sym (ghost-other m d)));
       }
+
+  rebuild-grows : Grows l k
+  rebuild-grows = record { marks = unmarked-was; entries = λ c h e. omega arith; entered = λ m e d i. subst (λ (x : Node). In d (x .log)) (sym (other m (other-unmarked m e))) i }
 
   rebuild-events : (m : ℕ) → Events k ghostAfter m
   rebuild-events m = elim (ℕ-discrete m n) [
@@ -202,19 +204,18 @@ module _ (l : Line) (g : Ghost) (cut base : ℕ → ℕ) (fed : List Act) (recei
       let low = nodeAt l n .time in
       let p = l .plan in
       let late : Message → Bool = λ m. ltb (nodeAt l n .time) (m .time) in
+      let goes : Message → Bool = λ m. passedOn (l .plan) n (m .what) in
       let sent = map (sentOf (l .plan) n) fs in
-      let few : length (past timeOf low (passing p n (ghostAfter n))) ≤ length fs =
-      rw (
-        ghost-now n refl,
-        passing-rebuilt l g cut base fed receipts crashes inv n replaying T fs r,
-        keep-append late (until timeOf (nodeAt l n .time) (passing (l .plan) n (g n))) (map (sentOf (l .plan) n) fs),
-        past-none timeOf (within-until timeOf (nodeAt l n .time) (passing (l .plan) n (g n))),
-      )
-      (omega (arith, keep-short late sent, length-map fs (sentOf p n))) in
+      let old = until timeOf (nodeAt l n .time) (passing (l .plan) n (g n)) in
+      let is : passing p n (ghostAfter n) ≡ old ++ sent = ap (passing p n) (ghost-now n refl) ∙ passing-rebuilt l g cut base fed receipts crashes inv n replaying T fs r in
+      let held : past timeOf low (passing p n (ghostAfter n)) ≡ past timeOf low (logPassing p n (map (entryOf p n) fs)) =
+      ap (past timeOf low) (sym (keep-wider goes goes (λ x e. e) (map (sentOf p n) (ghostAfter n))) ∙ ap (keep goes) is ∙ keep-append goes old sent) ∙ keep-append late (keep goes old) (keep goes sent)
+      ∙ ap (λ (x : List Message). x ++ past timeOf low (keep goes sent)) (keep-swap late goes old ∙ ap (keep goes) (past-none timeOf (within-until timeOf (nodeAt l n .time) (passing (l .plan) n (g n)))))
+      ∙ ap (λ (x : List Message). past timeOf low (keep goes x)) (sym (map-map messageOf (entryOf p n) fs)) in
       record {
         least = low;
         below = inv .replays n replaying .low;
-        few = rw now (omega (arith, few, length-map fs (entryOf p n)));
+        few = rw now held;
         held-few = λ e. absurd (up-not-replay (sym alive ∙ e));
       }
 
@@ -234,6 +235,7 @@ module _ (l : Line) (g : Ghost) (cut base : ℕ → ℕ) (fed : List Act) (recei
         ordered = inv .ordered;
         marks = marks-beside l steps nodes (l .lanes) n still-marked other crashes marked (inv .marks);
         nodes = rebuild-nodes;
+        logs = λ m e. logged-stays l steps nodes (l .lanes) rebuild-grows g ghostAfter m (other m (other-unmarked m e)) (ghost-other m (other-unmarked m e)) (inv .logs m (unmarked-was m e));
         events = rebuild-events;
         channels = λ c h. channels-beside l steps nodes (l .lanes) g ghostAfter n other (λ x d e. refl) got-other c h cut cutAfter (cut-other c) (put-other c) (channel-enters c) (channel-leaves c) (inv .channels c h);
         ends = λ c h. ends-beside l steps nodes (l .lanes) g ghostAfter n other (λ x d e. refl) got-other c h (ends-enters c) (ends-leaves c) (inv .ends c h);

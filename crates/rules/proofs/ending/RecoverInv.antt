@@ -3,17 +3,17 @@ use Prim.Native.Nat.{ℕ, _<_, _≤_}
 use mathlib.Core.Path.{_≡_, refl, sym, ap, subst, _∙_}
 use mathlib.Core.Logic.{_≢_, inl, inr}
 use mathlib.Core.Bool.{Bool, true, false, true≢false, cond}
-use mathlib.Core.List.{List, [], _∷_, map, map-map}
+use mathlib.Core.List.{List, [], _∷_, _++_, map}
 use mathlib.Core.Option.{none, some}
 use native.Mathlib.Omega.{arith}
 use native.Mathlib.Decide.{ℕ-discrete}
 use lib.ListN.{length, length-set}
 use lib.Dec.{eqb, ltb}
 use borrow.Author.Tests.{eq-eqb, ne-eqb, lt-ltb, ltb-true}
-use Rattle.plan.specs.Plan.{channelAt, nodeCount, channelCount}
+use Rattle.plan.specs.Plan.{channelAt, nodeCount, channelCount, isSink}
 use Rattle.rules.specs.Lists.{keep, isEmpty}
-use Rattle.rules.specs.Line.{logLimit, Message, Entry, Held, Target, Status, up, down, replay, Node, Lane, Line, nodeAt, laneAt, withNode, freshLane}
-use Rattle.rules.specs.Clock.{messageOf}
+use Rattle.rules.specs.Line.{logLimit, Message, Entry, Held, Target, Status, up, down, replay, Node, Lane, Line, nodeAt, laneAt, withNode, freshLane, parents}
+use Rattle.rules.specs.Clock.{messageOf, entryFor}
 use Rattle.rules.specs.Recover.{lowOf, targetsOf, restored, recovered, statusOf, rowGoal, conflict}
 use Rattle.rules.specs.Replay.{endedIfComplete}
 use Rattle.rules.specs.Step.{recoveredLine}
@@ -24,28 +24,22 @@ use Rattle.rules.proofs.lists.Counts.{keep-fewer}
 use Rattle.rules.proofs.lists.Options.{some-same, none-some}
 use Rattle.rules.proofs.histories.Witness.{Taken, none}
 use Rattle.rules.proofs.line.LineLaws.{node-there, node-else}
-use Rattle.rules.proofs.histories.Ghost.{Ghost, inputOf, entryOf, takesMessage, put, logPut}
+use Rattle.rules.proofs.histories.Ghost.{Event, Ghost, eventTime, inputOf, entryOf, takesMessage, put, logPut}
 use Rattle.rules.proofs.histories.Passing.{passing, goesOn, heldOf}
 use Rattle.rules.proofs.ending.Kept.{cuts-at}
 use Rattle.rules.proofs.line.Joins.{no-source}
 use Rattle.rules.proofs.ending.Targets.{low-below, low-above, targets-from, targets-of}
 use Rattle.rules.proofs.ending.Children.{Child, triples-from, triples-of, restored-reach, restored-is, none-above}
-use Rattle.rules.proofs.invariant.Inv.{timeOf, Enters, Leaves, targetFrom, Nodes, Channels, Ends, Row, Replays, Room, takens, Inv}
+use Rattle.rules.proofs.invariant.Inv.{timeOf, Enters, Leaves, targetFrom, Channels, Ends, Row, Replays, Room, takens, Inv}
 use Rattle.rules.proofs.invariant.InvLaws.{took-enters, up-not-replay, up-not-down, marked-unless-up, replay-marked, marked-took, ends-up}
-use Rattle.rules.proofs.invariant.MarkedLaws.{sender-other, receiver-other, parent-unmarked, child-unmarked, parent-up, child-up, own, got-rises, taken-cut}
-use Rattle.rules.proofs.invariant.Stays.{moved, unmarked-other, marks-beside, nodes-stay, reached-back, reached-on, channels-beside, ends-beside, events-stay, replays-stay}
+use Rattle.rules.proofs.invariant.MarkedLaws.{at-ends, sender-other, receiver-other, parent-unmarked, child-unmarked, parent-up, child-up, own, got-rises, taken-cut}
+use Rattle.rules.proofs.invariant.Stays.{heard-same, moved, unmarked-other, marks-beside, nodes-stay, reached-back, reached-on, channels-beside, ends-beside, events-stay, replays-stay}
+use Rattle.rules.proofs.invariant.Logs.{Grows, logged-stays, log-late}
 use Rattle.rules.proofs.invariant.Rooms.{room-stays, waits-few}
 use Rattle.rules.proofs.undamaged.Restored.{recovered-is, restored-shape, restored-enters, restored-leaves, restored-beside}
 use Rattle.rules.proofs.ending.RebuildEvents.{Rebuilding}
 use Rattle.rules.proofs.ending.RebuildInv.{rebuild-inv}
 use Rattle.rules.proofs.ending.EndInv.{ended-inv}
-
--- The log of a node that never crashed holds all that it put on a channel.
-pub log-whole : {l : Line} {g : Ghost} {fed : List Act} {receipts : List Receipt} → Nodes l g fed receipts → (b : ℕ) → nodeAt l (channelAt (l .plan) b .sender) .crashed ≡ false → logPut l b ≡ put (l .plan) g b
-unfolding logPut put
-log-whole {l} {g} nodes b e =
-    let n = channelAt (l .plan) b .sender in
-    ap (λ (x : List Entry). keep (takesMessage (l .plan) b) (map messageOf x)) (nodes .logged n e) ∙ ap (keep (takesMessage (l .plan) b)) (map-map messageOf (entryOf (l .plan) n) (g n))
 
 module _ (l : Line) (g : Ghost) (cut base : ℕ → ℕ) (fed : List Act) (receipts : List Receipt) (crashes : List ℕ) (inv : Inv l g cut base fed receipts crashes) (n : ℕ) (inside : n < nodeCount (l .plan)) (is-down : nodeAt l n .status ≡ down) where
   marked : nodeAt l n .crashed ≡ true
@@ -77,7 +71,9 @@ module _ (l : Line) (g : Ghost) (cut base : ℕ → ℕ) (fed : List Act) (recei
   child c h q =
       record {
         took = inv .nodes .others (channelAt (l .plan) c .receiver) (no-source (l .plan) c h) .1;
-        logged = inv .nodes .logged (channelAt (l .plan) c .receiver) (child-unmarked inv n marked c (h, q));
+        logged =
+            (let s = inv .logs (channelAt (l .plan) c .receiver) (child-unmarked inv n marked c (h, q)) in
+            s .log-is ∙ ap (map (entryOf (l .plan) (channelAt (l .plan) c .receiver))) (sym (s .split ∙ ap (λ (x : List Event). x ++ s .kept) (s .none-gone))));
         got-is = inv .channels c h .cut-is ∙ ap (λ (t : ℕ). until timeOf t (put (l .plan) g c)) (inv .channels c h .cut-up (child-up inv n marked c (h, q)));
         exact = inv .ends c h .exact (child-unmarked inv n marked c (h, q));
       }
@@ -147,7 +143,12 @@ module _ (l : Line) (g : Ghost) (cut base : ℕ → ℕ) (fed : List Act) (recei
       let old = inv .channels b (h .0) in
       let s = old .sender-up (parent-up inv n marked b h) in
       let node = node-other replay (channelAt (l .plan) b .sender) (sender-other inv n b h) in
-      let logs : logPut r b ≡ put (l .plan) g b = ap (λ (x : Node). keep (takesMessage (l .plan) b) (map messageOf (x .log))) node ∙ log-whole (inv .nodes) b (parent-unmarked inv n marked b h) in
+      let sender = inv .logs (channelAt (l .plan) b .sender) (parent-unmarked inv n marked b h) in
+      let early : (e : Event) → In e (sender .gone) → eventTime e ≤ laneAt r b .taken = λ e i.
+      (let past-it = sender .restored-past e i b (h .0, refl) (ap (isSink (l .plan)) (h .1) ∙ inv .marks .between n marked .1) (λ c z. child-unmarked inv n marked c (z .0, z .1 ∙ h .1)) in
+      omega (arith, past-it, taken-enters b h, ap (λ (x : ℕ). restored l x (channelAt (l .plan) b .sender)) (h .1))) in
+      let logs : past timeOf (laneAt r b .taken) (logPut r b) ≡ past timeOf (laneAt r b .taken) (put (l .plan) g b) =
+      ap (λ (x : Node). past timeOf (laneAt r b .taken) (keep (takesMessage (l .plan) b) (map messageOf (x .log)))) node ∙ log-late l g b (laneAt r b .taken) sender early in
       let time : nodeAt r (channelAt (l .plan) b .sender) .time ≡ nodeAt l (channelAt (l .plan) b .sender) .time = ap (λ (x : Node). x .time) node in
       let entry = taken-enters b h in
       let mark : laneAt r b .mark ≡ restored l n (channelAt (l .plan) b .sender) = ap (λ (x : Lane). x .mark) (lane-enters b h) in
@@ -160,12 +161,12 @@ module _ (l : Line) (g : Ghost) (cut base : ℕ → ℕ) (fed : List Act) (recei
               within = subst (λ (x : ℕ). Within timeOf x (put (l .plan) g b)) (sym time) (s .within);
               cut-within = omega (arith, time, s .cut-within);
               taken-within = omega (arith, time, entry, restored-got b h, s .cut-within);
-              to-come = λ _. ap (past timeOf (laneAt r b .taken)) logs;
+              to-come = λ _. logs;
               queue = λ _. (
                 omega (arith, entry, mark),
                 omega (arith, mark, time, restored-got b h, s .cut-within),
                 ap (λ (x : Lane). x .queue) (lane-enters b h)
-                    ∙ sym (until-none timeOf (laneAt r b .taken) (omega (arith, entry, mark)) (subst (λ (x : List Message). Rises timeOf (laneAt r b .taken) x) (sym (ap (past timeOf (laneAt r b .taken)) logs)) (rises-past timeOf (laneAt r b .taken) (old .rises)))),
+                    ∙ sym (until-none timeOf (laneAt r b .taken) (omega (arith, entry, mark)) (subst (λ (x : List Message). Rises timeOf (laneAt r b .taken) x) (sym logs) (rises-past timeOf (laneAt r b .taken) (old .rises)))),
               );
             };
       }
@@ -185,13 +186,14 @@ module _ (l : Line) (g : Ghost) (cut base : ℕ → ℕ) (fed : List Act) (recei
   other-unmarked = unmarked-other l (l .steps) (r .nodes) (r .lanes) n still-marked (node-other replay)
 
   ends-enters : (b : ℕ) → Enters (l .plan) n b → Ends r g b
-  ends-enters b h = ends-up (ap (λ (x : Node). x .status) (node-other replay (channelAt (l .plan) b .sender) (sender-other inv n b h)) ∙ parent-up inv n marked b h) (λ e. absurd (other-unmarked (channelAt (l .plan) b .receiver) e (h .1)))
+  ends-enters b h = ends-up (ap (λ (x : Node). x .status) (node-other replay (channelAt (l .plan) b .sender) (sender-other inv n b h)) ∙ parent-up inv n marked b h) (λ e. absurd (other-unmarked (channelAt (l .plan) b .receiver) e (h .1))) (λ e. absurd (other-unmarked (channelAt (l .plan) b .receiver) e (h .1)))
 
   ends-leaves : (c : ℕ) → Leaves (l .plan) n c → Ends r g c
   ends-leaves c h =
       let old = inv .ends c (h .0) in
       record {
         exact = λ e. taken-leaves c h ∙ old .exact (child-unmarked inv n marked c h);
+        through = λ e a. heard-same (old .through (child-unmarked inv n marked c h) a) (ap (λ (x : Lane). entryFor a (parents (l .plan) (channelAt (l .plan) c .sender)) (x .heard)) (sym (lane-leaves c h))) refl;
         stopped = λ e. ap (λ (x : Lane). x .queue) (lane-leaves c h) ∙ old .stopped (λ z. up-not-down (sym z ∙ ap (λ (x : ℕ). nodeAt l x .status) (h .1) ∙ is-down));
         waiting = λ e. ap (λ (x : Lane). x .mark) (lane-leaves c h) ∙ sym (taken-leaves c h);
       }
@@ -277,6 +279,14 @@ module _ (l : Line) (g : Ghost) (cut base : ℕ → ℕ) (fed : List Act) (recei
             (λ c h. omega (arith, ap (λ (x : Lane). x .taken) (lane-out m d mark c h))) (λ b h. omega (arith, ap (λ (x : Lane). x .taken) (lane-into m d mark b h))) (inv .rooms m mark))
       ]
 
+  restored-grows : Grows l r
+  restored-grows =
+      record {
+        marks = λ m e. ap (λ (x : Node). x .crashed) (sym (node-other replay m (other-unmarked m e))) ∙ e;
+        entries = λ c h e. at-ends (l .plan) n c h (λ z. absurd (other-unmarked (channelAt (l .plan) c .receiver) e (z .1))) (λ z. omega (arith, taken-leaves c z)) (λ d s. omega (arith, ap (λ (x : Lane). x .taken) (lane-other c d s)));
+        entered = λ m e d i. subst (λ (x : Node). In d (x .log)) (sym (node-other replay m (other-unmarked m e))) i;
+      }
+
   pub restored-inv : Inv r g cut baseAfter fed receipts crashes
   restored-inv =
       record {
@@ -284,6 +294,7 @@ module _ (l : Line) (g : Ghost) (cut base : ℕ → ℕ) (fed : List Act) (recei
         ordered = inv .ordered;
         marks = marks-beside l (l .steps) (r .nodes) (r .lanes) n still-marked (node-other replay) crashes marked (inv .marks);
         nodes = nodes-stay l (l .steps) (r .nodes) (r .lanes) (λ m e. node-other replay m (other-unmarked m e)) (λ m e. refl) (inv .nodes);
+        logs = λ m e. logged-stays l (l .steps) (r .nodes) (r .lanes) restored-grows g g m (node-other replay m (other-unmarked m e)) refl (inv .logs m (ap (λ (x : Node). x .crashed) (sym (node-other replay m (other-unmarked m e))) ∙ e));
         events = λ m. events-stay l (l .steps) (r .nodes) (r .lanes) g g m (λ e. node-other replay m (λ q. up-not-replay (sym e ∙ ap (λ (x : ℕ). nodeAt r x .status) q ∙ now-replays))) refl (inv .events m);
         channels = λ c h. channels-beside l (l .steps) (r .nodes) (r .lanes) g g n (node-other replay) lane-other (λ x d. refl) c h cut cut (λ d. refl) (λ d. refl) (channel-enters c) (channel-leaves c) (inv .channels c h);
         ends = λ c h. ends-beside l (l .steps) (r .nodes) (r .lanes) g g n (node-other replay) lane-other (λ x d. refl) c h (ends-enters c) (ends-leaves c) (inv .ends c h);

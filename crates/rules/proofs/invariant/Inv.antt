@@ -1,24 +1,26 @@
 -- What holds of a line, its ghost history and what was done, after every list of frames.
 use Prim.Native.Nat.{ℕ, max, _+_, _<_, _≤_}
 use mathlib.Core.Path.{_≡_}
-use mathlib.Core.Logic.{_≢_}
+use mathlib.Core.Logic.{_≢_, _⊎_}
 use mathlib.Core.Bool.{Bool, true, false, _&&_}
-use mathlib.Core.List.{List, [], map}
+use mathlib.Core.List.{List, [], _++_, map}
 use lib.ListN.{length}
 use lib.Dec.{eqb, ltb}
 use Rattle.plan.specs.Plan.{Plan, ruleAt, channelAt, nodeCount, channelCount, isSource, isSink}
 use Rattle.plan.specs.Rule.{applied}
 use Rattle.plan.specs.Channel.{takes}
 use Rattle.rules.specs.Lists.{keep, greatestOf}
-use Rattle.rules.specs.Line.{logLimit, heldLimit, Message, Entry, Held, Target, Status, up, down, replay, Lane, Line, nodeAt, laneAt}
-use Rattle.rules.specs.Recover.{rowGoal}
+use Rattle.rules.specs.Line.{logLimit, heldLimit, made, Message, Entry, Held, Target, Status, up, down, replay, Lane, Line, nodeAt, laneAt, parents}
+use Rattle.rules.specs.Recover.{rowGoal, restored}
+use Rattle.rules.specs.Clock.{messageOf, entryFor}
+use Rattle.rules.specs.Replay.{passedOn}
 use Rattle.rules.specs.Plain.{Act, Receipt}
 use Rattle.rules.specs.Claim.{receivedBy}
 pub use Rattle.rules.specs.Claim.{named}
 use Rattle.rules.proofs.lists.Rising.{until, past, Rises, Within}
 use Rattle.rules.proofs.histories.PlainRun.{receiptsIn}
 use Rattle.rules.proofs.histories.Witness.{fedOnto, noInputs, Feeds, Taken}
-use Rattle.rules.proofs.histories.Ghost.{Event, fedAt, tookAt, Ghost, entryOf, inputOf, put, got, logPut}
+use Rattle.rules.proofs.histories.Ghost.{Event, fedAt, tookAt, Ghost, eventTime, entryOf, inputOf, put, got, logPut}
 use Rattle.rules.proofs.lists.Members.{In}
 use Rattle.rules.proofs.histories.Passing.{passing, goesOn, heldOf}
 
@@ -41,14 +43,13 @@ pub record Marks (l : Line) (crashes : List ℕ) : Type 0 where
   pub between : (n : ℕ) → nodeAt l n .crashed ≡ true → (isSource (l .plan) n ≡ false) × (isSink (l .plan) n ≡ false)
   pub stopped : (n : ℕ) → nodeAt l n .crashed ≡ false → isUp l n
 
--- The nodes: what they were given, received and logged.
+-- The nodes: what they were given and received.
 pub record Nodes (l : Line) (g : Ghost) (fed : List Act) (receipts : List Receipt) : Type 0 where
   pub only-feeds : Feeds fed
   pub sources : (n : ℕ) → isSource (l .plan) n ≡ true → map inputOf (g n) ≡ fedOnto noInputs fed n
   pub others : (n : ℕ) → isSource (l .plan) n ≡ false → (fedOnto noInputs fed n ≡ []) × Taken (l .plan) n (map inputOf (g n))
   pub beyond : (n : ℕ) → nodeCount (l .plan) ≤ n → g n ≡ []
   pub received : (n : ℕ) → nodeAt l n .crashed ≡ false → receivedBy n receipts ≡ receiptsIn (l .plan) n (map inputOf (g n))
-  pub logged : (n : ℕ) → nodeAt l n .crashed ≡ false → nodeAt l n .log ≡ map (entryOf (l .plan) n) (g n)
 
 -- A channel whose sender is up, by the sender's time, the lane, the messages of the log that it takes, those put on it, the cut and whether the receiver is not down:
 -- no time on it is past the sender's; while the receiver is not down, the log holds all that is still to come, and the queue what lies between the receiver's entry and the mark.
@@ -76,9 +77,18 @@ pub record Events (l : Line) (g : Ghost) (n : ℕ) : Type 0 where
   pub rise : Rises timeOf 0 (passing (l .plan) n (g n))
   pub within : isUp l n → Within timeOf (nodeAt l n .time) (passing (l .plan) n (g n))
 
--- A channel's ends: the entry of a receiver that never crashed is the last time that it got; a sender that is not up has nothing on the channel, and in a replay its mark is the receiver's entry.
+-- A time that a clock holds for node a through a message's sender: 0, or a message was made from a's at that time.
+abbrev pub HeardFrom : ℕ → ℕ → List Message → Type 0
+HeardFrom a t ms = (t ≡ 0) ⊎ ((m : Message) × In m ms × (m .origin ≡ made a t))
+
+-- The entry of channel b's receiver for node a, a parent of the sender.
+abbrev pub heardOn : Line → ℕ → ℕ → ℕ
+heardOn l b a = entryFor a (parents (l .plan) (channelAt (l .plan) b .sender)) (laneAt l b .heard)
+
+-- A channel's ends: the entry of a receiver that never crashed is the last time that it got, and its entries for the sender's parents are times that it got; a sender that is not up has nothing on the channel, and in a replay its mark is the receiver's entry.
 pub record Ends (l : Line) (g : Ghost) (b : ℕ) : Type 0 where
   pub exact : nodeAt l (channelAt (l .plan) b .receiver) .crashed ≡ false → laneAt l b .taken ≡ greatestOf (map timeOf (got (l .plan) g b))
+  pub through : nodeAt l (channelAt (l .plan) b .receiver) .crashed ≡ false → (a : ℕ) → HeardFrom a (heardOn l b a) (got (l .plan) g b)
   pub stopped : nodeAt l (channelAt (l .plan) b .sender) .status ≢ up → laneAt l b .queue ≡ []
   pub waiting : nodeAt l (channelAt (l .plan) b .sender) .status ≡ replay → laneAt l b .mark ≡ laneAt l b .taken
 
@@ -117,11 +127,35 @@ pub record Replays (l : Line) (g : Ghost) (cut base : ℕ → ℕ) (n : ℕ) : T
   pub base-cuts : (b : ℕ) (m : Message) (t : ℕ) → In (tookAt b m t) (g n) → goesOn (l .plan) n m ≡ true → (m .time ≤ base b → t ≤ nodeAt l n .time) × (t ≤ nodeAt l n .time → m .time ≤ base b)
   pub rows : (b : ℕ) → Enters (l .plan) n b → Row l g (cut b) (base b) n b
 
--- The events that a node's log has room for: those that it holds while the node is up, else as many as a log can hold.
-abbrev pub roomOf : Status → List Entry → ℕ
-roomOf up log = length log
-roomOf down log = logLimit
-roomOf replay log = logLimit
+-- Channel b's receiver never crashed, and so all children of node n.
+abbrev pub UnmarkedEnd : Line → ℕ → Type 0
+UnmarkedEnd l b = nodeAt l (channelAt (l .plan) b .receiver) .crashed ≡ false
+
+abbrev pub UnmarkedChildren : Line → ℕ → Type 0
+UnmarkedChildren l n = (c : ℕ) → Leaves (l .plan) n c → UnmarkedEnd l c
+
+-- The log of a node that never crashed: the entries of its events without the first ones, which are gone.
+-- A gone event has reached every child that never crashed; were a child to crash, it would be restored past the event; and its input has reached every child of its sender that never crashed.
+pub record Logged (l : Line) (g : Ghost) (n : ℕ) : Type 0 where
+  pub gone : List Event
+  pub kept : List Event
+  pub split : g n ≡ gone ++ kept
+  pub log-is : nodeAt l n .log ≡ map (entryOf (l .plan) n) kept
+  pub reached : (e : Event) → In e gone → (c : ℕ) → Leaves (l .plan) n c → UnmarkedEnd l c → eventTime e ≤ laneAt l c .taken
+  pub restored-past : (e : Event) → In e gone → (c : ℕ) → Leaves (l .plan) n c → isSink (l .plan) (channelAt (l .plan) c .receiver) ≡ false → UnmarkedChildren l (channelAt (l .plan) c .receiver) → eventTime e ≤ restored l (channelAt (l .plan) c .receiver) n
+  pub input-reached : (b : ℕ) (m : Message) (t : ℕ) → In (tookAt b m t) gone → (c : ℕ) → Leaves (l .plan) (channelAt (l .plan) b .sender) c → UnmarkedEnd l c → m .time ≤ laneAt l c .taken
+  -- Nothing trims a log yet.
+  pub none-gone : gone ≡ []
+
+-- What of a log is passed on.
+abbrev pub logPassing : Plan → ℕ → List Entry → List Message
+logPassing p n log = keep (λ (m : Message). passedOn p n (m .what)) (map messageOf log)
+
+-- What was passed on past a time: while the node is up its log holds it, else it is no more than a log can hold.
+abbrev pub HasRoom : Plan → ℕ → ℕ → List Message → List Entry → Status → Type 0
+HasRoom p n least sent log up = past timeOf least sent ≡ past timeOf least (logPassing p n log)
+HasRoom p n least sent log down = length (past timeOf least sent) ≤ logLimit
+HasRoom p n least sent log replay = length (past timeOf least sent) ≤ logLimit
 
 -- Whether a replay from time low still waits for an event's message, by the entries for its senders.
 abbrev pub waits : Plan → ℕ → ℕ → (ℕ → ℕ) → Event → Bool
@@ -131,11 +165,11 @@ waits p n low taken (tookAt b m t) = goesOn p n m && (ltb low t && ltb (taken b)
 abbrev pub takens : Line → ℕ → ℕ
 takens l b = laneAt l b .taken
 
--- A crashed node's space: past a time that no child's entry is below, it passed on no more events than a log has room for; in a replay, what is held and what it still waits for fit the held list.
+-- A crashed node's space: past a time that no child's entry is below, its log holds what it passed on, or can hold it; in a replay, what is held and what it still waits for fit the held list.
 pub record Room (l : Line) (g : Ghost) (n : ℕ) : Type 0 where
   pub least : ℕ
   pub below : (c : ℕ) → Leaves (l .plan) n c → least ≤ laneAt l c .taken
-  pub few : length (past timeOf least (passing (l .plan) n (g n))) ≤ roomOf (nodeAt l n .status) (nodeAt l n .log)
+  pub few : HasRoom (l .plan) n least (passing (l .plan) n (g n)) (nodeAt l n .log) (nodeAt l n .status)
   pub held-few : nodeAt l n .status ≡ replay → length (nodeAt l n .held) + length (keep (waits (l .plan) n (nodeAt l n .time) (takens l)) (g n)) ≤ heldLimit
 
 -- All of it.
@@ -144,6 +178,7 @@ pub record Inv (l : Line) (g : Ghost) (cut base : ℕ → ℕ) (fed : List Act) 
   pub ordered : Ordered (l .plan)
   pub marks : Marks l crashes
   pub nodes : Nodes l g fed receipts
+  pub logs : (n : ℕ) → nodeAt l n .crashed ≡ false → Logged l g n
   pub events : (n : ℕ) → Events l g n
   pub channels : (b : ℕ) → b < channelCount (l .plan) → Channels l g cut b
   pub ends : (b : ℕ) → b < channelCount (l .plan) → Ends l g b

@@ -17,7 +17,7 @@ use Rattle.rules.proofs.histories.Witness.{Taken, more}
 use Rattle.rules.proofs.histories.Ghost.{Event, tookAt, Ghost, inputOf, got}
 use Rattle.rules.proofs.histories.Passing.{goesOn}
 use Rattle.rules.proofs.line.Joins.{takes-passed}
-use Rattle.rules.proofs.invariant.Inv.{timeOf, isUp, Enters, Reached, Shape, Marks, Nodes, Ends, Replays}
+use Rattle.rules.proofs.invariant.Inv.{timeOf, isUp, Enters, Reached, Shape, Marks, Nodes, HeardFrom, heardOn, Ends, Replays}
 
 pub up-not-replay : up ≡ replay → ⊥
 up-not-replay e = let z : _≡_ {A = ℕ} 0 1 = cc in omega arith
@@ -46,8 +46,9 @@ took-enters (tookAt c x u ∷ es) b m t (more h q s r) here = (h, q)
 took-enters (tookAt c x u ∷ es) b m t (more h q s r) (there i) = took-enters es b m t r i
 
 -- The ends of a channel whose sender is up.
-pub ends-up : {l : Line} {g : Ghost} {b : ℕ} → isUp l (channelAt (l .plan) b .sender) → (nodeAt l (channelAt (l .plan) b .receiver) .crashed ≡ false → laneAt l b .taken ≡ greatestOf (map timeOf (got (l .plan) g b))) → Ends l g b
-ends-up alive exact = record { exact = exact; stopped = λ d. absurd (d alive); waiting = λ e. absurd (up-not-replay (sym alive ∙ e)) }
+pub ends-up : {l : Line} {g : Ghost} {b : ℕ} → isUp l (channelAt (l .plan) b .sender) → (nodeAt l (channelAt (l .plan) b .receiver) .crashed ≡ false → laneAt l b .taken ≡ greatestOf (map timeOf (got (l .plan) g b)))
+    → (nodeAt l (channelAt (l .plan) b .receiver) .crashed ≡ false → (a : ℕ) → HeardFrom a (heardOn l b a) (got (l .plan) g b)) → Ends l g b
+ends-up alive exact through = record { exact = exact; through = through; stopped = λ d. absurd (d alive); waiting = λ e. absurd (up-not-replay (sym alive ∙ e)) }
 
 -- What has reached a child goes on.
 pub reached-goes : {l : Line} {n : ℕ} {m : Message} {t : ℕ} → Reached l n m t → goesOn (l .plan) n m ≡ true

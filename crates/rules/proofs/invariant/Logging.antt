@@ -14,12 +14,14 @@ use Rattle.rules.specs.Clock.{logged, messageOf}
 use Rattle.rules.specs.Replay.{passedOn}
 use Rattle.rules.proofs.lists.ListLaws.{keep-append, map-append, nil-right}
 use Rattle.rules.proofs.lists.Rising.{until, Rises, Within}
+use Rattle.rules.proofs.lists.Members.{In, in-left}
 use Rattle.rules.proofs.line.LineLaws.{node-there, node-else}
 use Rattle.rules.proofs.histories.Ghost.{Event, Ghost, eventTime, eventOrigin, eventBefore, entryOf, sentOf, takesMessage, put, got, gotOne, logPut, later, later-there, later-else, put-there, put-else, got-there, got-else}
 use Rattle.rules.proofs.histories.Passing.{passing, passing-append}
-use Rattle.rules.proofs.invariant.Inv.{timeOf, isUp, Enters, Marks, Shape, Channels, Events, Ends, Replays}
+use Rattle.rules.proofs.invariant.Inv.{timeOf, isUp, Enters, Marks, Shape, Channels, Events, Ends, Logged, Replays}
 use Rattle.rules.proofs.invariant.InvLaws.{up-not-replay}
 use Rattle.rules.proofs.invariant.Grow.{rises-more, within-more, until-more, sender-grows, sender-receiving, sender-same}
+use Rattle.rules.proofs.invariant.Logs.{Grows, logged-by, logged-stays}
 use Rattle.rules.proofs.invariant.Stays.{everywhere, marks-stay, ends-stay, events-stay, replays-stay}
 
 -- The node with the event's entry logged.
@@ -61,20 +63,29 @@ module _ (l : Line) (n : ℕ) (e : Event) (there : n < length (l .nodes)) where
   logging-ends g b apart v = ends-stay l (l .steps) (after .nodes) (l .lanes) g (later g n e) b (status-kept (channelAt (l .plan) b .sender)) (status-kept (channelAt (l .plan) b .receiver)) refl (got-kept g b apart) (mark-kept (channelAt (l .plan) b .receiver)) v
 
   module _ (own : eventTime e ≡ suc (nodeAt l n .time)) where
-    log-there : nodeAt (withNode n (nodeLogs l n e) l) n .log ≡ nodeAt l n .log ++ entryOf (l .plan) n e ∷ []
+    pub log-there : nodeAt (withNode n (nodeLogs l n e) l) n .log ≡ nodeAt l n .log ++ entryOf (l .plan) n e ∷ []
     unfolding logged
     log-there = ap (λ (x : Node). x .log) logged-now ∙ ap (λ (t : ℕ). nodeAt l n .log ++ record { what = entryOf (l .plan) n e .what; time = t; origin = eventOrigin (l .plan) e; before = eventBefore e } ∷ []) (sym own)
 
-    -- The logs of nodes that never crashed are still their events' entries.
-    pub logging-logs : (g : Ghost) → ((m : ℕ) → nodeAt l m .crashed ≡ false → nodeAt l m .log ≡ map (entryOf (l .plan) m) (g m))
-        → (m : ℕ) → nodeAt (withNode n (nodeLogs l n e) l) m .crashed ≡ false → nodeAt (withNode n (nodeLogs l n e) l) m .log ≡ map (entryOf (l .plan) m) (later g n e m)
-    logging-logs g logs m s =
-        let was : nodeAt l m .crashed ≡ false = sym (mark-kept m) ∙ s in
+    logging-grows : Grows l (withNode n (nodeLogs l n e) l)
+    unfolding withNode
+    logging-grows =
+        record {
+          marks = λ m s. sym (mark-kept m) ∙ s;
+          entries = λ c h s. omega arith;
+          entered = λ m s d i. elim (ℕ-discrete m n) [
+            | yes q ↦ subst (λ (x : ℕ). In d (nodeAt after x .log)) (sym q) (subst (λ (x : List Entry). In d x) (sym log-there) (in-left (entryOf (l .plan) n e ∷ []) (subst (λ (x : ℕ). In d (nodeAt l x .log)) q i)))
+            | no c ↦ subst (λ (x : Node). In d (x .log)) (sym (node-else n (nodeLogs l n e) l m c)) i
+          ];
+        }
+
+    -- The logs of nodes that never crashed.
+    pub logging-logs : (g : Ghost) (m : ℕ) → Logged l g m → Logged (withNode n (nodeLogs l n e) l) (later g n e) m
+    unfolding withNode
+    logging-logs g m was =
         elim (ℕ-discrete m n) [
-          | yes q ↦ subst (λ (x : ℕ). nodeAt after x .log ≡ map (entryOf (l .plan) x) (later g n e x)) (sym q)
-              (log-there ∙ ap (λ (x : List Entry). x ++ entryOf (l .plan) n e ∷ []) (logs n (ap (λ (x : ℕ). nodeAt l x .crashed) (sym q) ∙ was))
-              ∙ sym (ap (map (entryOf (l .plan) n)) (later-there g n n e refl) ∙ map-append (entryOf (l .plan) n) (g n) (e ∷ [])))
-          | no d ↦ ap (λ (x : Node). x .log) (node-else n (nodeLogs l n e) l m d) ∙ logs m was ∙ ap (map (entryOf (l .plan) m)) (sym (later-else g n m e d))
+          | yes q ↦ logged-by l (l .steps) (after .nodes) (l .lanes) logging-grows g (later g n e) m (e ∷ []) (subst (λ (x : ℕ). nodeAt after x .log ≡ nodeAt l x .log ++ entryOf (l .plan) x e ∷ []) (sym q) log-there) (later-there g n m e q) was
+          | no d ↦ logged-stays l (l .steps) (after .nodes) (l .lanes) logging-grows g (later g n e) m (node-else n (nodeLogs l n e) l m d) (later-else g n m e d) was
         ]
 
     time-there : nodeAt after n .time ≡ eventTime e

@@ -1,31 +1,31 @@
 -- The space of a crashed node: what keeps it, and the counts behind it.
 use Prim.Native.Nat.{ℕ, suc, _+_, _<_, _≤_}
-use mathlib.Core.Path.{_≡_, refl, sym, ap, _∙_}
+use mathlib.Core.Path.{_≡_, refl, sym, ap, subst, _∙_}
 use mathlib.Core.Bool.{Bool, true, false, _&&_, true≢false}
 use mathlib.Core.List.{List, [], _∷_, _++_, map}
 use native.Mathlib.Omega.{arith}
 use native.Mathlib.Decide.{ℕ-discrete}
-use lib.ListN.{length, length-map, length-append}
+use lib.ListN.{length, length-map}
 use lib.Dec.{ltb}
 use borrow.Author.Tests.{lt-ltb, le-ltb, ltb-true, ltb-false}
 use Rattle.basics.specs.Bools.{both-true}
 use Rattle.plan.specs.Plan.{Plan}
 use Rattle.rules.specs.Lists.{keep, keepOne}
 use Rattle.rules.specs.Line.{logLimit, Message, Entry, Status, up, down, replay, Node, Lane, Line, nodeAt, laneAt, withNode}
-use Rattle.rules.specs.Clock.{logged}
+use Rattle.rules.specs.Clock.{logged, messageOf}
 use Rattle.rules.specs.Replay.{passedOn}
-use Rattle.rules.proofs.lists.ListLaws.{keep-append}
+use Rattle.rules.proofs.lists.ListLaws.{keep-append, map-append}
 use Rattle.rules.proofs.lists.Rising.{past}
 use Rattle.rules.proofs.lists.Members.{In, there}
-use Rattle.rules.proofs.lists.Counts.{length-snoc, keep-short, keep-fewer}
+use Rattle.rules.proofs.lists.Counts.{keep-short, keep-fewer}
 use Rattle.rules.proofs.histories.Witness.{Taken}
-use Rattle.rules.proofs.histories.Ghost.{Event, fedAt, tookAt, Ghost, inputOf, sentOf, later, later-there, later-else}
+use Rattle.rules.proofs.histories.Ghost.{Event, fedAt, tookAt, Ghost, eventTime, entryOf, inputOf, sentOf, later, later-there, later-else}
 use Rattle.rules.proofs.histories.Passing.{passing, passing-append, goesOn}
 use Rattle.rules.proofs.line.LineLaws.{node-there, node-else}
-use Rattle.rules.proofs.invariant.Inv.{timeOf, isUp, Enters, Leaves, roomOf, waits, takens, Room}
+use Rattle.rules.proofs.invariant.Inv.{timeOf, isUp, Enters, Leaves, logPassing, HasRoom, waits, takens, Room}
 use Rattle.rules.proofs.invariant.InvLaws.{took-enters, up-not-replay}
 use Rattle.rules.proofs.invariant.Stays.{moved}
-use Rattle.rules.proofs.invariant.Logging.{nodeLogs}
+use Rattle.rules.proofs.invariant.Logging.{nodeLogs, log-there}
 
 module _ (p : Plan) (n : ℕ) where
   waits-parts : (low : ℕ) (taken : ℕ → ℕ) (b : ℕ) (m : Message) (t : ℕ) → waits p n low taken (tookAt b m t) ≡ true → (goesOn p n m ≡ true) × (low < t) × (taken b < m .time)
@@ -96,10 +96,11 @@ module _ (l : Line) (steps : List ℕ) (nodes : List Node) (lanes : List Lane) w
       }
 
 -- No status leaves room for more than a log can hold.
-pub room-most : (s : Status) (log : List Entry) → length log ≤ logLimit → roomOf s log ≤ logLimit
-room-most up log h = h
-room-most down log h = omega arith
-room-most replay log h = omega arith
+pub room-most : (p : Plan) (n least : ℕ) (sent : List Message) (log : List Entry) (s : Status) → HasRoom p n least sent log s → length log ≤ logLimit → length (past timeOf least sent) ≤ logLimit
+room-most p n least sent log up e h =
+    omega (arith, ap length e, keep-short (λ (m : Message). ltb least (m .time)) (logPassing p n log), keep-short (λ (m : Message). passedOn p n (m .what)) (map messageOf log), length-map log messageOf)
+room-most p n least sent log down e h = e
+room-most p n least sent log replay e h = e
 
 -- What was passed on is no more than what was done.
 pub passing-short : (p : Plan) (n least : ℕ) (es : List Event) → length (past timeOf least (passing p n es)) ≤ length es
@@ -107,14 +108,17 @@ passing-short p n least es =
     let ms = map (sentOf p n) es in
     omega (arith, keep-short (λ (m : Message). ltb least (m .time)) (passing p n es), keep-short (λ (m : Message). passedOn p n (m .what)) ms, length-map es (sentOf p n))
 
--- One more event, passed on or not.
-passing-more : (p : Plan) (n least : ℕ) (es : List Event) (e : Event) → length (past timeOf least (passing p n (es ++ e ∷ []))) ≤ suc (length (past timeOf least (passing p n es)))
-passing-more p n least es e =
+-- One more event, in the log too.
+room-more : (p : Plan) (n least : ℕ) (es : List Event) (log : List Entry) (e : Event) → past timeOf least (passing p n es) ≡ past timeOf least (logPassing p n log)
+    → past timeOf least (passing p n (es ++ e ∷ [])) ≡ past timeOf least (logPassing p n (log ++ entryOf p n e ∷ []))
+room-more p n least es log e was =
     let late : Message → Bool = λ m. ltb least (m .time) in
+    let goes : Message → Bool = λ m. passedOn p n (m .what) in
     let last = passing p n (e ∷ []) in
-    rw (passing-append p n es (e ∷ []), keep-append late (passing p n es) last, length-append (keep late (passing p n es)) (keep late last)) (omega (arith, passing-short p n least (e ∷ [])))
+    ap (keep late) (passing-append p n es (e ∷ [])) ∙ keep-append late (passing p n es) last ∙ ap (λ (x : List Message). x ++ keep late last) was
+    ∙ sym (ap (λ (x : List Message). keep late (keep goes x)) (map-append messageOf log (entryOf p n e ∷ [])) ∙ ap (keep late) (keep-append goes (map messageOf log) (sentOf p n e ∷ [])) ∙ keep-append late (logPassing p n log) last)
 
-module _ (l : Line) (n : ℕ) (e : Event) (there : n < length (l .nodes)) (alive : isUp l n) where
+module _ (l : Line) (n : ℕ) (e : Event) (there : n < length (l .nodes)) (alive : isUp l n) (own : eventTime e ≡ suc (nodeAt l n .time)) where
   abbrev after : Line
   after = withNode n (nodeLogs l n e) l
 
@@ -130,12 +134,12 @@ module _ (l : Line) (n : ℕ) (e : Event) (there : n < length (l .nodes)) (alive
         | yes q ↦
             (let status : nodeAt after m .status ≡ up = ap (λ (x : ℕ). nodeAt after x .status) q ∙ ap (λ (x : Node). x .status) logged-now ∙ alive in
             let was : nodeAt l m .status ≡ up = ap (λ (x : ℕ). nodeAt l x .status) q ∙ alive in
-            let old : length (past timeOf (r .least) (passing (l .plan) m (g m))) ≤ length (nodeAt l m .log) = rw was at (r .few) in
-            let long : length (nodeAt after m .log) ≡ suc (length (nodeAt l m .log)) = ap (λ (x : ℕ). length (nodeAt after x .log)) q ∙ ap (λ (x : Node). length (x .log)) logged-now ∙ length-snoc (nodeAt l n .log) _ ∙ ap (λ (x : ℕ). suc (length (nodeAt l x .log))) (sym q) in
+            let old : past timeOf (r .least) (passing (l .plan) m (g m)) ≡ past timeOf (r .least) (logPassing (l .plan) m (nodeAt l m .log)) = rw was at (r .few) in
+            let log : nodeAt after m .log ≡ nodeAt l m .log ++ entryOf (l .plan) m e ∷ [] = subst (λ (x : ℕ). nodeAt after x .log ≡ nodeAt l x .log ++ entryOf (l .plan) x e ∷ []) (sym q) (log-there l n e there own) in
             record {
               least = r .least;
               below = r .below;
-              few = rw (status, long, later-there g n m e q) (omega (arith, passing-more (l .plan) m (r .least) (g m) e));
+              few = rw (status, log, later-there g n m e q) (room-more (l .plan) m (r .least) (g m) (nodeAt l m .log) e old);
               held-few = λ z. absurd (up-not-replay (sym status ∙ z));
             })
       ]

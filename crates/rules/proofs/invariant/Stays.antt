@@ -9,8 +9,8 @@ use native.Mathlib.Decide.{ℕ-discrete}
 use lib.ListN.{length-set}
 use Rattle.plan.specs.Plan.{channelAt, channelCount}
 use Rattle.rules.specs.Lists.{keep, greatestOf}
-use Rattle.rules.specs.Line.{Message, Target, down, Node, Lane, Line, nodeAt, laneAt, withLane}
-use Rattle.rules.specs.Clock.{messageOf}
+use Rattle.rules.specs.Line.{Message, Target, down, Node, Lane, Line, nodeAt, laneAt, withLane, parents}
+use Rattle.rules.specs.Clock.{messageOf, entryFor}
 use Rattle.rules.specs.Plain.{Act, Receipt}
 use Rattle.rules.specs.Claim.{receivedBy}
 use Rattle.rules.proofs.lists.Rising.{until, Rises, Within}
@@ -18,9 +18,13 @@ use Rattle.rules.proofs.lists.Members.{In}
 use Rattle.rules.proofs.line.LineLaws.{lane-else}
 use Rattle.rules.proofs.histories.Ghost.{Event, tookAt, Ghost, takesMessage, put, got, logPut}
 use Rattle.rules.proofs.histories.Passing.{passing}
-use Rattle.rules.proofs.invariant.Inv.{timeOf, isUp, Leaves, Enters, Reached, targetFrom, Marks, Nodes, Shape, Channels, Events, Ends, Row, Replays}
+use Rattle.rules.proofs.invariant.Inv.{timeOf, isUp, Leaves, Enters, Reached, targetFrom, Marks, Nodes, Shape, Channels, Events, HeardFrom, Ends, Row, Replays}
 use Rattle.rules.proofs.invariant.MarkedLaws.{at-ends}
 use Rattle.rules.proofs.invariant.Grow.{sender-same, sender-receiving}
+
+-- The same time heard, among the same messages.
+pub heard-same : {a t u : ℕ} {ms ns : List Message} → HeardFrom a t ms → t ≡ u → ms ≡ ns → HeardFrom a u ns
+heard-same {a} h q e = coe 0 1 (i. HeardFrom a (q i) (e i)) h
 
 -- A line with the plan of another.
 abbrev pub moved : Line → List ℕ → List Node → List Lane → Line
@@ -65,7 +69,6 @@ module _ (l : Line) (steps : List ℕ) (nodes : List Node) (lanes : List Lane) w
         others = was .others;
         beyond = was .beyond;
         received = λ n e. receives n e ∙ was .received n (ap (λ (x : Node). x .crashed) (sym (same n e)) ∙ e);
-        logged = λ n e. ap (λ (x : Node). x .log) (same n e) ∙ was .logged n (ap (λ (x : Node). x .crashed) (sym (same n e)) ∙ e);
       }
 
   -- What has reached a child, where the children's entries are as they were.
@@ -97,6 +100,7 @@ module _ (l : Line) (steps : List ℕ) (nodes : List Node) (lanes : List Lane) w
       ends-stay mark e =
           record {
             exact = λ h. ap (λ (x : Lane). x .taken) lane ∙ e .exact (sym mark ∙ h) ∙ ap (λ (x : List Message). greatestOf (map timeOf x)) (sym gots);
+            through = λ h a. heard-same (e .through (sym mark ∙ h) a) (ap (λ (x : Lane). entryFor a (parents (l .plan) (channelAt (l .plan) b .sender)) (x .heard)) (sym lane)) (sym gots);
             stopped = λ h. ap (λ (x : Lane). x .queue) lane ∙ e .stopped (λ z. h (sender ∙ z));
             waiting = λ h. ap (λ (x : Lane). x .mark) lane ∙ e .waiting (sym sender ∙ h) ∙ ap (λ (x : Lane). x .taken) (sym lane);
           }

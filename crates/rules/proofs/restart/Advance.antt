@@ -31,11 +31,10 @@ use Rattle.rules.proofs.line.Consoles.{counts-left}
 use Rattle.rules.proofs.histories.Ghost.{put, logPut}
 use Rattle.rules.proofs.invariant.Inv.{timeOf, SenderUp}
 use Rattle.rules.proofs.invariant.InvLaws.{replay-not-down, replay-marked}
-use Rattle.rules.proofs.invariant.MarkedLaws.{parent-up, parent-unmarked, goal-message, sender-other}
+use Rattle.rules.proofs.invariant.MarkedLaws.{parent-up, goal-message, sender-other}
 use Rattle.rules.proofs.invariant.Stays.{moved}
 use Rattle.rules.proofs.steps.SendInv.{First, sendable-first}
 use Rattle.rules.proofs.steps.HoldInv.{next}
-use Rattle.rules.proofs.ending.RecoverInv.{log-whole}
 use Rattle.rules.proofs.undamaged.Restored.{ended-up}
 use Rattle.rules.proofs.undamaged.TestLaws.{any-by}
 use Rattle.rules.proofs.theorem.Accepted.{CanTake}
@@ -89,7 +88,10 @@ module _ (l : Line) (known : Known l) (b : ℕ) (inside : b < channelCount (l .p
       let goal = rowGoal (nodeAt l n .targets) (channelAt (l .plan) b .sender) in
       let short : laneAt l b .taken < goal = leb-false goal (laneAt l b .taken) open-row in
       let (y, i, _, time) = goal-message inv n again b (inside, refl) (λ z. omega (arith, short)) in
-      (y, subst (λ (x : List Message). In y x) (sym (log-whole (inv .nodes) b (parent-unmarked inv n marked b (inside, refl)))) i, omega (arith, short, time))
+      let late : laneAt l b .taken < y .time = omega (arith, short, time) in
+      let after : Message → Bool = λ x. ltb (laneAt l b .taken) (x .time) in
+      let there = subst (λ (x : List Message). In y x) (sym (sent .to-come (λ z. replay-not-down (sym again ∙ z)))) (in-keep after i (lt-ltb (laneAt l b .taken) (y .time) late)) in
+      (y, keep-in after (logPut l b) there .0, late)
 
   pub some-left : 0 < rowsLeft l (receiverOf l b)
   some-left =

@@ -3,24 +3,32 @@ use Prim.Native.Nat.{ℕ, _<_, _≤_}
 use mathlib.Core.Path.{_≡_, refl, sym, ap, subst, _∙_}
 use mathlib.Core.Logic.{_≢_, _⊎_, inl, inr}
 use mathlib.Core.Bool.{true, false, true≢false}
-use mathlib.Core.List.{List, [], _∷_, _++_}
+use mathlib.Core.List.{List, [], _∷_, _++_, map}
 use native.Mathlib.Omega.{arith}
 use native.Mathlib.Decide.{ℕ-discrete}
 use lib.ListN.{length, length-map}
-use lib.Dec.{eqb}
+use lib.Dec.{eqb, ltb}
 use borrow.Author.Tests.{eq-eqb}
 use Rattle.plan.specs.Plan.{channelAt, nodeCount, isSource, isSink}
 use Rattle.basics.specs.Bools.{neither-true}
-use Rattle.rules.specs.Line.{logLimit, up, down, replay, Node, Lane, Line, nodeAt, laneAt, freshLane}
+use Rattle.rules.specs.Line.{logLimit, Message, up, down, replay, Node, Lane, Line, nodeAt, laneAt, freshLane}
+use Rattle.rules.specs.Line.{parents as parentsOf}
+use Rattle.rules.specs.Clock.{entryFor}
+use Rattle.rules.specs.Recover.{lowOf}
+use Rattle.rules.specs.Replay.{passedOn}
 use Rattle.rules.specs.Step.{crashedLine}
 use Rattle.rules.specs.Plain.{Act, Receipt}
-use Rattle.rules.proofs.lists.Rising.{past, Within}
-use Rattle.rules.proofs.histories.Ghost.{Ghost, entryOf, put, logPut}
-use Rattle.rules.proofs.histories.Passing.{passing}
+use Rattle.rules.proofs.lists.Rising.{past, Within, past-none}
+use Rattle.rules.proofs.lists.ListLaws.{keep-append}
+use Rattle.rules.proofs.lists.Members.{In, keep-in, map-in, within-by}
+use Rattle.rules.proofs.histories.Ghost.{Event, Ghost, entryOf, sentOf, put, logPut}
+use Rattle.rules.proofs.histories.Passing.{passing, passing-append}
+use Rattle.rules.proofs.ending.Targets.{low-below, low-above}
 use Rattle.rules.proofs.invariant.Inv.{Inv, isUp, named, timeOf, Enters, Leaves, Marks, Channels, Ends, Replays, Room}
 use Rattle.rules.proofs.invariant.InvLaws.{up-not-down, replay-not-down, if-marked, replay-marked, marked-took, ends-up}
-use Rattle.rules.proofs.invariant.MarkedLaws.{sender-other, receiver-other}
-use Rattle.rules.proofs.invariant.Stays.{unmarked-other, nodes-stay, channels-beside, ends-beside, events-stay, replays-stay}
+use Rattle.rules.proofs.invariant.MarkedLaws.{at-ends, sender-other, receiver-other}
+use Rattle.rules.proofs.invariant.Stays.{heard-same, unmarked-other, nodes-stay, channels-beside, ends-beside, events-stay, replays-stay}
+use Rattle.rules.proofs.invariant.Logs.{Grows, logged-stays}
 use Rattle.rules.proofs.invariant.Rooms.{room-stays, room-most, passing-short}
 use Rattle.rules.proofs.undamaged.Crashed.{crashedAfter, crashed-is, crashed-node, crashed-else, crashed-shape, crashed-enters, crashed-leaves, crashed-beside}
 
@@ -80,6 +88,7 @@ module _ (l : Line) (g : Ghost) (cut base : ℕ → ℕ) (fed : List Act) (recei
       let gone : nodeAt (crashedAfter l n) (channelAt (l .plan) c .sender) .status ≡ down = ap (λ (x : ℕ). nodeAt (crashedAfter l n) x .status) q ∙ ap (λ (x : Node). x .status) (crashed-node l n (inv .ordered) (inv .shape) here) in
       record {
         exact = λ e. ap (λ (x : Lane). x .taken) lane ∙ inv .ends c h .exact (ap (λ (x : Node). x .crashed) (sym node) ∙ e);
+        through = λ e a. heard-same (inv .ends c h .through (ap (λ (x : Node). x .crashed) (sym node) ∙ e) a) (ap (λ (x : Lane). entryFor a (parentsOf (l .plan) (channelAt (l .plan) c .sender)) (x .heard)) (sym lane)) refl;
         stopped = λ e. ap (λ (x : Lane). x .queue) lane;
         waiting = λ e. absurd (replay-not-down (sym e ∙ gone));
       }
@@ -94,7 +103,15 @@ module _ (l : Line) (g : Ghost) (cut base : ℕ → ℕ) (fed : List Act) (recei
   unmarked-old m e = (crashed-else l n (inv .ordered) (inv .shape)) m (other-unmarked m e)
 
   ends-enters : (c : ℕ) → Enters (l .plan) n c → Ends (crashedAfter l n) g c
-  ends-enters c (h, q) = ends-up (ap (λ (x : Node). x .status) ((crashed-else l n (inv .ordered) (inv .shape)) (channelAt (l .plan) c .sender) (sender-other inv n c (h, q))) ∙ parent-up c (h, q)) (λ e. absurd (other-unmarked (channelAt (l .plan) c .receiver) e q))
+  ends-enters c (h, q) = ends-up (ap (λ (x : Node). x .status) ((crashed-else l n (inv .ordered) (inv .shape)) (channelAt (l .plan) c .sender) (sender-other inv n c (h, q))) ∙ parent-up c (h, q)) (λ e. absurd (other-unmarked (channelAt (l .plan) c .receiver) e q)) (λ e. absurd (other-unmarked (channelAt (l .plan) c .receiver) e q))
+
+  crash-grows : Grows l (crashedAfter l n)
+  crash-grows =
+      record {
+        marks = λ m e. ap (λ (x : Node). x .crashed) (sym (unmarked-old m e)) ∙ e;
+        entries = λ c h e. at-ends (l .plan) n c h (λ z. absurd (other-unmarked (channelAt (l .plan) c .receiver) e (z .1))) (λ z. omega (arith, ap (λ (x : Lane). x .taken) (crashed-leaves l n (inv .ordered) (inv .shape) c z))) (λ d s. omega (arith, ap (λ (x : Lane). x .taken) (crashed-beside l n (inv .ordered) (inv .shape) c d s)));
+        entered = λ m e d i. subst (λ (x : Node). In d (x .log)) (sym (unmarked-old m e)) i;
+      }
 
   crash-marks : Marks (crashedAfter l n) (crashes ++ n ∷ [])
   crash-marks =
@@ -147,10 +164,21 @@ module _ (l : Line) (g : Ghost) (cut base : ℕ → ℕ) (fed : List Act) (recei
           }
 
       again : nodeAt l n .crashed ≡ true → Room (crashedAfter l n) g n
-      again e = let r = inv .rooms n e in given (r .least) (r .below) (omega (arith, r .few, room-most (nodeAt l n .status) (nodeAt l n .log) log-few))
+      again e = let r = inv .rooms n e in given (r .least) (r .below) (room-most (l .plan) n (r .least) (passing (l .plan) n (g n)) (nodeAt l n .log) (nodeAt l n .status) (r .few) log-few)
 
       first : nodeAt l n .crashed ≡ false → Room (crashedAfter l n) g n
-      first e = given 0 (λ c h. omega arith) (omega (arith, passing-short (l .plan) n 0 (g n), ap length (inv .nodes .logged n e), length-map (g n) (entryOf (l .plan) n), log-few))
+      first e =
+          let s = inv .logs n e in
+          let low = lowOf l n in
+          let early : Within timeOf low (passing (l .plan) n (s .gone)) = within-by timeOf (passing (l .plan) n (s .gone)) (λ x i.
+          (let (j, _) = keep-in (λ (m : Message). passedOn (l .plan) n (m .what)) (map (sentOf (l .plan) n) (s .gone)) i in
+          let (d, k, q) = map-in (sentOf (l .plan) n) (s .gone) j in
+          subst (λ (y : Message). y .time ≤ low) (sym q) (low-above l n no-sink (λ c h z. s .reached d k c (h, z) (children c (h, z)))))) in
+          let late : past timeOf low (passing (l .plan) n (g n)) ≡ past timeOf low (passing (l .plan) n (s .kept)) =
+          ap (λ (x : List Event). past timeOf low (passing (l .plan) n x)) (s .split) ∙ ap (past timeOf low) (passing-append (l .plan) n (s .gone) (s .kept))
+          ∙ keep-append (λ (m : Message). ltb (lowOf l n) (m .time)) (passing (l .plan) n (s .gone)) (passing (l .plan) n (s .kept))
+          ∙ ap (λ (x : List Message). x ++ past timeOf low (passing (l .plan) n (s .kept))) (past-none timeOf early) in
+          given low (λ c h. low-below l n c (h .0) (h .1)) (rw late (omega (arith, passing-short (l .plan) n low (s .kept), ap length (s .log-is), length-map (s .kept) (entryOf (l .plan) n), log-few)))
 
   crash-rooms : (m : ℕ) → nodeAt (crashedAfter l n) m .crashed ≡ true → Room (crashedAfter l n) g m
   crash-rooms m e = elim (marked-now m e) [
@@ -168,6 +196,7 @@ module _ (l : Line) (g : Ghost) (cut base : ℕ → ℕ) (fed : List Act) (recei
         ordered = inv .ordered;
         marks = crash-marks;
         nodes = nodes-stay l (l .steps) (crashedAfter l n .nodes) (crashedAfter l n .lanes) unmarked-old (λ m e. refl) (inv .nodes);
+        logs = λ m e. logged-stays l (l .steps) (crashedAfter l n .nodes) (crashedAfter l n .lanes) crash-grows g g m (unmarked-old m e) refl (inv .logs m (ap (λ (x : Node). x .crashed) (sym (unmarked-old m e)) ∙ e));
         events = λ m. events-stay l (l .steps) (crashedAfter l n .nodes) (crashedAfter l n .lanes) g g m (λ e. (crashed-else l n (inv .ordered) (inv .shape)) m (λ q. down-not-up (ap (λ (x : ℕ). nodeAt (crashedAfter l n) x .status) (sym q) ∙ e))) refl (inv .events m);
         channels = λ c h. channels-beside l (l .steps) (crashedAfter l n .nodes) (crashedAfter l n .lanes) g g n (crashed-else l n (inv .ordered) (inv .shape)) (crashed-beside l n (inv .ordered) (inv .shape)) (λ x d. refl) c h cut cut (λ d. refl) (λ d. refl) (channel-enters c) (channel-leaves c) (inv .channels c h);
         ends = λ c h. ends-beside l (l .steps) (crashedAfter l n .nodes) (crashedAfter l n .lanes) g g n (crashed-else l n (inv .ordered) (inv .shape)) (crashed-beside l n (inv .ordered) (inv .shape)) (λ x d. refl) c h (ends-enters c) (ends-leaves c) (inv .ends c h);

@@ -66,7 +66,6 @@ module _ (l : Line) (g : Ghost) (cut base : ℕ → ℕ) (fed : List Act) (recei
         others = λ m s. (fed-else m (apart m s) ∙ nodes .others m s .0, subst (λ (x : List Event). Taken (l .plan) m (map inputOf x)) (sym (later-else g n m e (apart m s))) (nodes .others m s .1));
         beyond = λ m h. later-else g n m e (λ q. omega arith) ∙ nodes .beyond m h;
         received = λ m s. nodes .received m (sym (mark-kept l n e there m) ∙ s) ∙ sym (no-receipt m);
-        logged = logging-logs l n e there refl g (nodes .logged);
       }
     where
       apart : (m : ℕ) → isSource (l .plan) m ≡ false → m ≢ n
@@ -80,11 +79,12 @@ module _ (l : Line) (g : Ghost) (cut base : ℕ → ℕ) (fed : List Act) (recei
         ordered = inv .ordered;
         marks = logging-marks l n e there crashes (inv .marks);
         nodes = feed-nodes;
+        logs = λ m s. logging-logs l n e there refl g m (inv .logs m (sym (mark-kept l n e there m) ∙ s));
         events = λ m. logging-events l n e there refl alive g m (inv .events m);
         channels = λ b h. logging-channels l n e there refl alive g cut b refl (inv .channels b h);
         ends = λ b h. logging-ends l n e there g b refl (inv .ends b h);
         replays = λ m q.
             (let old = sym (status-kept l n e there m) ∙ q in
             logging-replays l n e there refl alive g cut base m old (λ b h s. subst (λ (x : ℕ). laneAt l b .taken ≤ nodeAt l x .time) s (inv .channels b (h .0) .sender-up (ap (λ (x : ℕ). nodeAt l x .status) s ∙ alive) .taken-within)) (inv .replays m old));
-        rooms = λ m q. (let old = sym (mark-kept l n e there m) ∙ q in room-logs l n e there alive g m (marked-took (inv .marks) (inv .nodes) m old) (inv .rooms m old));
+        rooms = λ m q. (let old = sym (mark-kept l n e there m) ∙ q in room-logs l n e there alive refl g m (marked-took (inv .marks) (inv .nodes) m old) (inv .rooms m old));
       }

@@ -29,6 +29,7 @@ use Rattle.rules.proofs.invariant.InvLaws.{past-low, up-not-replay, rep
 use Rattle.rules.proofs.invariant.MarkedLaws.{put-taken, goal-message, goal-cut}
 use Rattle.rules.proofs.invariant.Grow.{sender-taken, sender-cut, sender-same, sender-receiving}
 use Rattle.rules.proofs.invariant.Stays.{moved, everywhere, marks-stay, unmarked-other, nodes-stay, channel-stays, ends-stay, events-stay, replays-stay, replays-keep}
+use Rattle.rules.proofs.invariant.Logs.{Grows, logged-stays}
 use Rattle.rules.proofs.invariant.Rooms.{still-waits, waits-no-more, waits-less, room-stays}
 use Rattle.rules.proofs.steps.TakeInv.{lane-raised, not-lower, replay-beside}
 
@@ -145,7 +146,7 @@ module _ (l : Line) (g : Ghost) (cut base : ℕ → ℕ) (fed : List Act) (recei
         }
 
     ends-own : Ends after g b
-    ends-own = ends-up (statuses (channelAt (l .plan) b .sender) ∙ sender) (λ e. absurd (other-unmarked n e refl))
+    ends-own = ends-up (statuses (channelAt (l .plan) b .sender) ∙ sender) (λ e. absurd (other-unmarked n e refl)) (λ e. absurd (other-unmarked n e refl))
 
     row-own : Row after g (cut b) (base b) n b
     row-own =
@@ -199,6 +200,9 @@ module _ (l : Line) (g : Ghost) (cut base : ℕ → ℕ) (fed : List Act) (recei
     raised : (c : ℕ) → laneAt l c .taken ≤ laneAt after c .taken
     raised = not-lower l g cut base fed receipts crashes inv b here m rest heardOf first sender
 
+    hold-grows : Grows l after
+    hold-grows = record { marks = λ k e. sym (marks k) ∙ e; entries = λ c h e. raised c; entered = λ k e d i. subst (λ (x : Node). In d (x .log)) (sym (others k (other-unmarked k e))) i }
+
     room-own : Room l g n → Room after g n
     room-own r =
         record {
@@ -231,6 +235,7 @@ module _ (l : Line) (g : Ghost) (cut base : ℕ → ℕ) (fed : List Act) (recei
           ordered = inv .ordered;
           marks = marks-stay l (l .steps) nodes (beside .lanes) crashes statuses marks (inv .marks);
           nodes = nodes-stay l (l .steps) nodes (beside .lanes) (λ k e. others k (other-unmarked k e)) (λ k e. receipt-else receipts receipt k (other-unmarked k e)) (inv .nodes);
+          logs = λ k e. logged-stays l (l .steps) nodes (beside .lanes) hold-grows g g k (others k (other-unmarked k e)) refl (inv .logs k (sym (marks k) ∙ e));
           events = λ k. events-stay l (l .steps) nodes (beside .lanes) g g k (up-other k) refl (inv .events k);
           channels = λ c h. elim (ℕ-discrete c b) [
             | yes q ↦ subst (Channels after g cut) (sym q) channel-own

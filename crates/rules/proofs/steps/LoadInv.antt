@@ -1,35 +1,48 @@
 -- The invariant holds of a loaded line: nothing was done, and every node and channel is fresh.
 use Prim.Native.Nat.{ℕ, zero, suc}
 use mathlib.Core.Path.{_≡_, refl, sym, ap, _∙_}
-use mathlib.Core.Bool.{false, true≢false}
+use mathlib.Core.Bool.{Bool, true, false, cond, true≢false}
+use mathlib.Core.Logic.{inl}
 use mathlib.Core.List.{List, [], _∷_, map}
 use native.Mathlib.Omega.{arith}
-use lib.ListN.{getD, length-replicate, length-map}
+use lib.Dec.{eqb}
+use lib.ListN.{length, getD, replicate, length-replicate, length-map}
 use Rattle.plan.specs.declared.Channel.{Channel}
 use Rattle.plan.specs.Plan.{Plan, planOf, channelAt, nodeCount}
 use Rattle.plan.specs.Check.{planRefusal}
 use Rattle.rules.specs.Lists.{keep}
-use Rattle.rules.specs.Line.{up, Node, Lane, Line, freshNode, noLane, freshLane, initialLine, nodeAt, laneAt}
-use Rattle.rules.specs.Clock.{messageOf}
+use Rattle.rules.specs.Line.{up, Node, Lane, Line, freshNode, noLane, freshLane, initialLine, nodeAt, laneAt, parents}
+use Rattle.rules.specs.Clock.{messageOf, entryFor}
 use Rattle.basics.specs.Replicate.{replicate-default}
 use Rattle.rules.proofs.lists.Rising.{none, none-in, past}
+use Rattle.rules.proofs.lists.Members.{in-none}
 use Rattle.rules.proofs.histories.Witness.{no-more, none}
 use Rattle.rules.proofs.histories.Ghost.{Ghost, takesMessage, put, got, logPut}
-use Rattle.rules.proofs.invariant.Inv.{Inv, Ordered, Shape, Marks, Nodes, timeOf, Channels, Ends}
+use Rattle.rules.proofs.invariant.Inv.{Logged, heardOn, Inv, Ordered, Shape, Marks, Nodes, timeOf, Channels, Ends}
 use Rattle.rules.proofs.invariant.InvLaws.{up-not-replay}
 use Rattle.rules.proofs.line.Consoles.{start-counts}
 use Rattle.rules.proofs.invariant.Limits.{Steady}
 use Rattle.rules.proofs.steps.PlanOrder.{ordered-plan}
 
 -- Nothing on a channel, marked and taken up to 0.
-abbrev emptyLane : List ℕ → Lane
-emptyLane heard = record { mark = 0; taken = 0; heard = heard; queue = [] }
+abbrev emptyLane : ℕ → Lane
+emptyLane heard = record { mark = 0; taken = 0; heard = replicate heard 0; queue = [] }
 
-fresh-lane : (p : Plan) (cs : List Channel) (b : ℕ) → (heard : List ℕ) × (getD (map (λ (c : Channel). freshLane p c 0) cs) b noLane ≡ emptyLane heard)
+fresh-lane : (p : Plan) (cs : List Channel) (b : ℕ) → (heard : ℕ) × (getD (map (λ (c : Channel). freshLane p c 0) cs) b noLane ≡ emptyLane heard)
 unfolding freshLane
-fresh-lane p [] b = ([], refl)
-fresh-lane p (c ∷ cs) zero = (freshLane p c 0 .heard, refl)
+fresh-lane p [] b = (0, refl)
+fresh-lane p (c ∷ cs) zero = (length (parents p (c .sender)), refl)
 fresh-lane p (c ∷ cs) (suc b) = fresh-lane p cs b
+
+-- Of nodes of which nothing was heard.
+none-for : (a : ℕ) (ps : List ℕ) (k : ℕ) → entryFor a ps (replicate k 0) ≡ 0
+none-for a [] k = refl
+none-for a (p ∷ ps) zero = refl
+none-for a (p ∷ ps) (suc k) = one (eqb p a) (none-for a ps k)
+  where
+    one : (x : Bool) → entryFor a ps (replicate k 0) ≡ 0 → cond x 0 (entryFor a ps (replicate k 0)) ≡ 0
+    one true e = refl
+    one false e = e
 
 module _ (p : Plan) where
   abbrev l : Line
@@ -42,7 +55,7 @@ module _ (p : Plan) where
   unfolding initialLine
   node-fresh n = replicate-default (nodeCount p) n freshNode
 
-  lane-fresh : (b : ℕ) → (heard : List ℕ) × (laneAt l b ≡ emptyLane heard)
+  lane-fresh : (b : ℕ) → (heard : ℕ) × (laneAt l b ≡ emptyLane heard)
   unfolding initialLine
   lane-fresh b = fresh-lane p (p .channels) b
 
@@ -73,7 +86,23 @@ module _ (p : Plan) where
         others = λ n e. (refl, none);
         beyond = λ n h. refl;
         received = λ n e. refl;
-        logged = λ n e. ap (λ (x : Node). x .log) (node-fresh n);
+      }
+
+  none-heard : (a b : ℕ) → heardOn l b a ≡ 0
+  unfolding initialLine
+  none-heard a b = ap (λ (x : Lane). entryFor a (parents p (channelAt p b .sender)) (x .heard)) (lane-fresh b .1) ∙ none-for a (parents p (channelAt p b .sender)) (lane-fresh b .0)
+
+  start-logged : (n : ℕ) → Logged l nothing n
+  start-logged n =
+      record {
+        gone = [];
+        kept = [];
+        split = refl;
+        log-is = ap (λ (x : Node). x .log) (node-fresh n);
+        reached = λ e i. absurd (in-none i);
+        restored-past = λ e i. absurd (in-none i);
+        input-reached = λ b m t i. absurd (in-none i);
+        none-gone = refl;
       }
 
   start-channels : (b : ℕ) → Channels l nothing (λ c. 0) b
@@ -102,6 +131,7 @@ module _ (p : Plan) where
       let (heard, lane) = lane-fresh b in
       record {
         exact = λ e. ap (λ (x : Lane). x .taken) lane;
+        through = λ e a. inl (none-heard a b);
         stopped = λ e. ap (λ (x : Lane). x .queue) lane;
         waiting = λ e. ap (λ (x : Lane). x .mark) lane ∙ ap (λ (x : Lane). x .taken) (sym lane);
       }
@@ -114,6 +144,7 @@ module _ (p : Plan) where
         ordered = ordered;
         marks = start-marks;
         nodes = start-nodes;
+        logs = λ n e. start-logged n;
         events = λ n. record { rise = none; within = λ e. none-in };
         channels = λ b h. start-channels b;
         ends = λ b h. start-ends b;

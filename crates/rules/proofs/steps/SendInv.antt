@@ -12,8 +12,8 @@ use Rattle.plan.specs.declared.Channel.{Channel}
 use Rattle.plan.specs.Channel.{takes}
 use Rattle.plan.specs.Plan.{channelAt, channelCount}
 use Rattle.rules.specs.Lists.{keep, keepOne}
-use Rattle.rules.specs.Line.{Message, Entry, down, Lane, Line, nodeAt, laneAt, withLane}
-use Rattle.rules.specs.Clock.{nextToSend, sentOn, messageOf}
+use Rattle.rules.specs.Line.{parents, Message, Entry, down, Lane, Line, nodeAt, laneAt, withLane}
+use Rattle.rules.specs.Clock.{entryFor, nextToSend, sentOn, messageOf}
 use Rattle.rules.specs.Step.{sendable}
 use Rattle.rules.specs.Plain.{Act, Receipt}
 use Rattle.rules.proofs.lists.Rising.{past}
@@ -22,7 +22,8 @@ use Rattle.rules.proofs.histories.Ghost.{Ghost, logPut}
 use Rattle.rules.proofs.invariant.Inv.{Inv, timeOf, isUp, Channels, Ends}
 use Rattle.rules.proofs.invariant.InvLaws.{ends-up, marked-took}
 use Rattle.rules.proofs.invariant.Grow.{sender-sends, sender-same}
-use Rattle.rules.proofs.invariant.Stays.{shape-beside, marks-stay, nodes-stay, channel-beside, ends-stay, events-stay, replays-stay}
+use Rattle.rules.proofs.invariant.Stays.{heard-same, shape-beside, marks-stay, nodes-stay, channel-beside, ends-stay, events-stay, replays-stay}
+use Rattle.rules.proofs.invariant.Logs.{Grows, logged-stays}
 use Rattle.rules.proofs.invariant.Rooms.{room-stays}
 
 -- An entry whose message is the first of some, or none where there is none.
@@ -81,8 +82,12 @@ module _ (l : Line) (g : Ghost) (cut base : ℕ → ℕ) (fed : List Act) (recei
       ]
 
   own-ends : Ends after g b
+  unfolding withLane sentOn
+  own-ends = ends-up sender (λ m. taken-same b ∙ inv .ends b here .exact m) (λ m a. heard-same (inv .ends b here .through m a) (ap (λ (x : Lane). entryFor a (parents (l .plan) (channelAt (l .plan) b .sender)) (x .heard)) (sym lane-now)) refl)
+
+  send-grows : Grows l (withLane b (sentOn e (laneAt l b)) l)
   unfolding withLane
-  own-ends = ends-up sender (λ m. taken-same b ∙ inv .ends b here .exact m)
+  send-grows = record { marks = λ m s. s; entries = λ c h s. omega (arith, taken-same c); entered = λ m s d i. i }
 
   pub send-inv : Inv (withLane b (sentOn e (laneAt l b)) l) g cut base fed receipts crashes
   unfolding withLane
@@ -92,6 +97,7 @@ module _ (l : Line) (g : Ghost) (cut base : ℕ → ℕ) (fed : List Act) (recei
         ordered = inv .ordered;
         marks = marks-stay l (l .steps) (l .nodes) (after .lanes) crashes (λ n. refl) (λ n. refl) (inv .marks);
         nodes = nodes-stay l (l .steps) (l .nodes) (after .lanes) (λ n e. refl) (λ n e. refl) (inv .nodes);
+        logs = λ n s. logged-stays l (l .steps) (l .nodes) (after .lanes) send-grows g g n refl refl (inv .logs n s);
         events = λ n. events-stay l (l .steps) (l .nodes) (after .lanes) g g n (λ _. refl) refl (inv .events n);
         channels = λ c h. elim (ℕ-discrete c b) [ yes q ↦ subst (Channels after g cut) (sym q) own-channel | no d ↦ channel-beside l g cut b c sent d (inv .channels c h) ];
         ends = λ c h. elim (ℕ-discrete c b) [ yes q ↦ subst (Ends after g) (sym q) own-ends | no d ↦ ends-stay l (l .steps) (l .nodes) (after .lanes) g g c refl refl (lane-else b sent l c d) refl refl (inv .ends c h) ];

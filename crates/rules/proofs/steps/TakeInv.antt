@@ -11,7 +11,8 @@ use borrow.Author.Tests.{eq-eqb, ne-eqb}
 use Rattle.basics.specs.Update.{changed, changed-there, changed-else}
 use Rattle.plan.specs.Plan.{channelAt, channelCount, isSource}
 use Rattle.rules.specs.Lists.{keepOne, greatestOf}
-use Rattle.rules.specs.Line.{Message, down, replay, Node, Lane, Line, nodeAt, laneAt, withNode, withLane}
+use Rattle.rules.specs.Line.{Message, down, replay, Node, Lane, Line, nodeAt, laneAt, withNode, withLane, parents}
+use Rattle.rules.specs.Clock.{entryFor}
 use Rattle.rules.specs.Plain.{Act, Receipt}
 use Rattle.rules.proofs.lists.ListLaws.{map-append}
 use Rattle.rules.proofs.lists.Rising.{until, Rises}
@@ -21,10 +22,12 @@ use Rattle.rules.proofs.histories.PlainRun.{tookIn, grown, receiptsIn, 
 use Rattle.rules.proofs.histories.Witness.{Taken, none, more, taken-append}
 use Rattle.rules.proofs.histories.Ghost.{Event, tookAt, Ghost, inputOf, historyOf, put, got, gotOne, logPut, later, later-there, later-else, put-else, got-there}
 use Rattle.rules.proofs.line.Joins.{no-source}
-use Rattle.rules.proofs.invariant.Inv.{Inv, isUp, timeOf, Enters, Leaves, Nodes, Channels, Ends, Replays}
+use Rattle.rules.proofs.invariant.Inv.{Inv, isUp, timeOf, Enters, Leaves, Nodes, Channels, HeardFrom, heardOn, Ends, Replays}
 use Rattle.rules.proofs.invariant.InvLaws.{up-not-replay, up-not-down, ends-up, marked-took}
 use Rattle.rules.proofs.invariant.Grow.{sender-taken, sender-same, sender-receiving}
 use Rattle.rules.proofs.invariant.Stays.{shape-beside, marks-stay, channel-stays, channel-beside, ends-stay, events-stay, replays-stay, replays-cut}
+use Rattle.rules.proofs.invariant.Logs.{Grows, logged-stays}
+use Rattle.rules.proofs.invariant.Heard.{HeardMore, heard-more}
 use Rattle.rules.proofs.invariant.Logging.{nodeLogs, status-kept, mark-kept, log-put-else, logging-shape, logging-marks, logging-logs, logging-channels, logging-events, logging-ends, logging-replays}
 use Rattle.rules.proofs.invariant.Rooms.{room-stays, room-logs}
 
@@ -71,7 +74,11 @@ module _ (l : Line) (g : Ghost) (cut base : ℕ → ℕ) (fed : List Act) (recei
         replays-stay l (l .steps) (l .nodes) (beside .lanes) g g k refl refl cut cut base base (λ c h. ap (λ (x : Lane). x .taken) (leaving-other c h)) (λ c y t i. refl)
         (λ c h. (ap (λ (x : Lane). x .taken) (entering-other c h), omega arith, refl, refl)) (inv .replays k replaying)
 
-  module _ (receiver : isUp l n) where
+  beside-grows : Grows l (withLane b taken l)
+  unfolding withLane
+  beside-grows = record { marks = λ k s. s; entries = λ c h s. not-lower c; entered = λ k s d i. i }
+
+  module _ (receiver : isUp l n) (hears : (a : ℕ) → HeardMore a (parents (l .plan) (channelAt (l .plan) b .sender)) (laneAt l b .heard) heardOf (m .origin)) where
     abbrev pub event : Event
     event = tookAt b m (suc (nodeAt l n .time))
 
@@ -123,9 +130,11 @@ module _ (l : Line) (g : Ghost) (cut base : ℕ → ℕ) (fed : List Act) (recei
     own-ends : Ends after (later g n event) b
     unfolding withNode withLane
     own-ends =
-        ends-up (status-kept beside n event there (channelAt (l .plan) b .sender) ∙ sender) λ h.
+        ends-up (status-kept beside n event there (channelAt (l .plan) b .sender) ∙ sender) (λ h.
         ap (λ (x : Lane). x .taken) lane-now ∙ ap (λ (t : ℕ). max t (m .time)) (inv .ends b here .exact (sym (mark-kept beside n event there n) ∙ h))
-        ∙ sym (ap (λ (x : List Message). greatestOf (map timeOf x)) got-now ∙ greatest-snoc timeOf (got (l .plan) g b) m)
+        ∙ sym (ap (λ (x : List Message). greatestOf (map timeOf x)) got-now ∙ greatest-snoc timeOf (got (l .plan) g b) m))
+        (λ h a. subst (λ (x : List Message). HeardFrom a (heardOn after b a) x) (sym got-now) (subst (λ (x : Lane). HeardFrom a (entryFor a (parents (l .plan) (channelAt (l .plan) b .sender)) (x .heard)) (got (l .plan) g b ++ m ∷ [])) (sym lane-now)
+        (heard-more m a (parents (l .plan) (channelAt (l .plan) b .sender)) (laneAt l b .heard) heardOf (hears a) (inv .ends b here .through (sym (mark-kept beside n event there n) ∙ h) a))))
 
     -- The receiver's inputs and receipts.
     inputs-there : (k : ℕ) → k ≡ n → map inputOf (later g n event k) ≡ map inputOf (g k) ++ tookIn b (m .what) ∷ []
@@ -155,7 +164,6 @@ module _ (l : Line) (g : Ghost) (cut base : ℕ → ℕ) (fed : List Act) (recei
           beyond = λ k h. later-else g n k event (λ q. omega (arith, inv .ordered .inside b here)) ∙ nodes .beyond k h;
           received = λ k s.
               taken-receipt (l .plan) (historyOf g) (record { queues = []; received = receipts }) b (m .what) k (nodes .received k (sym (mark-kept beside n event there k) ∙ s)) ∙ ap (receiptsIn (l .plan) k) (grown-inputs k);
-          logged = logging-logs beside n event there refl g (nodes .logged);
         }
 
     cut-other : (k : ℕ) → k ≢ n → (c : ℕ) → Enters (l .plan) k c → cut c ≤ cutAfter c
@@ -177,6 +185,7 @@ module _ (l : Line) (g : Ghost) (cut base : ℕ → ℕ) (fed : List Act) (recei
           ordered = inv .ordered;
           marks = logging-marks beside n event there crashes (marks-stay l (l .steps) (l .nodes) (beside .lanes) crashes (λ k. refl) (λ k. refl) (inv .marks));
           nodes = take-nodes;
+          logs = λ k s. logging-logs beside n event there refl g k (logged-stays l (l .steps) (l .nodes) (beside .lanes) beside-grows g g k refl refl (inv .logs k (sym (mark-kept beside n event there k) ∙ s)));
           events = λ k. logging-events beside n event there refl receiver g k (events-stay l (l .steps) (l .nodes) (beside .lanes) g g k (λ _. refl) refl (inv .events k));
           channels = λ c h. elim (ℕ-discrete c b) [ yes q ↦ subst (Channels after (later g n event) cutAfter) (sym q) own-channel | no d ↦ other-channel c d (inv .channels c h) ];
           ends = λ c h. elim (ℕ-discrete c b) [
@@ -187,5 +196,5 @@ module _ (l : Line) (g : Ghost) (cut base : ℕ → ℕ) (fed : List Act) (recei
           rooms = λ k q.
               (let old = sym (mark-kept beside n event there k) ∙ q in
               let took = marked-took (inv .marks) (inv .nodes) k old in
-              room-logs beside n event there receiver g k took (room-stays l (l .steps) (l .nodes) (beside .lanes) g g k refl refl took (λ c h. not-lower c) (λ c h. not-lower c) (inv .rooms k old)));
+              room-logs beside n event there receiver refl g k took (room-stays l (l .steps) (l .nodes) (beside .lanes) g g k refl refl took (λ c h. not-lower c) (λ c h. not-lower c) (inv .rooms k old)));
         }

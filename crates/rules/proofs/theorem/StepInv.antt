@@ -21,6 +21,7 @@ use Rattle.rules.proofs.lists.Options.{some-same, none-some}
 use Rattle.rules.proofs.histories.Ghost.{Ghost, fedAt, tookAt, later}
 use Rattle.rules.proofs.invariant.Inv.{Inv, isUp}
 use Rattle.rules.proofs.invariant.InvLaws.{up-not-down, up-not-replay}
+use Rattle.rules.proofs.invariant.Heard.{raised-more}
 use Rattle.rules.proofs.steps.FeedInv.{feed-inv}
 use Rattle.rules.proofs.steps.SendInv.{send-inv}
 use Rattle.rules.proofs.steps.TakeInv.{take-inv}
@@ -104,7 +105,7 @@ module _ (l : Line) (g : Ghost) (cut base : ℕ → ℕ) (fed : List Act) (recei
         let heard = raiseHeard (parents (l .plan) (senderOf l b)) (laneAt l b .heard) (m .origin) in
         rw one
         (subst (λ (x : Line). Inv x (later g n (tookAt b m (suc (nodeAt l n .time)))) (changed cut b (m .time)) base fed (receipts ++ record { receiver = n; what = m .what; sender = channelAt (l .plan) b .sender } ∷ []) crashes) (some-same (sym taken-is ∙ e))
-        (take-inv l g cut base fed receipts crashes inv b (can .here) m (can .rest) heard (can .first) (sender-gives b m (can .rest) (can .here) (can .first)) alive))
+        (take-inv l g cut base fed receipts crashes inv b (can .here) m (can .rest) heard (can .first) (sender-gives b m (can .rest) (can .here) (can .first)) alive (λ a. raised-more a (parents (l .plan) (senderOf l b)) (laneAt l b .heard) (m .origin))))
 
   module _ (b : ℕ) (can : CanTake l b) (again : nodeAt l (channelAt (l .plan) b .receiver) .status ≡ replay) where
     pub again-is : effect l (take b) ≡ endedIfComplete (channelAt (l .plan) b .receiver) (takenReplaying b (can .message) (takenLane b (can .message) (can .rest) l))
