@@ -12,7 +12,5 @@ pub mod OrderExamples
 pub mod RestartRun
 -- A step does not depend on who sent it, on bytes.
 pub mod ConsoleRun
--- Step as before there were consoles, on bytes.
-pub mod BaseRun
 -- Plans of both versions run alike, on bytes.
 pub mod VersionRun

@@ -3,7 +3,6 @@ pub mod Load
 pub mod Order
 pub mod Restart
 pub mod Console
-pub mod Base
 pub mod Versions
 pub mod Step
 pub mod Whole

@@ -21,7 +21,7 @@ pub record Example : Type 0 where
 
 -- The plan 0 to 1 with one byte changed.
 abbrev smallPlan : ℕ → ℕ → ℕ → ℕ → ℕ → List ℕ
-smallPlan length version nodes kind sender = 0 ∷ length ∷ version ∷ nodes ∷ 1 ∷ kind ∷ 0 ∷ 0 ∷ 0 ∷ 0 ∷ 0 ∷ 0 ∷ 0 ∷ sender ∷ 1 ∷ 255 ∷ 255 ∷ 1 ∷ 0 ∷ []
+smallPlan size version nodes kind sender = 0 ∷ size ∷ version ∷ nodes ∷ 1 ∷ kind ∷ 0 ∷ 0 ∷ 0 ∷ 0 ∷ 0 ∷ 0 ∷ 0 ∷ sender ∷ 1 ∷ 255 ∷ 255 ∷ 1 ∷ 0 ∷ []
 
 -- "node 0 sends to 1..5"
 abbrev wideChannel : ℕ → List ℕ

@@ -13,7 +13,6 @@ pub mod Claim
 pub mod Order
 pub mod Restart
 pub mod Console
-pub mod Base
 pub mod Versions
 pub mod Marked
 pub mod Examples

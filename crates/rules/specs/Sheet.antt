@@ -9,7 +9,7 @@ use Rattle.plan.specs.Plan.{planOf, entering}
 use Rattle.plan.specs.Check.{planRefusal}
 use Rattle.rules.specs.Lists.{joined}
 use Rattle.rules.specs.Line.{Origin, fed, made, Entry, Status, up, down, replay, Line, nodeAt, laneAt, nodeNumbers, senderOf, initialLine}
-use Rattle.rules.specs.Step.{Answer, step}
+use Rattle.rules.specs.Step.{step}
 
 -- "The sheet opens with the fixed line LINE 1."
 abbrev pub opening : List ℕ
@@ -90,28 +90,22 @@ lengthField s = spelled 0 (take 2 s)
 abbrev pub frameCut : List ℕ → Bool
 frameCut s = ltb (length s) 2 || ltb (lengthField s) 5 || ltb (length s) (lengthField s)
 
--- The answers to the frames in some bytes, worked by a step and counted from k, and then the nodes. The first number bounds how many there can be.
-abbrev pub framesTextBy : (Line → List ℕ → Answer) → ℕ → ℕ → Line → List ℕ → List ℕ
-framesTextBy by zero k l s = lineText l
-framesTextBy by (suc fuel) k l [] = lineText l
-framesTextBy by (suc fuel) k l (b ∷ bs) =
+-- The answers to the frames in some bytes, counted from k, and then the nodes. The first number bounds how many there can be.
+abbrev pub framesText : ℕ → ℕ → Line → List ℕ → List ℕ
+framesText zero k l s = lineText l
+framesText (suc fuel) k l [] = lineText l
+framesText (suc fuel) k l (b ∷ bs) =
     elim (frameCut (b ∷ bs)) [
       | true ↦ answerLine k 9 ++ lineText l
       | false ↦
           (let n = lengthField (b ∷ bs) in
-          let a = by l (take n (b ∷ bs)) in
-          answerLine k (a .number) ++ framesTextBy by fuel (suc k) (a .line) (drop n (b ∷ bs)))
+          let a = step l (take n (b ∷ bs)) in
+          answerLine k (a .number) ++ framesText fuel (suc k) (a .line) (drop n (b ∷ bs)))
     ]
 
-abbrev pub framesText : ℕ → ℕ → Line → List ℕ → List ℕ
-framesText = framesTextBy step
-
 -- "A refused plan gives `A 0` and the number, and no more."
-abbrev pub planTextBy : (Line → List ℕ → Answer) → ℕ → List ℕ → List ℕ → List ℕ
-planTextBy by refused plan frames = elim (eqb refused 0) [ true ↦ framesTextBy by (length frames) 1 (initialLine (planOf plan)) frames | false ↦ answerLine 0 refused ]
-
 abbrev pub planText : ℕ → List ℕ → List ℕ → List ℕ
-planText = planTextBy step
+planText refused plan frames = elim (eqb refused 0) [ true ↦ framesText (length frames) 1 (initialLine (planOf plan)) frames | false ↦ answerLine 0 refused ]
 
 -- "The plan is as long as its length field says, or all there is."
 unfoldable pub sheet : List ℕ → List ℕ

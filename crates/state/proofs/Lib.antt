@@ -21,4 +21,3 @@ pub mod Undamaged
 pub mod AcceptedState
 pub mod Swapped
 pub mod Written
-pub mod BaseLaws

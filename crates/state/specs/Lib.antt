@@ -8,5 +8,4 @@ pub mod State
 pub mod Right
 pub mod Fits
 pub mod Examples
-pub mod Base
 pub mod Changes

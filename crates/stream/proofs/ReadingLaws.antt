@@ -16,7 +16,7 @@ use Rattle.plan.specs.Plan.{planOf}
 use Rattle.plan.specs.Check.{planRefusal}
 use Rattle.rules.specs.Line.{Line, initialLine}
 use Rattle.rules.specs.Step.{Answer, step}
-use Rattle.rules.specs.Sheet.{answerLine, lineText, lengthField, frameCut, framesText, planText, planTextBy}
+use Rattle.rules.specs.Sheet.{answerLine, lineText, lengthField, frameCut, framesText, planText}
 use Rattle.stream.specs.Reader.{stateLeft}
 use Rattle.stream.specs.Reading.{planning, framing, ended, Told, before, whole, tooShort, framesTold, loadedTold, planTold}
 
@@ -249,4 +249,4 @@ module _ (refused : ℕ) (plan frames : List ℕ) where
   text-accepted e = rw e
 
   pub text-refused : (refused ≡ 0 → ⊥) → planText refused plan frames ≡ answerLine 0 refused
-  text-refused other = rw (ne-eqb refused 0 other, planTextBy)
+  text-refused other = rw (ne-eqb refused 0 other, planText)

@@ -14,7 +14,7 @@ use Rattle.plan.proofs.CheckLaws.{accepted}
 use Rattle.plan.proofs.VersionLaws.{first-is-widened}
 use Rattle.rules.specs.Line.{Line, initialLine}
 use Rattle.rules.specs.Step.{step}
-use Rattle.rules.specs.Sheet.{opening, answerLine, clockText, nodeText, lineText, lengthField, frameCut, framesTextBy, framesText, planText, sheet}
+use Rattle.rules.specs.Sheet.{opening, answerLine, clockText, nodeText, lineText, lengthField, frameCut, framesText, planText, sheet}
 use Rattle.rules.specs.Versions.{LineAlike, SheetAlike, WidenedAlike}
 use Rattle.rules.proofs.console.Recounted.{reheaded}
 use Rattle.rules.proofs.versions.RunAlike.{is-headed, step-alike, initial-alike}
@@ -35,12 +35,12 @@ frames-alike (suc fuel) j k l [] same = same-text k l same
 frames-alike (suc fuel) j k l (b ∷ bs) same = one (frames-alike fuel (suc j)) (frameCut (b ∷ bs)) refl
   where
     one : SameText fuel (suc j) → (t : Bool) → frameCut (b ∷ bs) ≡ t → framesText (suc fuel) j k (b ∷ bs) ≡ framesText (suc fuel) j l (b ∷ bs)
-    one later true e = rw (e, framesTextBy, same-text k l same)
+    one later true e = rw (e, framesText, same-text k l same)
     one later false e =
         let n = lengthField (b ∷ bs) in
         let (number, line) = step-alike k l (take n (b ∷ bs)) same in
         let rest = later (step k (take n (b ∷ bs)) .line) (step l (take n (b ∷ bs)) .line) (drop n (b ∷ bs)) line in
-        rw (e, framesTextBy) (λ i. answerLine j (number i) ++ rest i)
+        rw (e, framesText) (λ i. answerLine j (number i) ++ rest i)
 
 -- A sheet of an accepted plan with some bytes behind it.
 module _ (s frames : List ℕ) (z : planRefusal s ≡ 0) where

@@ -1,1 +1,0 @@
-// Whole sheets held to the definition `sheet`.
