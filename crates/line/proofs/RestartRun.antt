@@ -82,6 +82,7 @@ module _ (state : List ℕ) (z : stateAnswer state ≡ 0) where
       record {
         sound = λ f e. refusal-not-eight l f (sym (answer-undamaged state f z) ∙ e);
         placed = λ f e. s .placed f (sym (answer-undamaged state f z) ∙ e);
+        few-steps = s .few-steps;
         asked = λ w listed.
             (let t = s .asked w listed in
             record {

@@ -9,7 +9,7 @@ use Rattle.plan.specs.Lawful.{Each, Bytes}
 use Rattle.rules.specs.Lists.{isEmpty}
 use Rattle.rules.specs.Line.{stepLimit, consoleCount, stepsFrom, up, down, replay, nodeAt, laneAt, receiverOf}
 use Rattle.rules.specs.Recover.{rowComplete}
-use Rattle.rules.specs.Restart.{takeFrame, recoverFrame, unlessUsedUp, Restarting, restartSteps}
+use Rattle.rules.specs.Restart.{takeFrame, recoverFrame, unlessUsedUp, Restarting, restartSteps, mostRestartSteps}
 use Rattle.state.specs.State.{lineOf}
 use Rattle.line.specs.Load.{loadAnswer, loadLeft}
 use Rattle.line.specs.Step.{stepAnswer}
@@ -20,7 +20,7 @@ use Rattle.rules.specs.Frame.{Caller, consoleOf}
 pub record ComesBackOnBytes (state : List ℕ) (w : Caller) (n : ℕ) : Type 0 where
   pub frames : List (List ℕ)
   pub bytes : Each Bytes frames
-  pub few : length frames ≤ restartSteps
+  pub few : length frames ≤ restartSteps (lineOf state) n (nodeAt (lineOf state) n .status)
   pub shape : Restarting (lineOf state .plan) w n (nodeAt (lineOf state) n .status) frames
   pub accepted : storyOf state frames .numbers ≡ replicate (length frames) 0
   pub back : nodeAt (lineOf (stateAfter state frames)) n .status ≡ up
@@ -32,13 +32,15 @@ pub record NeverStuckOnBytesFor (state : List ℕ) (w : Caller) : Type 0 where
   -- So is a Take on an incomplete row of a replaying node whose channel has a message.
   pub replays : (b : ℕ) → nodeAt (lineOf state) (receiverOf (lineOf state) b) .status ≡ replay → rowComplete (lineOf state) (receiverOf (lineOf state) b) b ≡ false → isEmpty (laneAt (lineOf state) b .queue) ≡ false
       → stepAnswer state (takeFrame w b) ≡ unlessUsedUp (lineOf state) w
-  -- The node comes back.
-  pub comes-back : (n : ℕ) → stepsFrom (lineOf state) (consoleOf w) + restartSteps ≤ stepLimit → ComesBackOnBytes state w n
+  -- The node comes back, if the caller has steps left for it.
+  pub comes-back : (n : ℕ) → stepsFrom (lineOf state) (consoleOf w) + restartSteps (lineOf state) n (nodeAt (lineOf state) n .status) ≤ stepLimit → ComesBackOnBytes state w n
 
 pub record NeverStuckOnBytes (state : List ℕ) : Type 0 where
   -- No call answers 8 or 24.
   pub sound : (frame : List ℕ) → stepAnswer state frame ≢ 8
   pub placed : (frame : List ℕ) → stepAnswer state frame ≢ 24
+  -- No restart is long.
+  pub few-steps : (n : ℕ) → restartSteps (lineOf state) n (nodeAt (lineOf state) n .status) ≤ mostRestartSteps
   -- Whoever asks, in version 1 or from one of the consoles.
   pub asked : (w : Caller) → consoleOf w < consoleCount → NeverStuckOnBytesFor state w
 

@@ -1,4 +1,4 @@
--- A crashed node can always come back: the four statements of specs/Restart, for every accepted plan and every list of frames.
+-- A crashed node can always come back: the statements of specs/Restart, for every accepted plan and every list of frames.
 use Rattle.plan.specs.Plan.{planOf}
 use Rattle.rules.specs.Line.{initialLine}
 use Rattle.rules.specs.Claim.{startOf, storyFrom}
@@ -6,7 +6,7 @@ use Rattle.rules.specs.Restart.{AlwaysBack}
 use Rattle.rules.proofs.restart.Known.{known-start, known-all}
 use Rattle.rules.proofs.restart.NeverUnplaced.{placed}
 use Rattle.rules.proofs.restart.Answers.{recovers, replays}
-use Rattle.rules.proofs.restart.Bring.{comes-back}
+use Rattle.rules.proofs.restart.Bring.{comes-back, few-steps}
 
 pub always-back : AlwaysBack
 always-back plan frames z =
@@ -15,6 +15,7 @@ always-back plan frames z =
     let known = known-all frames start (known-start plan z) in
     record {
       placed = placed l known;
+      few-steps = few-steps l known;
       asked = λ w listed. record {
         recovers = recovers l known w listed;
         replays = λ b again open-row queued. replays l known b again open-row queued w listed;

@@ -5,26 +5,28 @@ use mathlib.Core.Logic.{inl, inr}
 use mathlib.Core.Bool.{false}
 use mathlib.Core.List.{List, [], _∷_, _++_, append-assoc}
 use native.Mathlib.Omega.{arith}
+use native.Mathlib.Decide.{ℕ-discrete}
 use lib.ListN.{length, getD, replicate}
-use Rattle.plan.specs.Plan.{Plan, channelCount, entering}
-use Rattle.rules.specs.Line.{stepLimit, consoleCount, stepsFrom, Target, Status, up, down, replay, Node, Line, nodeAt, oneMore, counted, receiverOf}
+use Rattle.plan.specs.Plan.{Plan, nodeCount, channelCount, entering}
+use Rattle.rules.specs.Line.{logLimit, stepLimit, consoleCount, stepsFrom, Target, Status, up, down, replay, Node, Line, nodeAt, oneMore, counted, receiverOf}
 use Rattle.rules.specs.Recover.{targetsOf, rowComplete, rowsComplete, recovered, statusOf}
 use Rattle.rules.specs.Step.{accepted, refusal, step}
 use Rattle.rules.specs.Claim.{Story, startOf, told, storyFrom}
-use Rattle.rules.specs.Restart.{recoverFrame, OnEntering, no-more, Restarting, restartSteps, ComesBack}
+use Rattle.rules.specs.Restart.{recoverFrame, OnEntering, no-more, Restarting, replaySteps, restartSteps, mostRestartSteps, ComesBack}
 use Rattle.rules.proofs.lists.ListLaws.{nil-right}
 use Rattle.rules.proofs.lists.Members.{In, not-all}
 use Rattle.rules.proofs.line.Joins.{entering-in}
 use Rattle.rules.proofs.line.Consoles.{own-more}
+use Rattle.rules.proofs.invariant.Inv.{Shape, Ordered}
 use Rattle.rules.proofs.invariant.InvLaws.{not-up-inside, up-not-replay, up-not-down}
-use Rattle.rules.proofs.undamaged.Restored.{recovered-is, restored-node}
+use Rattle.rules.proofs.undamaged.Restored.{restoredLine, recovered-is, restored-node, restored-else}
 use Rattle.rules.proofs.theorem.Accepted.{may-recover, step-accepted}
 use Rattle.rules.proofs.theorem.Unmoved.{step-plan}
 use Rattle.rules.proofs.restart.Known.{Known, known-step}
 use Rattle.rules.proofs.restart.Frames.{recover-formed, formed-line}
 use Rattle.rules.proofs.restart.NeverUnplaced.{recover-goes}
 use Rattle.rules.proofs.restart.Answers.{recover-unrefused, recovers}
-use Rattle.rules.proofs.restart.RowsLeft.{rowsLeft, row-most, total-most}
+use Rattle.rules.proofs.restart.RowsLeft.{rowsLeft, steps-left, steps-most}
 use Rattle.rules.proofs.restart.Advance.{Advances, some-left, advance-at, left-zero}
 use Rattle.rules.specs.Frame.{Caller, consoleOf}
 
@@ -116,14 +118,11 @@ bring (suc j) l known w listed n again few left =
       | inr (e, less, steps) ↦ bring j next (known-step l (a .frame) known) w listed n e (omega arith) (omega (arith, own-count l known w listed (omega arith) next steps))
     ])
 
--- At most 64 Sends and 64 Takes a row, four rows.
-bring-all : (l : Line) → Known l → (w : Caller) → consoleOf w < consoleCount → (n : ℕ) → nodeAt l n .status ≡ replay → stepsFrom l (consoleOf w) + 512 ≤ stepLimit → Brought 512 l w n
-bring-all l known w listed n again left =
-    bring 512 l known w listed n again
-    (total-most _ 4 (entering (l .plan) n) (λ b i. row-most l 0 (known .steady .limits) n b) (known .rows n (not-up-inside (known .inv .shape) n (λ z. up-not-replay (sym z ∙ again))))) left
+bring-all : (l : Line) → Known l → (w : Caller) → consoleOf w < consoleCount → (n : ℕ) → nodeAt l n .status ≡ replay → stepsFrom l (consoleOf w) + replaySteps l n ≤ stepLimit → Brought (replaySteps l n) l w n
+bring-all l known w listed n again left = bring (replaySteps l n) l known w listed n again (omega (arith, steps-left l n)) left
 
 -- A node that is down is recovered first.
-module _ (l : Line) (known : Known l) (w : Caller) (listed : consoleOf w < consoleCount) (n : ℕ) (gone : nodeAt l n .status ≡ down) (left : stepsFrom l (consoleOf w) + restartSteps ≤ stepLimit) where
+module _ (l : Line) (known : Known l) (w : Caller) (listed : consoleOf w < consoleCount) (n : ℕ) (gone : nodeAt l n .status ≡ down) (left : stepsFrom l (consoleOf w) + suc (replaySteps (recovered n l) n) ≤ stepLimit) where
   recover-accepted : refusal l (recoverFrame w n) ≡ 0
   recover-accepted = recovers l known w listed n gone ∙ left-zero l w (omega arith)
 
@@ -146,31 +145,67 @@ module _ (l : Line) (known : Known l) (w : Caller) (listed : consoleOf w < conso
   unfolding counted
   next-steps = ap (λ (k : Line). k .steps) (next-is ∙ ap (counted (consoleOf w)) (recovered-is l n (known .inv .ordered) (known .inv .shape)))
 
-  brought-after : Brought 512 next w n
+  next-left : replaySteps next n ≡ replaySteps (recovered n l) n
+  unfolding counted rowComplete
+  next-left = ap (λ (k : Line). replaySteps k n) next-is
+
+  brought-after : Brought (replaySteps next n) next w n
   brought-after = go (targetsOf l n) refl
     where
-      go : (ts : List Target) → targetsOf l n ≡ ts → Brought 512 next w n
-      go [] q = brought-none 512 next w n (next-status ∙ ap statusOf q)
-      go (t ∷ ts) q = bring-all next (known-step l (recoverFrame w n) known) w listed n (next-status ∙ ap statusOf q) (omega (arith, own-count l known w listed (omega arith) next next-steps))
+      go : (ts : List Target) → targetsOf l n ≡ ts → Brought (replaySteps next n) next w n
+      go [] q = brought-none (replaySteps next n) next w n (next-status ∙ ap statusOf q)
+      go (t ∷ ts) q = bring-all next (known-step l (recoverFrame w n) known) w listed n (next-status ∙ ap statusOf q) (omega (arith, next-left, own-count l known w listed (omega arith) next next-steps))
 
   recovered-back : ComesBack l w n
   recovered-back =
       let b = brought-after in
       record {
         frames = recoverFrame w n ∷ b .frames;
-        few = omega (arith, b .few);
+        few = subst (λ (s : Status). suc (length (b .frames)) ≤ restartSteps l n s) (sym gone) (omega (arith, b .few, next-left));
         shape = subst (λ (s : Status). Restarting (l .plan) w n s (recoverFrame w n ∷ b .frames)) (sym gone) (b .frames, refl, subst (λ (p : Plan). OnEntering p w n (b .frames)) (step-plan l (recoverFrame w n)) (b .shape));
         accepted = zero-then l (recoverFrame w n) recover-accepted (b .frames) (b .all-zero);
         back = ap (λ (k : Line). nodeAt k n .status) (line-then l (recoverFrame w n) recover-accepted (b .frames)) ∙ b .back;
       }
 
-pub comes-back : (l : Line) → Known l → (w : Caller) → consoleOf w < consoleCount → (n : ℕ) → stepsFrom l (consoleOf w) + restartSteps ≤ stepLimit → ComesBack l w n
+pub comes-back : (l : Line) → Known l → (w : Caller) → consoleOf w < consoleCount → (n : ℕ) → stepsFrom l (consoleOf w) + restartSteps l n (nodeAt l n .status) ≤ stepLimit → ComesBack l w n
 comes-back l known w listed n left = go (nodeAt l n .status) refl
   where
-    brought : {j : ℕ} (s : Status) → nodeAt l n .status ≡ s → ((fs : List (List ℕ)) → OnEntering (l .plan) w n fs → Restarting (l .plan) w n s fs) → j ≤ restartSteps → Brought j l w n → ComesBack l w n
-    brought s q shape h b = record { frames = b .frames; few = omega (arith, b .few); shape = subst (λ (t : Status). Restarting (l .plan) w n t (b .frames)) (sym q) (shape (b .frames) (b .shape)); accepted = b .all-zero; back = b .back }
+    left-by : (s : Status) → nodeAt l n .status ≡ s → stepsFrom l (consoleOf w) + restartSteps l n s ≤ stepLimit
+    left-by s q = subst (λ (t : Status). stepsFrom l (consoleOf w) + restartSteps l n t ≤ stepLimit) q left
+
+    brought : (s : Status) → nodeAt l n .status ≡ s → ((fs : List (List ℕ)) → OnEntering (l .plan) w n fs → Restarting (l .plan) w n s fs) → Brought (restartSteps l n s) l w n → ComesBack l w n
+    brought s q shape b =
+        record {
+          frames = b .frames;
+          few = subst (λ (t : Status). length (b .frames) ≤ restartSteps l n t) (sym q) (b .few);
+          shape = subst (λ (t : Status). Restarting (l .plan) w n t (b .frames)) (sym q) (shape (b .frames) (b .shape));
+          accepted = b .all-zero;
+          back = b .back;
+        }
 
     go : (s : Status) → nodeAt l n .status ≡ s → ComesBack l w n
-    go up q = brought up q (λ fs s. s) (omega arith) (brought-none 0 l w n q)
-    go down q = recovered-back l known w listed n q left
-    go replay q = brought replay q (λ fs s. s) (omega arith) (bring-all l known w listed n q (omega arith))
+    go up q = brought up q (λ fs s. s) (brought-none 0 l w n q)
+    go down q = recovered-back l known w listed n q (left-by down q)
+    go replay q = brought replay q (λ fs s. s) (bring-all l known w listed n q (left-by replay q))
+
+-- The restored line's logs are those of before, and the node's own is empty.
+restored-logs : (l : Line) → Ordered (l .plan) → Shape l → (n : ℕ) → n < nodeCount (l .plan) → ((m : ℕ) → length (nodeAt l m .log) ≤ logLimit) → (m : ℕ) → length (nodeAt (restoredLine l n) m .log) ≤ logLimit
+restored-logs l ordered shape n inside logs m = elim (ℕ-discrete m n) [
+  | yes q ↦ subst (λ (x : ℕ). length (nodeAt (restoredLine l n) x .log) ≤ logLimit) (sym q) (subst (λ (x : Node). length (x .log) ≤ logLimit) (sym (restored-node l n ordered shape inside)) (omega arith))
+  | no d ↦ subst (λ (x : Node). length (x .log) ≤ logLimit) (sym (restored-else l n ordered shape m d)) (logs m)
+]
+
+-- At most one Recover and 512 steps of a replay.
+pub few-steps : (l : Line) → Known l → (n : ℕ) → restartSteps l n (nodeAt l n .status) ≤ mostRestartSteps
+few-steps l known n = go (nodeAt l n .status) refl
+  where
+    few : (k : Line) → ((m : ℕ) → length (nodeAt k m .log) ≤ logLimit) → k .plan ≡ l .plan → n < nodeCount (l .plan) → replaySteps k n ≤ 512
+    few k logs q inside = steps-most k logs n (subst (λ (p : Plan). length (entering p n) ≤ 4) (sym q) (known .rows n inside))
+
+    go : (s : Status) → nodeAt l n .status ≡ s → restartSteps l n s ≤ mostRestartSteps
+    go up q = omega arith
+    go replay q = omega (arith, few l (known .steady .limits .logs) refl (not-up-inside (known .inv .shape) n (λ z. up-not-replay (sym z ∙ q))))
+    go down q =
+        let inside = not-up-inside (known .inv .shape) n (λ z. up-not-down (sym z ∙ q)) in
+        let again = few (restoredLine l n) (restored-logs l (known .inv .ordered) (known .inv .shape) n inside (known .steady .limits .logs)) refl inside in
+        omega (arith, again, ap (λ (k : Line). replaySteps k n) (recovered-is l n (known .inv .ordered) (known .inv .shape)))

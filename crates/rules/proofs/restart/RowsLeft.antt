@@ -1,33 +1,35 @@
 -- How far a replay has to go: for each incomplete row, the messages that are still to be taken and those still to be sent.
-use Prim.Native.Nat.{ℕ, _+_, _*_, _<_, _≤_}
-use mathlib.Core.Path.{_≡_, sym, ap, subst}
+use Prim.Native.Nat.{ℕ, suc, _+_, _*_, _<_, _≤_}
+use mathlib.Core.Path.{_≡_, refl, sym, ap, ap₂, subst}
 use mathlib.Core.Logic.{_≢_}
-use mathlib.Core.Bool.{Bool, true, false, cond}
+use mathlib.Core.Bool.{Bool, true, false, cond, _&&_}
 use mathlib.Core.List.{List, [], _∷_, map}
 use native.Mathlib.Omega.{arith}
 use native.Mathlib.Decide.{ℕ-discrete}
 use lib.ListN.{length, length-map}
 use lib.Dec.{ltb, leb}
 use borrow.Author.Tests.{lt-ltb, le-ltb, ltb-true}
+use Rattle.plan.specs.declared.Channel.{Channel}
+use Rattle.plan.specs.Layout.{sumOf}
+use Rattle.plan.specs.Channel.{takes}
 use Rattle.plan.specs.Plan.{channelAt, entering}
-use Rattle.rules.specs.Lists.{keep}
-use Rattle.rules.specs.Line.{logLimit, Message, Node, Lane, Line, nodeAt, laneAt}
+use Rattle.rules.specs.Lists.{keepOne, keep}
+use Rattle.rules.specs.Line.{logLimit, Message, Entry, Node, Lane, Line, nodeAt, laneAt}
 use Rattle.rules.specs.Clock.{messageOf}
 use Rattle.rules.specs.Recover.{rowGoal, rowComplete}
+use Rattle.rules.specs.Restart.{laterOn, rowSteps, replaySteps}
 use Rattle.rules.proofs.lists.Rising.{past}
 use Rattle.rules.proofs.lists.Members.{In, here, there}
 use Rattle.rules.proofs.lists.Counts.{keep-short, keep-one-fewer}
 use Rattle.rules.proofs.histories.Ghost.{takesMessage, logPut}
 use Rattle.rules.proofs.invariant.Inv.{timeOf}
 use Rattle.rules.proofs.invariant.Stays.{moved}
-use Rattle.rules.proofs.invariant.Limits.{Limits}
 
 -- A sum over some channels.
 abbrev pub total : (ℕ → ℕ) → List ℕ → ℕ
-total f [] = 0
-total f (b ∷ bs) = f b + total f bs
+total f bs = sumOf (map f bs)
 
-pub total-most : (f : ℕ → ℕ) (k : ℕ) (bs : List ℕ) → ((b : ℕ) → In b bs → f b ≤ 128) → length bs ≤ k → total f bs ≤ 128 * k
+total-most : (f : ℕ → ℕ) (k : ℕ) (bs : List ℕ) → ((b : ℕ) → In b bs → f b ≤ 128) → length bs ≤ k → total f bs ≤ 128 * k
 total-most f k bs h l = let short = most bs h in omega arith
   where
     most : (bs : List ℕ) → ((b : ℕ) → In b bs → f b ≤ 128) → total f bs ≤ 128 * length bs
@@ -97,8 +99,31 @@ module _ (l : Line) (steps : List ℕ) (nodes : List Node) (lanes : List Lane) (
       ])
       i less
 
+-- What is left is what the statement counts, entry by entry of the sender's log.
+later-is : (c : Channel) (t : ℕ) (log : List Entry) → length (keep (λ (e : Entry). ltb t (e .time) && takes c (e .what)) log) ≡ length (past timeOf t (keep (λ (m : Message). takes c (m .what)) (map messageOf log)))
+later-is c t [] = refl
+later-is c t (e ∷ log) = one (ltb t (e .time)) (takes c (e .what)) refl (later-is c t log)
+  where
+    one : (late fits : Bool) → ltb t (e .time) ≡ late → length (keep (λ (d : Entry). ltb t (d .time) && takes c (d .what)) log) ≡ length (past timeOf t (keep (λ (m : Message). takes c (m .what)) (map messageOf log)))
+        → length (keepOne (late && fits) e (keep (λ (d : Entry). ltb t (d .time) && takes c (d .what)) log)) ≡ length (past timeOf t (keepOne fits (messageOf e) (keep (λ (m : Message). takes c (m .what)) (map messageOf log))))
+    one true true q ih = rw q (ap suc ih)
+    one false true q ih = rw q ih
+    one true false q ih = ih
+    one false false q ih = ih
+
+pub steps-left : (l : Line) (n : ℕ) → replaySteps l n ≡ rowsLeft l n
+unfolding logPut
+steps-left l n = sums (entering (l .plan) n)
+  where
+    at : (b t : ℕ) → laterOn l b t ≡ length (past timeOf t (logPut l b))
+    at b t = later-is (channelAt (l .plan) b) t (nodeAt l (channelAt (l .plan) b .sender) .log)
+
+    sums : (bs : List ℕ) → total (rowSteps l n) bs ≡ total (rowLeft l n) bs
+    sums [] = refl
+    sums (b ∷ bs) = ap₂ (λ (x y : ℕ). x + y) (ap₂ (λ (x y : ℕ). cond (rowComplete l n b) 0 (x + y)) (at b (laneAt l b .taken)) (at b (laneAt l b .mark))) (sums bs)
+
 -- At most 64 Takes and 64 Sends a row.
-module _ (l : Line) (more : ℕ) (limits : Limits more l) where
+module _ (l : Line) (logs : (n : ℕ) → length (nodeAt l n .log) ≤ logLimit) where
   log-short : (b k : ℕ) → length (past timeOf k (logPut l b)) ≤ logLimit
   unfolding logPut
   log-short b k =
@@ -108,12 +133,16 @@ module _ (l : Line) (more : ℕ) (limits : Limits more l) where
         keep-short (λ (x : Message). ltb k (x .time)) (logPut l b),
         keep-short (takesMessage (l .plan) b) (map messageOf log),
         length-map log messageOf,
-        limits .logs (channelAt (l .plan) b .sender),
+        logs (channelAt (l .plan) b .sender),
       )
 
-  pub row-most : (n b : ℕ) → rowLeft l n b ≤ 128
+  row-most : (n b : ℕ) → rowLeft l n b ≤ 128
   row-most n b = one (rowComplete l n b)
     where
       one : (t : Bool) → leftBy t (laneAt l b .taken) (laneAt l b .mark) (logPut l b) ≤ 128
       one true = omega arith
       one false = omega (arith, log-short b (laneAt l b .taken), log-short b (laneAt l b .mark))
+
+  -- Four rows.
+  pub steps-most : (n : ℕ) → length (entering (l .plan) n) ≤ 4 → replaySteps l n ≤ 512
+  steps-most n rows = omega (arith, steps-left l n, total-most (rowLeft l n) 4 (entering (l .plan) n) (λ b i. row-most n b) rows)
