@@ -7,7 +7,7 @@ ghost use lib.Dec.{eqb};
 ghost use lib.ListN.{length, getD};
 ghost use Rattle.plan.specs.Plan.{planChannels};
 ghost use Rattle.rules.specs.Line.{heldLimit, nodeAt, laneAt, receiverOf, withNode};
-ghost use Rattle.rules.specs.Frame.{take};
+ghost use Rattle.rules.specs.Frame as frames;
 ghost use Rattle.rules.specs.Recover.{rowGoal};
 ghost use Rattle.rules.specs.Replay.{passedOn, entryAt};
 ghost use Rattle.rules.specs.Step.{replaying, endDown};
@@ -185,7 +185,7 @@ fn end(s: &mut [u8], n: usize, b: usize, m: Sent, last: Waiting, out: &[u32; 128
 // Take, where the receiver replays, both ends are not down and the channel has a message: 20, 21, 24 or 0.
 pub fn take_replaying(s: &mut [u8], b: usize) -> u32
     requires { ⌜ Undamaged (now s) × (b < planChannels (now s)) × (endDown (lineOf (now s)) b ≡ false) × (0 < length (laneAt (lineOf (now s)) b .queue)) × (replaying (lineOf (now s)) (receiverOf (lineOf (now s)) b) ≡ true) ⌝ }
-    ensures { λ r. ⌜ Did (now (s .entry)) (take b) (now (s .exit)) r ⌝ }
+    ensures { λ r. ⌜ Did (now (s .entry)) (frames.take b) (now (s .exit)) r ⌝ }
 {
     let n = look::receiver_of(s, b);
     if goal_of(s, n, look::sender_of(s, b)) <= channel_fields::taken_of(s, b) {
