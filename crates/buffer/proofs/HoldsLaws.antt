@@ -150,11 +150,17 @@ module _ {s t : List ℕ} {n : ℕ} (at : AtNode s n) (x : Node) (now : Holds t 
   pub node-after : nodeAt (lineOf t) n ≡ x
   node-after = ap (λ (l : Line). nodeAt l n) (now .same) ∙ node-there n x (lineOf s) (node-listed at)
 
+pub node-now : {s t : List ℕ} {n : ℕ} (f : Node → Node) → AtNode s n → Holds t (withNode n (f (nodeAt (lineOf s) n)) (lineOf s)) → NodeNow s n f t
+node-now {s} {n = n} f at now = record { holds = now; on = onward-node (node-onward at (f (nodeAt (lineOf s) n)) now) at }
+
 -- Two changes of one node.
-pub node-then : {s t u : List ℕ} {n : ℕ} (f g : Node → Node) → AtNode s n → NodeNow s n f t → NodeNow t n g u → NodeNow s n (λ x. g (f x)) u
-node-then {s} {t} {u} {n} f g at first second =
+pub node-then : {s t u : List ℕ} {n : ℕ} {f g : Node → Node} → AtNode s n → NodeNow s n f t → NodeNow t n g u → NodeNow s n (λ x. g (f x)) u
+node-then {s} {t} {u} {n} {f} {g} at first second =
     let x = f (nodeAt (lineOf s) n) in
-    subst (Holds u) (ap (λ (y : Node). withNode n (g y) (lineOf t)) (node-after at x first) ∙ ap (withNode n (g x)) (first .same) ∙ node-twice n x (g x) (lineOf s)) second
+    record {
+      holds = subst (Holds u) (ap (λ (y : Node). withNode n (g y) (lineOf t)) (node-after at x (first .holds)) ∙ ap (withNode n (g x)) (first .holds .same) ∙ node-twice n x (g x) (lineOf s)) (second .holds);
+      on = second .on;
+    }
 
 -- ---- a lane
 
@@ -202,10 +208,16 @@ module _ {s t : List ℕ} {b : ℕ} (at : AtLane s b) (x : Lane) (now : Holds t 
   pub lane-after : laneAt (lineOf t) b ≡ x
   lane-after = ap (λ (l : Line). laneAt l b) (now .same) ∙ lane-there b x (lineOf s) (lane-listed at)
 
-pub lane-then : {s t u : List ℕ} {b : ℕ} (f g : Lane → Lane) → AtLane s b → LaneNow s b f t → LaneNow t b g u → LaneNow s b (λ x. g (f x)) u
-lane-then {s} {t} {u} {b} f g at first second =
+pub lane-now : {s t : List ℕ} {b : ℕ} (f : Lane → Lane) → AtLane s b → Holds t (withLane b (f (laneAt (lineOf s) b)) (lineOf s)) → LaneNow s b f t
+lane-now {s} {b = b} f at now = record { holds = now; on = onward-lane (lane-onward at (f (laneAt (lineOf s) b)) now) at }
+
+pub lane-then : {s t u : List ℕ} {b : ℕ} {f g : Lane → Lane} → AtLane s b → LaneNow s b f t → LaneNow t b g u → LaneNow s b (λ x. g (f x)) u
+lane-then {s} {t} {u} {b} {f} {g} at first second =
     let x = f (laneAt (lineOf s) b) in
-    subst (Holds u) (ap (λ (y : Lane). withLane b (g y) (lineOf t)) (lane-after at x first) ∙ ap (withLane b (g x)) (first .same) ∙ lane-twice b x (g x) (lineOf s)) second
+    record {
+      holds = subst (Holds u) (ap (λ (y : Lane). withLane b (g y) (lineOf t)) (lane-after at x (first .holds)) ∙ ap (withLane b (g x)) (first .holds .same) ∙ lane-twice b x (g x) (lineOf s)) (second .holds);
+      on = second .on;
+    }
 
 -- ---- the steps
 

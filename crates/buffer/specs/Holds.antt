@@ -30,12 +30,14 @@ pub record AtLane (s : List ℕ) (b : ℕ) : Type 0 where
   pub holds : Holds s (lineOf s)
   pub below : b < planChannels s
 
--- The state afterwards: node n, or the lane of channel b, is changed and nothing else.
-abbrev pub NodeNow : List ℕ → ℕ → (Node → Node) → List ℕ → Type 0
-NodeNow s n f t = Holds t (withNode n (f (nodeAt (lineOf s) n)) (lineOf s))
+-- The state t afterwards: node n, or the lane of channel b, is changed and nothing else. What the next call asks of it holds again.
+pub record NodeNow (s : List ℕ) (n : ℕ) (f : Node → Node) (t : List ℕ) : Type 0 where
+  pub holds : Holds t (withNode n (f (nodeAt (lineOf s) n)) (lineOf s))
+  pub on : AtNode t n
 
-abbrev pub LaneNow : List ℕ → ℕ → (Lane → Lane) → List ℕ → Type 0
-LaneNow s b f t = Holds t (withLane b (f (laneAt (lineOf s) b)) (lineOf s))
+pub record LaneNow (s : List ℕ) (b : ℕ) (f : Lane → Lane) (t : List ℕ) : Type 0 where
+  pub holds : Holds t (withLane b (f (laneAt (lineOf s) b)) (lineOf s))
+  pub on : AtLane t b
 
 -- A state that holds an undamaged line.
 pub record Undamaged (s : List ℕ) : Type 0 where

@@ -21,25 +21,25 @@ use Rattle.state.proofs.PieceLaws.{message-sound}
 use Rattle.state.proofs.Swapped.{swap-in, counts-long, more-put, cleared-put, gone-put}
 use Rattle.state.proofs.Written.{lane-mark, lane-taken, lane-heard-at, lane-heard-none, lane-queue, heard-long}
 use Rattle.buffer.specs.Holds.{Holds, AtLane, LaneNow}
-use Rattle.buffer.proofs.HoldsLaws.{lane-same, lane-fits, lane-over, lane-holds, lane-put}
+use Rattle.buffer.proofs.HoldsLaws.{lane-same, lane-fits, lane-over, lane-holds, lane-put, lane-now}
 use Rattle.channel_fields.specs.Raised.{takenTo, heardTo}
 
 -- Nothing is written.
-pub lane-unchanged : (s : List ℕ) (b : ℕ) → AtLane s b → (x : Lane) → x ≡ laneAt (lineOf s) b → Holds s (withLane b x (lineOf s))
-lane-unchanged s b at x e = subst (Holds s) (sym (ap (λ (y : Lane). withLane b y (lineOf s)) e ∙ lane-same b (lineOf s))) (at .holds)
+pub lane-kept : (s : List ℕ) (b : ℕ) → AtLane s b → (x : Lane) → x ≡ laneAt (lineOf s) b → Holds s (withLane b x (lineOf s))
+lane-kept s b at x e = subst (Holds s) (sym (ap (λ (y : Lane). withLane b y (lineOf s)) e ∙ lane-same b (lineOf s))) (at .holds)
 
 module _ (s : List ℕ) (b : ℕ) (at : AtLane s b) where
   pub taken-left : (v : ℕ) → v ≤ laneAt (lineOf s) b .taken → LaneNow s b (takenTo v) s
   taken-left v h =
       let x = laneAt (lineOf s) b in
       let most : max (x .taken) v ≡ x .taken = omega arith in
-      lane-unchanged s b at (takenTo v x) (ap (λ (k : ℕ). withTaken k x) most)
+      lane-now (takenTo v) at (lane-kept s b at (takenTo v x) (ap (λ (k : ℕ). withTaken k x) most))
 
   pub heard-left : (i v : ℕ) → v ≤ getD (laneAt (lineOf s) b .heard) i 0 → LaneNow s b (heardTo i v) s
   heard-left i v h =
       let x = laneAt (lineOf s) b in
       let most : max (getD (x .heard) i 0) v ≡ getD (x .heard) i 0 = omega arith in
-      lane-unchanged s b at (heardTo i v x) (ap (λ (hs : List ℕ). withHeard hs x) (ap (set (x .heard) i) most ∙ set-getD (x .heard) i 0))
+      lane-now (heardTo i v) at (lane-kept s b at (heardTo i v x) (ap (λ (hs : List ℕ). withHeard hs x) (ap (set (x .heard) i) most ∙ set-getD (x .heard) i 0)))
 
 each-set : (P : ℕ → Type 0) (xs : List ℕ) (i x : ℕ) → Each P xs → P x → Each P (set xs i x)
 each-set P [] i x h p = tt
@@ -59,32 +59,33 @@ module _ (s t : List ℕ) (b : ℕ) (at : AtLane s b) where
 
   pub mark-put : (v : ℕ) → TimeFits v → t ≡ put s (blockAt b) (bytesOf 4 v) → LaneNow s b (withMark v) t
   mark-put v h r =
-      lane-put at (withMark v on) (record { mark = h; taken = fit .taken; heard = fit .heard; queue = fit .queue }) refl (lane-mark on v) (counts-long 4 (on .mark) v) (blockAt b) (sym (add-zero (blockAt b))) r
+      lane-now (withMark v) at (lane-put at (withMark v on) (record { mark = h; taken = fit .taken; heard = fit .heard; queue = fit .queue }) refl (lane-mark on v) (counts-long 4 (on .mark) v) (blockAt b) (sym (add-zero (blockAt b))) r)
 
   pub taken-put : (v : ℕ) → TimeFits v → t ≡ put s (blockAt b + takenAt) (bytesOf 4 v) → LaneNow s b (withTaken v) t
   taken-put v h r =
-      lane-put at (withTaken v on) (record { mark = fit .mark; taken = h; heard = fit .heard; queue = fit .queue }) refl (lane-taken on v) (counts-long 4 (on .taken) v) (blockAt b + takenAt) refl r
+      lane-now (withTaken v) at (lane-put at (withTaken v on) (record { mark = fit .mark; taken = h; heard = fit .heard; queue = fit .queue }) refl (lane-taken on v) (counts-long 4 (on .taken) v) (blockAt b + takenAt) refl r)
 
   pub heard-put : (i v : ℕ) → i < length (on .heard) → i < parentLimit → TimeFits v → t ≡ put s (blockAt b + heardAt + 4 * i) (bytesOf 4 v) → LaneNow s b (λ x. withHeard (set (x .heard) i v) x) t
   heard-put i v inside few h r =
-      lane-put at (withHeard (set (on .heard) i v) on) (record { mark = fit .mark; taken = fit .taken; heard = each-set TimeFits (on .heard) i v (fit .heard) h; queue = fit .queue })
-      (length-set (on .heard) i v) (lane-heard-at on i v inside few) (counts-long 4 (getD (on .heard) i 0) v) (blockAt b + heardAt + 4 * i) (omega arith) r
+      lane-now (λ x. withHeard (set (x .heard) i v) x) at (lane-put at (withHeard (set (on .heard) i v) on) (record { mark = fit .mark; taken = fit .taken; heard = each-set TimeFits (on .heard) i v (fit .heard) h; queue = fit .queue })
+      (length-set (on .heard) i v) (lane-heard-at on i v inside few) (counts-long 4 (getD (on .heard) i 0) v) (blockAt b + heardAt + 4 * i) (omega arith) r)
 
   -- Raised, or left where it is as late already.
   pub taken-raised : (v : ℕ) → on .taken < v → LaneNow s b (withTaken v) t → LaneNow s b (takenTo v) t
   taken-raised v later now =
       let most : v ≡ max (on .taken) v = omega arith in
-      subst (λ (k : ℕ). Holds t (withLane b (withTaken k on) (lineOf s))) most now
+      record { holds = subst (λ (k : ℕ). Holds t (withLane b (withTaken k on) (lineOf s))) most (now .holds); on = now .on }
 
   pub heard-raised : (i v : ℕ) → i < length (on .heard) → i < parentLimit → TimeFits v → getD (on .heard) i 0 < v → t ≡ put s (blockAt b + heardAt + 4 * i) (bytesOf 4 v) → LaneNow s b (heardTo i v) t
   heard-raised i v inside few h later r =
       let most : v ≡ max (getD (on .heard) i 0) v = omega arith in
-      subst (λ (k : ℕ). Holds t (withLane b (withHeard (set (on .heard) i k) on) (lineOf s))) most (heard-put i v inside few h r)
+      let now = heard-put i v inside few h r in
+      record { holds = subst (λ (k : ℕ). Holds t (withLane b (withHeard (set (on .heard) i k) on) (lineOf s))) most (now .holds); on = now .on }
 
   pub heard-cleared : t ≡ take (blockAt b + heardAt) s ++ replicate (blockAt b + queueAt - (blockAt b + heardAt)) 0 ++ drop (blockAt b + queueAt) s → LaneNow s b nothingHeard t
   heard-cleared r =
-      lane-put at (nothingHeard on) (record { mark = fit .mark; taken = fit .taken; heard = each-replicate TimeFits (length (on .heard)) 0 (omega arith); queue = fit .queue })
-      (length-replicate (length (on .heard)) 0) (lane-heard-none on) (heard-long (on .heard)) (blockAt b + heardAt) refl (r ∙ put-replicate s (blockAt b + heardAt) (blockAt b + queueAt) 16 0 (omega arith))
+      lane-now nothingHeard at (lane-put at (nothingHeard on) (record { mark = fit .mark; taken = fit .taken; heard = each-replicate TimeFits (length (on .heard)) 0 (omega arith); queue = fit .queue })
+      (length-replicate (length (on .heard)) 0) (lane-heard-none on) (heard-long (on .heard)) (blockAt b + heardAt) refl (r ∙ put-replicate s (blockAt b + heardAt) (blockAt b + queueAt) 16 0 (omega arith)))
 
   -- ---- the queue
 
@@ -95,16 +96,16 @@ module _ (s t : List ℕ) (b : ℕ) (at : AtLane s b) where
       → t ≡ take (blockAt b + queueAt) s ++ replicate (to - (blockAt b + queueAt)) 0 ++ drop to s → LaneNow s b (withQueue []) t
   unfolding queueLayout
   queue-cleared to e r =
-      lane-holds at (withQueue [] on) (queued [] (omega arith) tt) refl
-      (r ∙ sym (cleared-put message-sound countSize queueLimit (on .queue) (swap-in (lane-over at (withQueue [] on)) (lane-queue on [])) (fit .queue .0) to e))
+      lane-now (withQueue []) at (lane-holds at (withQueue [] on) (queued [] (omega arith) tt) refl
+      (r ∙ sym (cleared-put message-sound countSize queueLimit (on .queue) (swap-in (lane-over at (withQueue [] on)) (lane-queue on [])) (fit .queue .0) to e)))
 
   pub queue-more : (m : Message) → MessageFits m → length (on .queue) < queueLimit → (next : ℕ) → next ≡ blockAt b + queueAt + countSize + messageSize * length (on .queue)
       → t ≡ put (put s (blockAt b + queueAt) (bytesOf 4 (length (on .queue) + 1))) next (messageLayout .write m) → LaneNow s b (moreQueued m) t
   unfolding queueLayout
   queue-more m h few next e r =
       let ms = on .queue ++ m ∷ [] in
-      lane-holds at (withQueue ms on) (queued ms (rw length-append (omega arith)) (each-append MessageFits (on .queue) (m ∷ []) (fit .queue .1) (h, tt))) refl
-      (r ∙ sym (more-put message-sound countSize queueLimit (on .queue) m (swap-in (lane-over at (withQueue ms on)) (lane-queue on ms)) few next e))
+      lane-now (moreQueued m) at (lane-holds at (withQueue ms on) (queued ms (rw length-append (omega arith)) (each-append MessageFits (on .queue) (m ∷ []) (fit .queue .1) (h, tt))) refl
+      (r ∙ sym (more-put message-sound countSize queueLimit (on .queue) m (swap-in (lane-over at (withQueue ms on)) (lane-queue on ms)) few next e)))
 
   pub queue-gone : 0 < length (on .queue) → (u : List ℕ) → u ≡ put s (blockAt b + queueAt) (bytesOf 4 (length (on .queue) - 1))
       → t ≡ put u (blockAt b + queueAt + countSize) (take (messageSize * (length (on .queue) - 1)) (drop (blockAt b + queueAt + countSize + messageSize) u) ++ replicate messageSize 0) → LaneNow s b firstGone t
@@ -112,5 +113,5 @@ module _ (s t : List ℕ) (b : ℕ) (at : AtLane s b) where
   queue-gone some u first r =
       let ms = drop 1 (on .queue) in
       let long : length ms ≡ length (on .queue) - 1 = length-drop 1 (on .queue) in
-      lane-holds at (withQueue ms on) (queued ms (omega (arith, fit .queue .0)) (each-behind MessageFits (on .queue) (fit .queue .1))) refl
-      (r ∙ sym (rw long at (gone-put message-sound countSize queueLimit (on .queue) (swap-in (lane-over at (withQueue ms on)) (lane-queue on ms)) some (fit .queue .0) u (rw long first))))
+      lane-now firstGone at (lane-holds at (withQueue ms on) (queued ms (omega (arith, fit .queue .0)) (each-behind MessageFits (on .queue) (fit .queue .1))) refl
+      (r ∙ sym (rw long at (gone-put message-sound countSize queueLimit (on .queue) (swap-in (lane-over at (withQueue ms on)) (lane-queue on ms)) some (fit .queue .0) u (rw long first)))))

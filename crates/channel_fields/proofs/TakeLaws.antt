@@ -12,7 +12,7 @@ use Rattle.state.specs.Lane.{withHeard}
 use Rattle.state.specs.State.{lineOf}
 use Rattle.state.specs.Changes.{firstGone}
 use Rattle.buffer.specs.Holds.{Holds, AtLane, LaneNow}
-use Rattle.buffer.proofs.HoldsLaws.{lane-after, lane-onward, lane-then, onward-lane}
+use Rattle.buffer.proofs.HoldsLaws.{lane-after, lane-then}
 use Rattle.channel_fields.specs.Raised.{takenTo}
 
 -- The lane with its heard entries raised.
@@ -23,9 +23,6 @@ module _ (s t : List ℕ) (b : ℕ) (at : AtLane s b) (m : Message) (first : Lan
   abbrev on : Lane
   on = laneAt (lineOf s) b
 
-  pub taken-on : AtLane t b
-  taken-on = onward-lane (lane-onward at (takenTo (m .time) on) first) at
-
   module _ (u : List ℕ) (second : LaneNow t b (heardBy (lineOf t) b (m .origin)) u) where
     abbrev then : Lane
     then = laneAt (lineOf t) b
@@ -33,17 +30,17 @@ module _ (s t : List ℕ) (b : ℕ) (at : AtLane s b) (m : Message) (first : Lan
     pub heard-on : 0 < length (on .queue) → AtLane u b × (0 < length (laneAt (lineOf u) b .queue))
     heard-on some =
         let same : laneAt (lineOf u) b .queue ≡ on .queue =
-        ap (λ (x : Lane). x .queue) (lane-after taken-on (heardBy (lineOf t) b (m .origin) then) second) ∙ ap (λ (x : Lane). x .queue) (lane-after at (takenTo (m .time) on) first) in
-        (onward-lane (lane-onward taken-on (heardBy (lineOf t) b (m .origin) then) second) taken-on, rw same some)
+        ap (λ (x : Lane). x .queue) (lane-after (first .on) (heardBy (lineOf t) b (m .origin) then) (second .holds)) ∙ ap (λ (x : Lane). x .queue) (lane-after at (takenTo (m .time) on) (first .holds)) in
+        (second .on, rw same some)
 
     plan-kept : lineOf t .plan ≡ lineOf s .plan
-    plan-kept = ap (λ (l : Line). l .plan) (first .same) ∙ plan-same b (takenTo (m .time) on) (lineOf s)
+    plan-kept = ap (λ (l : Line). l .plan) (first .holds .same) ∙ plan-same b (takenTo (m .time) on) (lineOf s)
 
     pub taken-whole : (v : List ℕ) → LaneNow u b firstGone v → (rest : List Message) → on .queue ≡ m ∷ rest → Holds v (takenLane b m rest (lineOf s))
     unfolding takenLane
     taken-whole v third rest e =
-        let two = lane-then (takenTo (m .time)) (heardBy (lineOf t) b (m .origin)) at first second in
-        let three = lane-then (λ (x : Lane). heardBy (lineOf t) b (m .origin) (takenTo (m .time) x)) firstGone at two third in
+        let two = lane-then at first second in
+        let three = lane-then at two third in
         let is : firstGone (heardBy (lineOf t) b (m .origin) (takenTo (m .time) on)) ≡ takenFrom (parents (lineOf s .plan) (senderOf (lineOf s) b)) m rest on =
         λ i. record {
           mark = on .mark;
@@ -51,4 +48,4 @@ module _ (s t : List ℕ) (b : ℕ) (at : AtLane s b) (m : Message) (first : Lan
           heard = raiseHeard (parents (plan-kept i) (channelAt (plan-kept i) b .sender)) (on .heard) (m .origin);
           queue = ap (drop 1) e i;
         } in
-        subst (λ (x : Lane). Holds v (withLane b x (lineOf s))) is three
+        subst (λ (x : Lane). Holds v (withLane b x (lineOf s))) is (three .holds)

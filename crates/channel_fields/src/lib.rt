@@ -3,7 +3,7 @@ ghost use mathlib.Core.Path.{_≡_};
 ghost use mathlib.Core.List.{List, [], _∷_};
 ghost use Prim.Native.Nat.{_≤_, _<_};
 ghost use lib.ListN.{length, getD};
-ghost use Rattle.plan.specs.Plan.{planOf, entering};
+ghost use Rattle.plan.specs.Plan.{planOf, planChannels, entering};
 ghost use Rattle.items.specs.Items.{placeFrom};
 ghost use Rattle.buffer.specs.Ready.{Ready};
 ghost use Rattle.buffer.specs.Look.{numberOr};
@@ -26,14 +26,14 @@ use slots::Sent;
 // ---- read
 
 pub fn mark_of(s: &[u8], b: usize) -> u32
-    requires { ⌜ AtLane (now s) b ⌝ }
+    requires { ⌜ Ready (now s) × (b < planChannels (now s)) ⌝ }
     ensures { λ r. ⌜ r ≡ laneAt (lineOf (now (s .entry))) b .mark ⌝ }
 {
     bytes::get32(s, layout::BLOCKS + layout::BLOCK * b)
 }
 
 pub fn taken_of(s: &[u8], b: usize) -> u32
-    requires { ⌜ AtLane (now s) b ⌝ }
+    requires { ⌜ Ready (now s) × (b < planChannels (now s)) ⌝ }
     ensures { λ r. ⌜ r ≡ laneAt (lineOf (now (s .entry))) b .taken ⌝ }
 {
     bytes::get32(s, layout::BLOCKS + layout::BLOCK * b + layout::TAKEN)
@@ -41,7 +41,7 @@ pub fn taken_of(s: &[u8], b: usize) -> u32
 
 // The entry heard at a place among the sender's parents.
 pub fn heard_of(s: &[u8], b: usize, place: usize) -> u32
-    requires { ⌜ AtLane (now s) b × (place < length (laneAt (lineOf (now s)) b .heard)) ⌝ }
+    requires { ⌜ Ready (now s) × (b < planChannels (now s)) × (place < length (laneAt (lineOf (now s)) b .heard)) ⌝ }
     ensures { λ r. ⌜ r ≡ getD (laneAt (lineOf (now (s .entry))) b .heard) place 0 ⌝ }
 {
     bytes::get32(

@@ -23,7 +23,7 @@ use Rattle.state.proofs.Written.{node-status, node-crashed, node-time, node-log
 use Rattle.state.proofs.OffsetLaws.{line-log-at, line-held-at, line-target-at}
 use Rattle.buffer.specs.Holds.{Holds, AtNode, NodeNow}
 use Rattle.buffer.proofs.ReadyLaws.{counted}
-use Rattle.buffer.proofs.HoldsLaws.{node-fits, node-over, node-holds, node-put, node-log-counted, node-held-counted, node-targets-counted}
+use Rattle.buffer.proofs.HoldsLaws.{node-fits, node-over, node-holds, node-put, node-now, node-log-counted, node-held-counted, node-targets-counted}
 
 more-fit : {A : Type 0} (Fits : A → Type 0) (limit : ℕ) (xs : List A) (y : A) → UpToFit limit Fits xs → length xs < limit → Fits y → UpToFit limit Fits (xs ++ y ∷ [])
 more-fit Fits limit xs y h k f = (rw length-append (omega arith), each-append Fits xs (y ∷ []) (h .1) (f, tt))
@@ -60,17 +60,17 @@ module _ {s : List ℕ} {n : ℕ} (at : AtNode s n) where
   pub status-written : {t : List ℕ} (v : Status) → t ≡ put s (pageAt n) (bytesOf 1 (statusNumber v)) → NodeNow s n (withStatus v) t
   status-written v e =
       let f = node-fits at in
-      node-put at (withStatus v x) (record { time = f .time; log = f .log; held = f .held; targets = f .targets }) (node-status x v) (counts-long 1 (statusNumber (x .status)) (statusNumber v)) (pageAt n) (omega arith) e
+      node-now (withStatus v) at (node-put at (withStatus v x) (record { time = f .time; log = f .log; held = f .held; targets = f .targets }) (node-status x v) (counts-long 1 (statusNumber (x .status)) (statusNumber v)) (pageAt n) (omega arith) e)
 
   pub crash-written : {t : List ℕ} (v : Bool) → t ≡ put s (pageAt n + crashedAt) (bytesOf 1 (crashNumber v)) → NodeNow s n (withCrashed v) t
   crash-written v e =
       let f = node-fits at in
-      node-put at (withCrashed v x) (record { time = f .time; log = f .log; held = f .held; targets = f .targets }) (node-crashed x v) (counts-long 1 (crashNumber (x .crashed)) (crashNumber v)) (pageAt n + crashedAt) refl e
+      node-now (withCrashed v) at (node-put at (withCrashed v x) (record { time = f .time; log = f .log; held = f .held; targets = f .targets }) (node-crashed x v) (counts-long 1 (crashNumber (x .crashed)) (crashNumber v)) (pageAt n + crashedAt) refl e)
 
   pub time-written : {t : List ℕ} (v : ℕ) → TimeFits v → t ≡ put s (pageAt n + timeAt) (bytesOf 4 v) → NodeNow s n (withTime v) t
   time-written v h e =
       let f = node-fits at in
-      node-put at (withTime v x) (record { time = h; log = f .log; held = f .held; targets = f .targets }) (node-time x v) (counts-long 4 (x .time) v) (pageAt n + timeAt) refl e
+      node-now (withTime v) at (node-put at (withTime v x) (record { time = h; log = f .log; held = f .held; targets = f .targets }) (node-time x v) (counts-long 4 (x .time) v) (pageAt n + timeAt) refl e)
 
   -- ---- lists emptied
 
@@ -94,45 +94,45 @@ module _ {s : List ℕ} {n : ℕ} (at : AtNode s n) where
 
   pub log-cleared : {t : List ℕ} (to : ℕ) → to ≡ pageAt n + logAt + countSize + entrySize * length (x .log) → t ≡ take (pageAt n + logAt) s ++ replicate (to - (pageAt n + logAt)) 0 ++ drop to s → NodeNow s n (withLog []) t
   unfolding logLayout entryLayout
-  log-cleared to q e = node-holds at (withLog [] x) (fits-log [] (omega arith, tt)) (e ∙ sym (cleared-put entry-sound countSize logLimit (x .log) (log-over []) (node-fits at .log .0) to q))
+  log-cleared to q e = node-now (withLog []) at (node-holds at (withLog [] x) (fits-log [] (omega arith, tt)) (e ∙ sym (cleared-put entry-sound countSize logLimit (x .log) (log-over []) (node-fits at .log .0) to q)))
 
   pub held-cleared : {t : List ℕ} (to : ℕ) → to ≡ pageAt n + heldAt + countSize + heldSize * length (x .held) → t ≡ take (pageAt n + heldAt) s ++ replicate (to - (pageAt n + heldAt)) 0 ++ drop to s → NodeNow s n (withHeld []) t
   unfolding heldListLayout heldLayout
-  held-cleared to q e = node-holds at (withHeld [] x) (fits-held [] (omega arith, tt)) (e ∙ sym (cleared-put held-sound countSize heldLimit (x .held) (held-over []) (node-fits at .held .0) to q))
+  held-cleared to q e = node-now (withHeld []) at (node-holds at (withHeld [] x) (fits-held [] (omega arith, tt)) (e ∙ sym (cleared-put held-sound countSize heldLimit (x .held) (held-over []) (node-fits at .held .0) to q)))
 
   pub targets-cleared : {t : List ℕ} (to : ℕ) → to ≡ pageAt n + targetsAt + countSize + targetSize * length (x .targets) → t ≡ take (pageAt n + targetsAt) s ++ replicate (to - (pageAt n + targetsAt)) 0 ++ drop to s → NodeNow s n (withTargets []) t
   unfolding targetsLayout targetLayout
-  targets-cleared to q e = node-holds at (withTargets [] x) (fits-targets [] (omega arith, tt)) (e ∙ sym (cleared-put target-sound countSize targetLimit (x .targets) (targets-over []) (node-fits at .targets .0) to q))
+  targets-cleared to q e = node-now (withTargets []) at (node-holds at (withTargets [] x) (fits-targets [] (omega arith, tt)) (e ∙ sym (cleared-put target-sound countSize targetLimit (x .targets) (targets-over []) (node-fits at .targets .0) to q)))
 
   -- ---- one thing more in a list: its count is written, then its slot
 
   module _ {A : Type 0} {l : Layout A} {Fits : A → Type 0} (inner : Sound l Fits) (limit o : ℕ) (xs : List A) (e : A) (few : length xs < limit) where
-    more : (y : Node) → NodeFits y → Swapped (pageAt n + o) (upToSlots countSize limit l .write xs) (upToSlots countSize limit l .write (xs ++ e ∷ [])) s (lineBytes (withNode n y (lineOf s)))
-        → {t u : List ℕ} (j k : ℕ) → j ≡ length xs → k ≡ j → u ≡ put s (pageAt n + o) (bytesOf 4 (j + 1)) → t ≡ put u (pageAt n + o + countSize + l .size * k) (l .write e) → Holds t (withNode n y (lineOf s))
-    more y f w j k q r first second =
+    more : (f : Node → Node) → NodeFits (f x) → Swapped (pageAt n + o) (upToSlots countSize limit l .write xs) (upToSlots countSize limit l .write (xs ++ e ∷ [])) s (lineBytes (withNode n (f x) (lineOf s)))
+        → {t u : List ℕ} (j k : ℕ) → j ≡ length xs → k ≡ j → u ≡ put s (pageAt n + o) (bytesOf 4 (j + 1)) → t ≡ put u (pageAt n + o + countSize + l .size * k) (l .write e) → NodeNow s n f t
+    more f fits w j k q r first second =
         let counted : put s (pageAt n + o) (bytesOf 4 (j + 1)) ≡ put s (pageAt n + o) (bytesOf 4 (length xs + 1)) = ap (λ (m : ℕ). put s (pageAt n + o) (bytesOf 4 (m + 1))) q in
         let place : pageAt n + o + countSize + l .size * k ≡ pageAt n + o + countSize + l .size * length xs = ap (λ (m : ℕ). pageAt n + o + countSize + l .size * m) (r ∙ q) in
-        node-holds at y f
+        node-now f at (node-holds at (f x) fits
         (second ∙ ap (λ (b : List ℕ). put b (pageAt n + o + countSize + l .size * k) (l .write e)) (first ∙ counted)
-        ∙ sym (more-put inner countSize limit xs e w few (pageAt n + o + countSize + l .size * k) place))
+        ∙ sym (more-put inner countSize limit xs e w few (pageAt n + o + countSize + l .size * k) place)))
 
   pub entry-more : {t u : List ℕ} (e : Entry) → EntryFits e → length (x .log) < logLimit → (j k : ℕ) → j ≡ length (x .log) → k ≡ j
       → u ≡ put s (pageAt n + logAt) (bytesOf 4 (j + 1)) → t ≡ put u (pageAt n + logAt + countSize + entrySize * k) (entryLayout .write e) → NodeNow s n (moreLogged e) t
   unfolding logLayout entryLayout
   entry-more e f h =
       let es = x .log ++ e ∷ [] in
-      more entry-sound logLimit logAt (x .log) e h (withLog es x) (fits-log es (more-fit EntryFits logLimit (x .log) e (node-fits at .log) h f)) (log-over es)
+      more entry-sound logLimit logAt (x .log) e h (moreLogged e) (fits-log es (more-fit EntryFits logLimit (x .log) e (node-fits at .log) h f)) (log-over es)
 
   pub held-more : {t u : List ℕ} (e : Held) → HeldFits e → length (x .held) < heldLimit → (j k : ℕ) → j ≡ length (x .held) → k ≡ j
       → u ≡ put s (pageAt n + heldAt) (bytesOf 4 (j + 1)) → t ≡ put u (pageAt n + heldAt + countSize + heldSize * k) (heldLayout .write e) → NodeNow s n (moreHeld e) t
   unfolding heldListLayout heldLayout
   held-more e f h =
       let hs = x .held ++ e ∷ [] in
-      more held-sound heldLimit heldAt (x .held) e h (withHeld hs x) (fits-held hs (more-fit HeldFits heldLimit (x .held) e (node-fits at .held) h f)) (held-over hs)
+      more held-sound heldLimit heldAt (x .held) e h (moreHeld e) (fits-held hs (more-fit HeldFits heldLimit (x .held) e (node-fits at .held) h f)) (held-over hs)
 
   pub target-more : {t u : List ℕ} (e : Target) → TargetFits e → length (x .targets) < targetLimit → (j k : ℕ) → j ≡ length (x .targets) → k ≡ j
       → u ≡ put s (pageAt n + targetsAt) (bytesOf 4 (j + 1)) → t ≡ put u (pageAt n + targetsAt + countSize + targetSize * k) (targetLayout .write e) → NodeNow s n (moreTargets e) t
   unfolding targetsLayout targetLayout
   target-more e f h =
       let ts = x .targets ++ e ∷ [] in
-      more target-sound targetLimit targetsAt (x .targets) e h (withTargets ts x) (fits-targets ts (more-fit TargetFits targetLimit (x .targets) e (node-fits at .targets) h f)) (targets-over ts)
+      more target-sound targetLimit targetsAt (x .targets) e h (moreTargets e) (fits-targets ts (more-fit TargetFits targetLimit (x .targets) e (node-fits at .targets) h f)) (targets-over ts)

@@ -4,9 +4,11 @@ ghost use mathlib.Core.Bool.{true};
 ghost use mathlib.Core.List.{[]};
 ghost use Prim.Native.Nat.{_≤_, _<_};
 ghost use lib.ListN.{length, getD};
+ghost use Rattle.plan.specs.Plan.{planNodes};
 ghost use Rattle.rules.specs.Line.{logLimit, heldLimit, targetLimit, nodeAt};
 ghost use Rattle.state.specs.Node.{statusOf};
 ghost use Rattle.state.specs.State.{lineOf};
+ghost use Rattle.buffer.specs.Ready.{Ready};
 ghost use Rattle.buffer.specs.Holds.{AtNode, NodeNow};
 ghost use Rattle.state.specs.Changes.{withStatus, withCrashed, withTime, withLog, withHeld, withTargets, moreLogged, moreHeld, moreTargets};
 ghost use Rattle.slots.specs.Slots.{entryIs, heldIs, targetIs};
@@ -20,7 +22,7 @@ use slots::Waiting;
 // ---- read
 
 pub fn time_of(s: &[u8], n: usize) -> u32
-    requires { ⌜ AtNode (now s) n ⌝ }
+    requires { ⌜ Ready (now s) × (n < planNodes (now s)) ⌝ }
     ensures { λ r. ⌜ r ≡ nodeAt (lineOf (now (s .entry))) n .time ⌝ }
 {
     bytes::get32(s, layout::PAGE * (1 + n) + layout::TIME)

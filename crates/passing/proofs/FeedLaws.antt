@@ -56,4 +56,4 @@ module _ (s : List ℕ) (n : ℕ) (r : List ℕ) (held : Holds s (lineOf s)) whe
             accepted s t (feed n r) (withNode n (logged (madeBy l n (recordLayout .read r)) fed fed (nodeAt l n)) l)
             (feed-number l n r ∙ rw (lt-leb (nodeCount (l .plan)) n (rw (← holds-nodes held) inside), line-plan s, source, fits, lt-leb logLimit (length (nodeAt l n .log)) h))
             (feed-effect l n r)
-            now
+            (now .holds)

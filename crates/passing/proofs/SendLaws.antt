@@ -53,4 +53,4 @@ module _ (s : List ℕ) (b : ℕ) (held : Holds s (lineOf s)) where
             accepted s t (send b) (withLane b (sentOn e (laneAt l b)) l)
             (send-number l b ∙ rw (lt-leb (channelCount (l .plan)) b (rw (← holds-channels held) below), standing, ← next, lt-leb queueLimit (length (laneAt l b .queue)) h))
             (send-effect l b e (sym next))
-            now
+            (now .holds)

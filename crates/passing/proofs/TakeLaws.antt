@@ -62,7 +62,7 @@ module _ (s t : List ℕ) (b : ℕ) (m : Message) (rest : List Message) (h : Hol
   taken-up u c n what on to is now =
       let k = takenLane b m rest (lineOf s) in
       let along : c ≡ channelAt (k .plan) b = on ∙ ap (λ (p : Plan). channelAt p b) (sym (taken-plan b m rest (lineOf s) ∙ line-plan s)) in
-      rw (is, h .same, to, along, add-one) at now
+      rw (is, h .same, to, along, add-one) at (now .holds)
 
 take-effect : (l : Line) (b : ℕ) (m : Message) (rest : List Message) → laneAt l b .queue ≡ m ∷ rest → replaying l (receiverOf l b) ≡ false → effect l (take b) ≡ some (takenUp b m (takenLane b m rest l))
 unfolding effect

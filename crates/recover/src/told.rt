@@ -11,7 +11,6 @@ ghost use Rattle.buffer.specs.Ready.{Ready, OnChannel};
 ghost use Rattle.recover.specs.Found.{LogsCounted, lowWith, entryAt, tripleOf, tripleList, triplesOn, slotsLong, Kept, Found, Told, rowsLong, Rows};
 use crate::ENTRIES;
 use crate::LOG;
-use crate::TAKEN;
 use crate::Triple;
 use crate::goals;
 use crate::rows;
@@ -19,14 +18,6 @@ use buffer::bytes;
 use buffer::layout;
 use buffer::look;
 use slots::Goal;
-
-// A channel's receiver's clock entry for its sender.
-fn taken_on(s: &[u8], b: usize) -> u32
-    requires { ⌜ Ready (now s) × (b < planChannels (now s)) ⌝ }
-    ensures { λ r. ⌜ r ≡ laneAt (lineOf (now (s .entry))) b .taken ⌝ }
-{
-    bytes::get32(s, TAKEN + layout::BLOCK * b)
-}
 
 fn low_with(counts: bool, seen: bool, low: u32, t: u32) -> u32
     ensures { λ r. ⌜ r ≡ lowWith counts seen low t ⌝ }
@@ -63,7 +54,7 @@ pub fn low_of(s: &[u8], n: usize) -> u32
     let mut b: usize = 0;
     while b < m {
         let leaves = look::sender_of(s, b) == n;
-        low = low_with(leaves, seen, low, taken_on(s, b));
+        low = low_with(leaves, seen, low, channel_fields::taken_of(s, b));
         seen = seen | leaves;
         b += 1;
     }
@@ -80,7 +71,7 @@ pub fn high_of(s: &[u8], n: usize) -> u32
     let mut b: usize = 0;
     while b < m {
         let leaves = look::sender_of(s, b) == n;
-        high = high_with(leaves, high, taken_on(s, b));
+        high = high_with(leaves, high, channel_fields::taken_of(s, b));
         b += 1;
     }
     high

@@ -8,7 +8,7 @@ use native.Mathlib.Omega.{arith}
 use lib.Dec.{leb, eqb}
 use borrow.Author.Tests.{eqb-true, leb-false}
 use lib.ListN.{length, getD, drop, length-append}
-use Rattle.plan.specs.Plan.{Plan, planOf, planChannels, nodeCount, channelCount, channelAt, entering}
+use Rattle.plan.specs.Plan.{Plan, planOf, planNodes, planChannels, nodeCount, channelCount, channelAt, entering}
 use Rattle.plan.proofs.FitsLaws.{fitting}
 use Rattle.rules.specs.Line.{logLimit, heldLimit, Message, Held, Status, Line, nodeAt, laneAt, receiverOf, parents, withNode}
 use Rattle.rules.specs.Frame.{take}
@@ -25,11 +25,13 @@ use Rattle.rules.proofs.undamaged.TestLaws.{is-replay, unless}
 use Rattle.state.specs.State.{lineOf}
 use Rattle.state.proofs.InPlace.{line-plan}
 use Rattle.buffer.specs.Nothing.{noHeld, noMessage}
-use Rattle.buffer.specs.Holds.{Holds, Undamaged, Did}
+use Rattle.buffer.specs.Ready.{Ready}
+use Rattle.buffer.specs.Holds.{Holds, AtNode, Undamaged, Did}
 use Rattle.buffer.proofs.HoldsLaws.{holds-channels}
 use Rattle.passing.proofs.RefusalLaws.{refused, accepted}
+use Rattle.recover.specs.Found.{Rows}
 use Rattle.replay_table.specs.Ends.{heldWith, loggedFrom, Ends}
-use Rattle.replay.specs.After.{rowsAfter, wouldHold, First, takenNow, heldMore, endedNode, Loggable}
+use Rattle.replay.specs.After.{rowsAfter, wouldHold, takenNow, heldMore, endedNode, Loggable, Seen}
 use Rattle.replay.proofs.TakeLaws.{inside, as-in, goes-on, comes-up, ended-is, number-is}
 
 -- ---- what an undamaged line says of a replaying node
@@ -59,40 +61,32 @@ module _ (l : Line) (sound : Sound l) (n : ℕ) (within : n < nodeCount (l .plan
 pub to-line : (s : List ℕ) (b n : ℕ) → n ≡ channelAt (planOf s) b .receiver → n ≡ receiverOf (lineOf s) b
 to-line s b n e = e ∙ ap (λ (p : Plan). channelAt p b .receiver) (sym (line-plan s))
 
--- What is known once the channel's first message has been looked at: the receiver n, its first message m, the record h as it would be held, and whether it goes on.
-pub record Seen (s : List ℕ) (b n : ℕ) (m : Message) (h : Held) (goes : Bool) : Type 0 where
-  pub undamaged : Undamaged s
-  pub below : b < planChannels s
-  pub alive : endDown (lineOf s) b ≡ false
-  pub again : replaying (lineOf s) (receiverOf (lineOf s) b) ≡ true
-  pub first : First (lineOf s) b m
-  pub to : n ≡ receiverOf (lineOf s) b
-  pub is : h ≡ wouldHold (lineOf s) b m
-  pub on : goes ≡ passedOn (lineOf s .plan) n (h .what)
-
 first-of : (q : List Message) (m : Message) → 0 < length q → m ≡ getD q 0 noMessage → q ≡ m ∷ drop 1 q
 first-of [] m h e = let no : ⊥ = omega arith in absurd no
 first-of (x ∷ q) m h e = ap (λ (y : Message). y ∷ q) (sym e)
 
-pub seen : (s : List ℕ) (b n : ℕ) (m : Message) (h : Held) (goes : Bool) → Undamaged s → b < planChannels s → endDown (lineOf s) b ≡ false → 0 < length (laneAt (lineOf s) b .queue)
-    → replaying (lineOf s) (receiverOf (lineOf s) b) ≡ true → n ≡ channelAt (planOf s) b .receiver → m ≡ getD (laneAt (lineOf s) b .queue) 0 noMessage → h ≡ wouldHold (lineOf s) b m → goes ≡ passedOn (lineOf s .plan) n (h .what)
-    → Seen s b n m h goes
-seen s b n m h goes u below alive waiting again to first is on = record {
-  undamaged = u;
-  below = below;
-  alive = alive;
-  again = again;
-  first = first-of (laneAt (lineOf s) b .queue) m waiting first;
-  to = to-line s b n to;
+-- From what the Take requires and what the code finds.
+pub seen : (s : List ℕ) (b n : ℕ) (m : Message) (h : Held) (goes : Bool)
+    → Undamaged s × (b < planChannels s) × (endDown (lineOf s) b ≡ false) × (0 < length (laneAt (lineOf s) b .queue)) × (replaying (lineOf s) (receiverOf (lineOf s) b) ≡ true)
+    → (n ≡ channelAt (planOf s) b .receiver) × (n < planNodes s) → m ≡ getD (laneAt (lineOf s) b .queue) 0 noMessage → h ≡ wouldHold (lineOf s) b m → goes ≡ passedOn (lineOf s .plan) n (h .what) → Seen s b n m h goes
+seen s b n m h goes asked to first is on = record {
+  undamaged = asked .0;
+  below = asked .1;
+  alive = asked .2;
+  again = asked .4;
+  first = first-of (laneAt (lineOf s) b .queue) m (asked .3) first;
+  inside = to .1;
+  to = to-line s b n (to .0);
   is = is;
   on = on;
 }
 
--- Whether the row of the channel is complete, by its goal and its entry.
-pub row-found : (s : List ℕ) (b n from goal taken : ℕ) → from ≡ channelAt (planOf s) b .sender → goal ≡ rowGoal (nodeAt (lineOf s) n .targets) from → taken ≡ laneAt (lineOf s) b .taken → leb goal taken ≡ rowComplete (lineOf s) n b
+-- Whether the row of the channel is complete, by all goals and its entry.
+pub row-found : (s : List ℕ) (b n from : ℕ) (goals : List ℕ) (taken : ℕ) → Ready s → (from ≡ channelAt (planOf s) b .sender) × (from < planNodes s) → Rows goals (rowGoal (nodeAt (lineOf s) n .targets)) → taken ≡ laneAt (lineOf s) b .taken
+    → leb (getD goals from 0) taken ≡ rowComplete (lineOf s) n b
 unfolding rowComplete
-row-found s b n from goal taken f g t =
-    ap₂ leb (g ∙ ap (rowGoal (nodeAt (lineOf s) n .targets)) (f ∙ ap (λ (p : Plan). channelAt p b .sender) (sym (line-plan s)))) t
+row-found s b n from goals taken ready f g t =
+    ap₂ leb (g .each from (omega (arith, f .1, ready .nodes)) ∙ ap (rowGoal (nodeAt (lineOf s) n .targets)) (f .0 ∙ ap (λ (p : Plan). channelAt p b .sender) (sym (line-plan s)))) t
 
 module _ {s : List ℕ} {b n : ℕ} {m : Message} {h : Held} {goes : Bool} (v : Seen s b n m h goes) where
   abbrev u : Undamaged s
@@ -109,6 +103,9 @@ module _ {s : List ℕ} {b n : ℕ} {m : Message} {h : Held} {goes : Bool} (v : 
 
   abbrev goesOn : Bool
   goesOn = passedOn (lineOf s .plan) (receiverOf (lineOf s) b) (wouldHold (lineOf s) b m .what)
+
+  pub at-node : AtNode s n
+  at-node = record { holds = u .holds; inside = v .inside }
 
   same-goes : goes ≡ goesOn
   same-goes = v .on ∙ ap₂ (λ (j : ℕ) (g : Held). passedOn (l .plan) j (g .what)) (v .to) (v .is)

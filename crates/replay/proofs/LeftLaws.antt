@@ -34,14 +34,14 @@ module _ {s t : List ℕ} (at : Holds s (lineOf s)) (b : ℕ) (m : Message) (now
 
   -- One more is held then, or none.
   pub held-now : (n : ℕ) (goes : Bool) (h : Held) {u : List ℕ} → goes ≡ true → NodeNow t n (moreHeld h) u → Holds u (heldMore n goes h (takenNow (lineOf s) b m))
-  held-now n goes h {u} e more = subst (λ (g : Bool). Holds u (heldMore n g h (takenNow (lineOf s) b m))) (sym e) (subst (λ (l : Line). Holds u (withNode n (moreHeld h (nodeAt l n)) l)) (now .same) more)
+  held-now n goes h {u} e more = subst (λ (g : Bool). Holds u (heldMore n g h (takenNow (lineOf s) b m))) (sym e) (subst (λ (l : Line). Holds u (withNode n (moreHeld h (nodeAt l n)) l)) (now .same) (more .holds))
 
   pub dropped-now : (n : ℕ) (goes : Bool) (h : Held) → goes ≡ false → Holds t (heldMore n goes h (takenNow (lineOf s) b m))
   dropped-now n goes h e = subst (λ (g : Bool). Holds t (heldMore n g h (takenNow (lineOf s) b m))) (sym e) now
 
   -- The node changed then.
   pub node-now : (n : ℕ) (f : Node → Node) {u : List ℕ} → NodeNow t n f u → Holds u (withNode n (f (nodeAt (lineOf s) n)) (takenNow (lineOf s) b m))
-  node-now n f {u} more = subst (Holds u) (ap (λ (x : Node). withNode n (f x) (lineOf t)) (taken-node n) ∙ ap (withNode n (f (nodeAt (lineOf s) n))) (now .same)) more
+  node-now n f {u} more = subst (Holds u) (ap (λ (x : Node). withNode n (f x) (lineOf t)) (taken-node n) ∙ ap (withNode n (f (nodeAt (lineOf s) n))) (now .same)) (more .holds)
 
 -- ---- the log, entry by entry
 
@@ -64,15 +64,12 @@ module _ (s₀ : List ℕ) (n : ℕ) (last : Held) (out : List ℕ) (count : ℕ
   pub logged-start : LoggedTo s₀ n last out count s₀ 0
   logged-start = record {
     within = omega arith;
-    now = subst (Holds s₀) (sym (ap (λ (es : List Entry). withNode n (withLog es x) (lineOf s₀)) (sym (ok .empty)) ∙ node-same n (lineOf s₀))) (at .holds);
+    now = record { holds = subst (Holds s₀) (sym (ap (λ (es : List Entry). withNode n (withLog es x) (lineOf s₀)) (sym (ok .empty)) ∙ node-same n (lineOf s₀))) (at .holds); on = at };
   }
 
   module _ (s : List ℕ) (j : ℕ) (so-far : LoggedTo s₀ n last out count s j) where
-    pub logged-at : AtNode s n
-    logged-at = onward-node (node-onward at (withLog (loggedFrom hs out j) x) (so-far .now)) at
-
     there : nodeAt (lineOf s) n ≡ withLog (loggedFrom hs out j) x
-    there = node-after at (withLog (loggedFrom hs out j) x) (so-far .now)
+    there = node-after at (withLog (loggedFrom hs out j) x) (so-far .now .holds)
 
     pub logged-held : nodeAt (lineOf s) n .held ≡ nodeAt (lineOf s₀) n .held
     logged-held = ap (λ (y : Node). y .held) there
@@ -92,15 +89,11 @@ module _ (s₀ : List ℕ) (n : ℕ) (last : Held) (out : List ℕ) (count : ℕ
         let right : e ≡ entryFrom hs out j = q ∙ ap (λ (ys : List Held). entryAt (getD out (logLimit + j) 0) (getD (ys ++ last ∷ []) (getD out j 0) noHeld)) logged-held in
         record {
           within = omega arith;
-          now = subst (λ (es : List Entry). Holds t (withNode n (withLog es x) (lineOf s₀))) (ap (λ (d : Entry). loggedFrom hs out j ++ d ∷ []) right ∙ ap (loggedFrom hs out) (sym (add-one j)))
-              (node-then (withLog (loggedFrom hs out j)) (moreLogged e) at (so-far .now) more);
+          now = subst (λ (es : List Entry). NodeNow s₀ n (withLog es) t) (ap (λ (d : Entry). loggedFrom hs out j ++ d ∷ []) right ∙ ap (loggedFrom hs out) (sym (add-one j)))
+              (node-then at (so-far .now) more);
         }
 
 -- ---- the end
-
--- What a changed node's state is there.
-pub on : {s t : List ℕ} {n : ℕ} (f : Node → Node) → AtNode s n → NodeNow s n f t → AtNode t n
-on {s} {n = n} f at now = onward-node (node-onward at (f (nodeAt (lineOf s) n)) now) at
 
 pub loggable-same : (l k : Line) (n : ℕ) (last : Held) (out : List ℕ) (count : ℕ) → nodeAt k n ≡ nodeAt l n → Loggable l n last out count → Loggable k n last out count
 loggable-same l k n last out count e ok = record {
@@ -121,10 +114,7 @@ module _ {s t : List ℕ} {n : ℕ} (at : AtNode s n) (b : ℕ) (m : Message) (n
       → Holds y (withNode n (endedNode (lineOf s) n (loggedFrom (nodeAt (lineOf s) n .held ++ last ∷ []) out count)) (takenNow (lineOf s) b m))
   end-now last out count high {u} {v} {w} {x} {y} logged held targets timed status e =
       let log : Node → Node = withLog (loggedFrom (nodeAt (lineOf t) n .held ++ last ∷ []) out count) in
-      let all : NodeNow t n (λ (z : Node). withStatus up (withTime high (withTargets [] (withHeld [] (log z))))) y =
-      node-then {s = t} {t = x} {u = y} (λ (z : Node). withTime high (withTargets [] (withHeld [] (log z)))) (withStatus up) at-taken
-      (node-then {s = t} {t = w} {u = x} (λ (z : Node). withTargets [] (withHeld [] (log z))) (withTime high) at-taken
-      (node-then {s = t} {t = v} {u = w} (λ (z : Node). withHeld [] (log z)) (withTargets []) at-taken (node-then {s = t} {t = u} {u = v} log (withHeld []) at-taken logged held) targets) timed) status in
+      let all = node-then at-taken (node-then at-taken (node-then at-taken (node-then at-taken logged held) targets) timed) status in
       subst (Holds y)
       (λ i. withNode n (record {
         status = up;

@@ -1,4 +1,4 @@
--- A row's goal, and the rows of a node, one by one.
+-- The goals of all rows, target by target, and the rows of a node, one by one.
 use Prim.Native.Nat.{ℕ, suc, _+_, _-_, _≤_, _<_, max}
 use mathlib.Core.Path.{_≡_, refl, sym, ap, ap₂, _∙_}
 use mathlib.Core.Logic.{_≢_}
@@ -18,27 +18,40 @@ use Rattle.rules.specs.Recover.{rowGoal}
 use Rattle.state.specs.State.{lineOf}
 use Rattle.state.proofs.InPlace.{line-plan}
 use Rattle.buffer.specs.Nothing.{noTarget}
+use Rattle.recover.specs.Found.{Rows, raisedAt}
 use Rattle.buffer.proofs.LookLaws.{numbersOn, numbers-turn, numbers-end}
 use Rattle.replay.specs.After.{takenAfter, rowAfter}
 
 -- One target in front of others.
-goal-cons : (t : Target) (ts : List Target) (parent : ℕ) → rowGoal (t ∷ ts) parent ≡ cond (eqb (t .parent) parent) (max (t .parentTime) (rowGoal ts parent)) (rowGoal ts parent)
+goal-cons : (t : Target) (ts : List Target) (parent : ℕ) → rowGoal (t ∷ ts) parent ≡ cond (eqb (t .parent) parent) (max (rowGoal ts parent) (t .parentTime)) (rowGoal ts parent)
 goal-cons t ts parent = one (eqb (t .parent) parent)
   where
     one : (b : Bool)
         → greatestOf (map (λ (u : Target). u .parentTime) (keepOne b t (keep (λ (u : Target). eqb (u .parent) parent) ts)))
-        ≡ cond b (max (t .parentTime) (rowGoal ts parent)) (rowGoal ts parent)
-    one true = refl
+        ≡ cond b (max (rowGoal ts parent) (t .parentTime)) (rowGoal ts parent)
+    one true = omega arith
     one false = refl
 
-pub goal-turn : (ts : List Target) (parent left : ℕ) → 0 < left → left ≤ length ts
-    → rowGoal (drop (left - 1) ts) parent
-    ≡ cond (eqb (getD ts (left - 1) noTarget .parent) parent) (max (getD ts (left - 1) noTarget .parentTime) (rowGoal (drop left ts) parent)) (rowGoal (drop left ts) parent)
-goal-turn ts parent left h l =
+-- The goals by the targets from `left` on.
+pub record GoalsFrom (ts : List Target) (goals : List ℕ) (left : ℕ) : Type 0 where
+  pub few : left ≤ length ts
+  pub now : Rows goals (rowGoal (drop left ts))
+
+pub goals-turn : (ts : List Target) (goals : List ℕ) (left : ℕ) (g : Target) (next : List ℕ) → 0 < left → g ≡ getD ts (left - 1) noTarget → Rows next (raisedAt goals (g .parent) (g .parentTime)) → GoalsFrom ts goals left
+    → GoalsFrom ts next (left - 1)
+goals-turn ts goals left g next h e raised k =
     let i : ℕ = left - 1 in
-    let next : suc i ≡ left = omega arith in
-    rw (drop-cons ts i noTarget (omega arith)) (goal-cons (getD ts i noTarget) (drop (suc i) ts) parent)
-    ∙ ap (λ (k : ℕ). cond (eqb (getD ts i noTarget .parent) parent) (max (getD ts i noTarget .parentTime) (rowGoal (drop k ts) parent)) (rowGoal (drop k ts) parent)) next
+    let after : suc i ≡ left = omega arith in
+    let behind : drop i ts ≡ g ∷ drop left ts = drop-cons ts i noTarget (omega (arith, k .few)) ∙ ap₂ (λ (t : Target) (j : ℕ). t ∷ drop j ts) (sym e) after in
+    record {
+      few = omega (arith, k .few);
+      now = record {
+        long = raised .long;
+        each = λ q l. raised .each q l
+            ∙ ap (λ (x : ℕ). cond (eqb (g .parent) q) (max x (g .parentTime)) x) (k .now .each q l)
+            ∙ sym (ap (λ (us : List Target). rowGoal us q) behind ∙ goal-cons g (drop left ts) q);
+      };
+    }
 
 -- ---- a test of every channel that enters a node
 

@@ -1,17 +1,20 @@
 -- A Take of a replaying node: its rows once the message is taken, the record as it would be held, and what is left.
 use Prim.Native.Nat.{ℕ, max, _≤_, _<_}
 use mathlib.Core.Path.{_≡_}
-use mathlib.Core.Bool.{Bool, true, false, cond}
+use mathlib.Core.Bool.{Bool, true, false, cond, _&&_}
 use mathlib.Core.List.{List, [], _∷_}
 use lib.Dec.{leb, eqb}
 use lib.ListN.{length, getD, drop}
-use Rattle.plan.specs.Plan.{entering}
+use Rattle.plan.specs.Plan.{planNodes, planChannels, entering}
 use Rattle.rules.specs.Lists.{allOf}
-use Rattle.rules.specs.Line.{logLimit, Message, Entry, Held, up, Node, Line, nodeAt, laneAt, senderOf, receiverOf, withNode}
-use Rattle.rules.specs.Recover.{rowGoal, highOf}
-use Rattle.rules.specs.Step.{madeBy, takenLane}
+use Rattle.rules.specs.Line.{logLimit, heldLimit, Message, Entry, Held, up, Node, Line, nodeAt, laneAt, senderOf, receiverOf, withNode}
+use Rattle.rules.specs.Recover.{rowGoal, rowComplete, highOf}
+use Rattle.rules.specs.Replay.{passedOn}
+use Rattle.rules.specs.Step.{endDown, replaying, madeBy, takenLane}
+use Rattle.state.specs.State.{lineOf}
 use Rattle.state.specs.Changes.{moreHeld}
 use Rattle.buffer.specs.Nothing.{noHeld}
+use Rattle.buffer.specs.Holds.{Undamaged}
 
 -- The entry on channel c once a message of a time is taken from channel b.
 abbrev pub takenAfter : Line → ℕ → ℕ → ℕ → ℕ
@@ -53,3 +56,21 @@ pub record Loggable (l : Line) (n : ℕ) (last : Held) (out : List ℕ) (count :
   pub numbers : (j : ℕ) → j < count → getD out j 0 ≤ length (nodeAt l n .held)
   pub senders : (i : ℕ) → i < length (nodeAt l n .held) → getD (nodeAt l n .held) i noHeld .sender < 255
   pub lastSender : last .sender < 255
+
+-- What is known once the channel's first message has been looked at: the receiver n, its first message m, the record h as it would be held, and whether it goes on.
+pub record Seen (s : List ℕ) (b n : ℕ) (m : Message) (h : Held) (goes : Bool) : Type 0 where
+  pub undamaged : Undamaged s
+  pub below : b < planChannels s
+  pub alive : endDown (lineOf s) b ≡ false
+  pub again : replaying (lineOf s) (receiverOf (lineOf s) b) ≡ true
+  pub first : First (lineOf s) b m
+  pub inside : n < planNodes s
+  pub to : n ≡ receiverOf (lineOf s) b
+  pub is : h ≡ wouldHold (lineOf s) b m
+  pub on : goes ≡ passedOn (lineOf s .plan) n (h .what)
+
+-- And that neither 20 nor 21 is the answer.
+pub record Open (s : List ℕ) (b n : ℕ) (m : Message) (h : Held) (goes : Bool) : Type 0 where
+  pub seen : Seen s b n m h goes
+  pub row : rowComplete (lineOf s) n b ≡ false
+  pub space : (goes && leb heldLimit (length (nodeAt (lineOf s) n .held))) ≡ false

@@ -1,13 +1,13 @@
 // A Take of a node that replays (document 01, "While B replays"): the record is held or dropped, and the replay ends with the last row.
 ghost use mathlib.Core.Path.{_≡_};
-ghost use mathlib.Core.Bool.{true, false, cond, not, _||_};
+ghost use mathlib.Core.Bool.{true, false, not, _||_};
 ghost use mathlib.Core.List.{[], _∷_, _++_};
-ghost use Prim.Native.Nat.{ℕ, _≤_, _<_, max};
+ghost use Prim.Native.Nat.{ℕ, _≤_, _<_};
 ghost use lib.Dec.{eqb};
 ghost use lib.ListN.{length, getD};
 ghost use Rattle.plan.specs.Plan.{planChannels};
 ghost use Rattle.rules.specs.Line.{heldLimit, nodeAt, laneAt, receiverOf, withNode};
-ghost use Rattle.rules.specs.Frame.{take};
+ghost use Rattle.rules.specs.Frame as frames;
 ghost use Rattle.rules.specs.Recover.{rowGoal};
 ghost use Rattle.rules.specs.Replay.{passedOn, entryAt};
 ghost use Rattle.rules.specs.Step.{replaying, endDown};
@@ -16,13 +16,14 @@ ghost use Rattle.state.specs.State.{lineOf};
 ghost use Rattle.buffer.specs.Nothing.{noHeld};
 ghost use Rattle.buffer.specs.Holds.{Holds, AtNode, NodeNow, Undamaged, Did};
 ghost use Rattle.slots.specs.Slots.{messageIs, entryIs, heldIs};
+ghost use Rattle.recover.specs.Found.{Rows};
 ghost use Rattle.replay_table.specs.Ends.{loggedFrom};
-ghost use Rattle.replay.specs.After.{rowAfter, rowsAfter, wouldHold, First, takenNow, heldMore, endedNode, Loggable};
+ghost use Rattle.replay.specs.After.{rowAfter, rowsAfter, wouldHold, First, takenNow, heldMore, endedNode, Loggable, Open};
 use buffer::Line;
 use buffer::bytes;
 use buffer::look;
 use plan::Record;
-use slots::Goal;
+use recover::rows;
 use slots::Logged;
 use slots::Made;
 use slots::Sent;
@@ -34,38 +35,29 @@ const LOG_LIMIT: usize = Line::LOG_LIMIT as usize;
 
 // ---- rows
 
-fn goal_with(g: Goal, parent: usize, goal: u32) -> u32
-    ensures { λ r. ⌜ r ≡ cond (eqb (g .parent) parent) (max (g .sent) goal) goal ⌝ }
+// "the greatest A-time of its targets", 0 if the parent has none: of each parent, in rows that are 0 before.
+fn fill_goals(s: &[u8], n: usize, goals: &mut [u32; 12])
+    requires { ⌜ AtNode (now s) n × Rows (now goals) (λ q. 0) ⌝ }
+    ensures { λ _. ⌜ Rows (now (goals .exit)) (rowGoal (nodeAt (lineOf (now (s .entry))) n .targets)) ⌝ }
 {
-    if bytes::size(g.parent) != parent {
-        return goal;
-    }
-    bytes::greater(g.sent, goal)
-}
-
-// "the greatest A-time of its targets", 0 if the parent has none.
-fn goal_of(s: &[u8], n: usize, parent: usize) -> u32
-    requires { ⌜ AtNode (now s) n ⌝ }
-    ensures { λ r. ⌜ r ≡ rowGoal (nodeAt (lineOf (now (s .entry))) n .targets) parent ⌝ }
-{
-    let mut goal: u32 = 0;
     let mut left = node_fields::target_count(s, n);
     while 0 < left {
         left -= 1;
-        goal = goal_with(node_fields::target_of(s, n, left), parent, goal);
+        let g = node_fields::target_of(s, n, left);
+        rows::raise(goals, g.parent, g.sent);
     }
-    goal
 }
 
-// Whether channel c's row is complete once a message of a time is taken from channel b, if c enters the node.
-fn row_after(s: &[u8], n: usize, b: usize, time: u32, c: usize) -> bool
-    requires { ⌜ AtNode (now s) n × (c < planChannels (now s)) ⌝ }
+// Whether channel c's row is complete by all goals once a message of a time is taken from channel b, if c enters the node.
+fn row_after(s: &[u8], n: usize, goals: &[u32; 12], b: usize, time: u32, c: usize) -> bool
+    requires { ⌜ AtNode (now s) n × Rows (now goals) (rowGoal (nodeAt (lineOf (now s)) n .targets)) × (c < planChannels (now s)) ⌝ }
     ensures { λ r. ⌜ r ≡ (not (eqb (receiverOf (lineOf (now (s .entry))) c) n) || rowAfter (lineOf (now (s .entry))) n b time c) ⌝ }
 {
     if look::receiver_of(s, c) != n {
         return true;
     }
-    let goal = goal_of(s, n, look::sender_of(s, c));
+    let parent = look::sender_of(s, c);
+    let goal = goals[parent];
     let taken = channel_fields::taken_of(s, c);
     if c != b {
         return goal <= taken;
@@ -74,15 +66,15 @@ fn row_after(s: &[u8], n: usize, b: usize, time: u32, c: usize) -> bool
 }
 
 // Whether all rows are complete then.
-fn rows_after(s: &[u8], n: usize, b: usize, time: u32) -> bool
-    requires { ⌜ AtNode (now s) n ⌝ }
+fn rows_after(s: &[u8], n: usize, goals: &[u32; 12], b: usize, time: u32) -> bool
+    requires { ⌜ AtNode (now s) n × Rows (now goals) (rowGoal (nodeAt (lineOf (now s)) n .targets)) ⌝ }
     ensures { λ r. ⌜ r ≡ rowsAfter (lineOf (now (s .entry))) n b time ⌝ }
 {
     let m = look::channel_count(s);
     let mut ok = true;
     let mut c: usize = 0;
     while c < m {
-        ok = ok & row_after(s, n, b, time, c);
+        ok = ok & row_after(s, n, goals, b, time, c);
         c += 1;
     }
     ok
@@ -182,23 +174,20 @@ fn end(s: &mut [u8], n: usize, b: usize, m: Sent, last: Waiting, out: &[u32; 128
     node_fields::set_status(s, n, 0);
 }
 
-// Take, where the receiver replays, both ends are not down and the channel has a message: 20, 21, 24 or 0.
-pub fn take_replaying(s: &mut [u8], b: usize) -> u32
-    requires { ⌜ Undamaged (now s) × (b < planChannels (now s)) × (endDown (lineOf (now s)) b ≡ false) × (0 < length (laneAt (lineOf (now s)) b .queue)) × (replaying (lineOf (now s)) (receiverOf (lineOf (now s)) b) ≡ true) ⌝ }
-    ensures { λ r. ⌜ Did (now (s .entry)) (take b) (now (s .exit)) r ⌝ }
+// What is left of a Take once neither 20 nor 21 is the answer: 24 or 0.
+fn take_on(
+    s: &mut [u8],
+    n: usize,
+    goals: &[u32; 12],
+    b: usize,
+    m: Sent,
+    goes: bool,
+    last: Waiting,
+) -> u32
+    requires { ⌜ Open (now s) b n (messageIs m) (heldIs last) goes × Rows (now goals) (rowGoal (nodeAt (lineOf (now s)) n .targets)) ⌝ }
+    ensures { λ r. ⌜ Did (now (s .entry)) (frames.take b) (now (s .exit)) r ⌝ }
 {
-    let n = look::receiver_of(s, b);
-    if goal_of(s, n, look::sender_of(s, b)) <= channel_fields::taken_of(s, b) {
-        return 20;
-    }
-    let m = channel_fields::first_of(s, b);
-    let last = waiting_of(s, n, b, m);
-    let goes = goes_on(s, n, last.what);
-    let full = HELD_LIMIT <= node_fields::held_count(s, n);
-    if goes & full {
-        return 21;
-    }
-    if !rows_after(s, n, b, m.time) {
+    if !rows_after(s, n, goals, b, m.time) {
         hold(s, n, b, m, goes, last);
         return 0;
     }
@@ -209,4 +198,27 @@ pub fn take_replaying(s: &mut [u8], b: usize) -> u32
     }
     end(s, n, b, m, last, &out, count);
     0
+}
+
+// Take, where the receiver replays, both ends are not down and the channel has a message: 20, 21, 24 or 0.
+pub fn take_replaying(s: &mut [u8], b: usize) -> u32
+    requires { ⌜ Undamaged (now s) × (b < planChannels (now s)) × (endDown (lineOf (now s)) b ≡ false) × (0 < length (laneAt (lineOf (now s)) b .queue)) × (replaying (lineOf (now s)) (receiverOf (lineOf (now s)) b) ≡ true) ⌝ }
+    ensures { λ r. ⌜ Did (now (s .entry)) (frames.take b) (now (s .exit)) r ⌝ }
+{
+    let n = look::receiver_of(s, b);
+    let mut goals: [u32; 12] = [0; 12];
+    fill_goals(s, n, &mut goals);
+    let parent = look::sender_of(s, b);
+    let goal = goals[parent];
+    if goal <= channel_fields::taken_of(s, b) {
+        return 20;
+    }
+    let m = channel_fields::first_of(s, b);
+    let last = waiting_of(s, n, b, m);
+    let goes = goes_on(s, n, last.what);
+    let full = HELD_LIMIT <= node_fields::held_count(s, n);
+    if goes & full {
+        return 21;
+    }
+    take_on(s, n, &goals, b, m, goes, last)
 }

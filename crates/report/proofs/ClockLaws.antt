@@ -120,11 +120,11 @@ module _ (s : List ℕ) (n : ℕ) (ready : Ready s) where
   heard-time h place c e = rw e
 
 -- The channel that entries are heard through, and one of them.
-pub through-at : (s : List ℕ) (n : ℕ) → Holds s (lineOf s) → (h : Heard) (place c : ℕ) → h ≡ Through c → HeardAt s n h → place < length (entering (planOf s) n) → AtLane s c × (place < length (laneAt (lineOf s) c .heard))
+pub through-at : (s : List ℕ) (n : ℕ) → Ready s → (h : Heard) (place c : ℕ) → h ≡ Through c → HeardAt s n h → place < length (entering (planOf s) n) → Ready s × (c < planChannels s) × (place < length (laneAt (lineOf s) c .heard))
 unfolding timesOf
-through-at s n holds h place c e x inside =
+through-at s n ready h place c e x inside =
     let y : HeardAt s n (Through c) = subst (λ (k : Heard). HeardAt s n k) e x in
-    (record { holds = holds; below = y .0 }, omega (arith, times-long s n (holds .ready) (Through c) y))
+    (ready, y .0, omega (arith, times-long s n ready (Through c) y))
 
 -- ---- the parts, one behind the other
 

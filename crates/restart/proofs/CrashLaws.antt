@@ -38,5 +38,5 @@ module _ (s : List ℕ) (n : ℕ) (whole : Undamaged s) where
       record {
         number = crash-number (lineOf s) n ∙ is;
         refused = λ q. absurd (q refl);
-        done = λ q. (crashedLine n (lineOf s), (refl, subst (Holds u) (ap (crashedLanes n) (node .same) ∙ crash-lanes (lineOf s) (whole .holds .fits) n) lanes));
+        done = λ q. (crashedLine n (lineOf s), (refl, subst (Holds u) (ap (crashedLanes n) (node .holds .same) ∙ crash-lanes (lineOf s) (whole .holds .fits) n) lanes));
       }

@@ -162,7 +162,7 @@ module _ (s : List ℕ) (n : ℕ) (whole : Undamaged s) where
         recover-done e low is entries rows t node u lanes =
             let some-line = effect-some (lineOf s) n (ordered-of (lineOf s) (whole .holds .fits)) (shape-of (lineOf s) (whole .holds .fits)) inside (ap (noOutcome (lineOf s) n) (sym held) ∙ e) in
             let same : restoredBy low (targetsIn xs count) (nodeAt (lineOf s) n) ≡ restoredNode (lineOf s) n = (λ j. restoredBy (is j) (held j) (nodeAt (lineOf s) n)) ∙ restored-is (lineOf s) (whole .holds .fits) standing n inside stopped in
-            let left = node .same ∙ ap (λ (x : Node). withNode n x (lineOf s)) same in
+            let left = node .holds .same ∙ ap (λ (x : Node). withNode n x (lineOf s)) same in
             let line = ap (restoredLanes n entries) left ∙ recover-lanes (lineOf s) (whole .holds .fits) standing n inside stopped entries rows (omega (arith, whole .holds .ready .nodes, line-nodes s)) in
             record {
               number = number-is false false 0 room (ap isNothing some-line) refl;

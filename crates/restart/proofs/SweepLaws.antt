@@ -89,20 +89,20 @@ module _ (s : List ℕ) (n : ℕ) (f g : ℕ → Lane → Lane) (b : ℕ) (t : L
   abbrev x : Lane
   x = laneAt (lineOf s) b
 
-  abbrev Changed : Lane → Type 0
-  Changed y = Holds t (withLane b y (lineOf s))
+  changed : (h k : Lane → Lane) → k x ≡ h x → LaneNow s b h t → LaneNow s b k t
+  changed h k e now = record { holds = subst (λ (y : Lane). Holds t (withLane b y (lineOf s))) (sym e) (now .holds); on = now .on }
 
   ends : (h : Channel → ℕ) → h (channelAt (lineOf s .plan) b) ≡ h (channelAt (planOf s) b)
   ends h = ap (λ (p : Plan). h (channelAt p b)) (line-plan s)
 
   pub on-enters : channelAt (planOf s) b .receiver ≡ n → LaneNow s b (f b) t → LaneNow s b (atEnds (lineOf s .plan) n f g b) t
-  on-enters q now = subst Changed (sym (ends-enters (lineOf s .plan) n f g b x (ends (λ c. c .receiver) ∙ q))) now
+  on-enters q = changed (f b) (atEnds (lineOf s .plan) n f g b) (ends-enters (lineOf s .plan) n f g b x (ends (λ c. c .receiver) ∙ q))
 
   pub on-leaves : channelAt (planOf s) b .receiver ≢ n → channelAt (planOf s) b .sender ≡ n → LaneNow s b (g b) t → LaneNow s b (atEnds (lineOf s .plan) n f g b) t
-  on-leaves d q now = subst Changed (sym (ends-leaves (lineOf s .plan) n f g b x (λ e. d (sym (ends (λ c. c .receiver)) ∙ e)) (ends (λ c. c .sender) ∙ q))) now
+  on-leaves d q = changed (g b) (atEnds (lineOf s .plan) n f g b) (ends-leaves (lineOf s .plan) n f g b x (λ e. d (sym (ends (λ c. c .receiver)) ∙ e)) (ends (λ c. c .sender) ∙ q))
 
-  pub on-else : channelAt (planOf s) b .receiver ≢ n → channelAt (planOf s) b .sender ≢ n → Holds t (lineOf s) → LaneNow s b (atEnds (lineOf s .plan) n f g b) t
-  on-else d e h = subst Changed (sym (ends-else (lineOf s .plan) n f g b x (λ q. d (sym (ends (λ c. c .receiver)) ∙ q)) (λ q. e (sym (ends (λ c. c .sender)) ∙ q)))) (subst (Holds t) (sym (lane-same b (lineOf s))) h)
+  pub on-else : channelAt (planOf s) b .receiver ≢ n → channelAt (planOf s) b .sender ≢ n → Holds t (lineOf s) → AtLane t b → LaneNow s b (atEnds (lineOf s .plan) n f g b) t
+  on-else d e h on = changed (λ y. y) (atEnds (lineOf s .plan) n f g b) (ends-else (lineOf s .plan) n f g b x (λ q. d (sym (ends (λ c. c .receiver)) ∙ q)) (λ q. e (sym (ends (λ c. c .sender)) ∙ q))) (record { holds = subst (Holds t) (sym (lane-same b (lineOf s))) h; on = on })
 
 module _ (entered left f g : ℕ → Lane → Lane) (l : Line) (n : ℕ) (ordered : Ordered (l .plan)) (long : length (l .lanes) ≡ channelCount (l .plan))
     (enters : (c : ℕ) → Enters (l .plan) n c → f c (laneAt l c) ≡ entered c (laneAt l c))

@@ -6,19 +6,19 @@ use Rattle.channel_fields.proofs.heard_of.Statement.{statement}
 use Rattle.channel_fields.proofs.heard_of.Tie as tie
 
 mul-get32-2 : tie.Need-mul-get32-2
-mul-get32-2 c = let start = c .before in omega (arith, start .pre .1, heard-four (start .args .s .now) (start .args .b) (start .pre .0))
+mul-get32-2 c = let start = c .before in omega (arith, start .pre .2, heard-four (start .args .s .now) (start .args .b) (start .pre .0) (start .pre .1))
 
 add-get32-3 : tie.Need-add-get32-3
-add-get32-3 c = let start = c .before in omega (arith, start .pre .1, heard-four (start .args .s .now) (start .args .b) (start .pre .0), start .pre .0 .below, start .pre .0 .holds .ready .channels)
+add-get32-3 c = let start = c .before in omega (arith, start .pre .2, heard-four (start .args .s .now) (start .args .b) (start .pre .0) (start .pre .1), start .pre .1, start .pre .0 .channels)
 
 get32-requires : tie.Need-get32-requires
 get32-requires c κs =
     let start = c .before in
-    let ready = start .pre .0 .holds .ready in
-    omega (arith, start .pre .1, heard-four (start .args .s .now) (start .args .b) (start .pre .0), start .pre .0 .below, ready .channels, ready .long)
+    let ready = start .pre .0 in
+    omega (arith, start .pre .2, heard-four (start .args .s .now) (start .args .b) (start .pre .0) (start .pre .1), start .pre .1, ready .channels, ready .long)
 
 returns : tie.Need-returns
-returns c = let start = c .before .before in c .get32 .ensures ∙ heard-word (start .args .s .now) (start .args .b) (start .pre .0) (start .args .place) (start .pre .1)
+returns c = let start = c .before .before in c .get32 .ensures ∙ heard-word (start .args .s .now) (start .args .b) (start .pre .0) (start .pre .1) (start .args .place) (start .pre .2)
 
 pub heard-of-spec : {M : Type 1} → statement M
 heard-of-spec =

@@ -5,7 +5,7 @@ use Rattle.channel_fields.proofs.mark_of.Statement.{statement}
 use Rattle.channel_fields.proofs.mark_of.Tie as tie
 
 returns : tie.Need-returns
-returns c = let start = c .before .before in c .get32 .ensures ∙ mark-word (start .args .s .now) (start .args .b) (start .pre)
+returns c = let start = c .before .before in c .get32 .ensures ∙ mark-word (start .args .s .now) (start .args .b) (start .pre .0) (start .pre .1)
 
 pub mark-of-spec : {M : Type 1} → statement M
 mark-of-spec = tie.close (tie.spec (λ c. search needs) (λ c. search needs) (λ c κs. search needs) returns)

@@ -1,15 +1,8 @@
 use borrow.Author.Needs.{needs}
 use Rattle.slots.specs.Slots.{messageIs}
-use Rattle.channel_fields.proofs.TakeLaws.{taken-on, heard-on, taken-whole}
+use Rattle.channel_fields.proofs.TakeLaws.{heard-on, taken-whole}
 use Rattle.channel_fields.proofs.take_first.Statement.{statement}
 use Rattle.channel_fields.proofs.take_first.Tie as tie
-
-raise-heard-requires : tie.Need-raise-heard-requires
-raise-heard-requires c κs =
-    let start = c .before .before .before .before .before .before in
-    let a = start .args in
-    let first = c .before .before .before .raise-taken in
-    taken-on (a .s .now) (first .last .0) (a .b) (start .pre .0) (messageIs (a .m)) (first .ensures)
 
 drop-first-requires : tie.Need-drop-first-requires
 drop-first-requires c κs =
@@ -32,7 +25,7 @@ take-first-spec =
     tie.close
     (tie.spec
     (λ c κs. search needs)
-    raise-heard-requires
+    (λ c κs. search needs)
     drop-first-requires
     (λ c. search needs)
     returns)

@@ -8,8 +8,7 @@ use Rattle.node_fields.proofs.time_of.Tie as tie
 returns : tie.Need-returns
 returns c =
     let first = c .before .before in
-    let at = first .pre in
-    c .get32 .ensures ∙ sym (line-time (first .args .s .now) (counted (at .holds .ready)) (first .args .n) (at .inside))
+    c .get32 .ensures ∙ sym (line-time (first .args .s .now) (counted (first .pre .0)) (first .args .n) (first .pre .1))
 
 pub time-of-spec : {M : Type 1} → statement M
 time-of-spec = tie.close (tie.spec (λ c. search needs) (λ c. search needs) (λ c. search needs) (λ c κs. search needs) returns)

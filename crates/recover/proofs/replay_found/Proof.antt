@@ -1,15 +1,6 @@
-use Prim.Native.Nat.{ℕ, _+_, _*_}
-use mathlib.Core.Path.{_≡_, sym, ap, _∙_}
 use mathlib.Core.Bool.{not, _&&_}
-use native.Mathlib.Omega.{arith}
 use borrow.Author.Needs.{needs}
 use lib.Dec.{eqb}
-use Rattle.rules.specs.Line.{nodeAt}
-use Rattle.state.specs.Sizes.{pageAt, timeAt}
-use Rattle.state.specs.Right.{wordAt}
-use Rattle.state.specs.State.{lineOf}
-use Rattle.state.proofs.OffsetLaws.{line-time}
-use Rattle.buffer.proofs.ReadyLaws.{counted}
 use Rattle.recover.specs.Found.{targetsIn}
 use Rattle.recover.proofs.RestoredLaws.{rows-none}
 use Rattle.recover.proofs.replay_found.Statement.{statement}
@@ -29,12 +20,9 @@ returns c =
     let judged = c .before .before .before .before in
     let first = judged .before .before .before .before in
     let a = first .args in
-    let s = a .s .now in
     let clash = judged .conflict-in .ensures in
     let done = c .before .before .rows-restored .ensures (targetsIn (a .xs .now) (a .count)) (clash .1) in
-    let place : 4100 + 4096 * a .n ≡ pageAt (a .n) + timeAt = omega arith in
-    let time : c .get32 .result ≡ nodeAt (lineOf s) (a .n) .time = c .get32 .ensures ∙ ap (λ (x : ℕ). wordAt x s) place ∙ sym (line-time s (counted (first .pre .0)) (a .n) (first .pre .1)) in
-    λ j. not (clash .0 j) && not (done j) && eqb (time j) (a .low) && c .before .same-targets .ensures j
+    λ j. not (clash .0 j) && not (done j) && eqb (c .time-of .ensures j) (a .low) && c .before .same-targets .ensures j
 
 pub replay-found-spec : {M : Type 1} → statement M
 replay-found-spec =
@@ -43,7 +31,5 @@ replay-found-spec =
     conflict-in-requires
     rows-restored-requires
     same-targets-requires
-    (λ c. search needs)
-    (λ c. search needs)
     (λ c κs. search needs)
     returns)

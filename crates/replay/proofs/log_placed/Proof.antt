@@ -3,15 +3,15 @@ use mathlib.Core.Path.{_≡_, ap, subst, _∙_}
 use mathlib.Core.List.{[], _∷_, _++_}
 use native.Mathlib.Omega.{arith}
 use lib.ListN.{getD}
-use Rattle.rules.specs.Line.{logLimit, Entry, nodeAt, withNode}
+use Rattle.rules.specs.Line.{logLimit, Entry, nodeAt}
 use Rattle.rules.specs.Replay.{entryAt}
 use Rattle.state.specs.Changes.{withLog}
 use Rattle.state.specs.State.{lineOf}
 use Rattle.buffer.specs.Nothing.{noHeld}
-use Rattle.buffer.specs.Holds.{Holds}
+use Rattle.buffer.specs.Holds.{NodeNow}
 use Rattle.slots.specs.Slots.{heldIs, entryIs}
 use Rattle.replay_table.specs.Ends.{loggedFrom}
-use Rattle.replay.proofs.LeftLaws.{LoggedTo, logged-start, logged-at, logged-few, logged-number, logged-senders, logged-turn}
+use Rattle.replay.proofs.LeftLaws.{LoggedTo, logged-start, logged-few, logged-number, logged-senders, logged-turn}
 use Rattle.replay.proofs.log_placed.Statement.{statement}
 use Rattle.replay.proofs.log_placed.Tie as tie
 
@@ -32,7 +32,7 @@ entry-for-requires c κs =
     let t = c .before .before .before .before .before .loop in
     let start = c .before .before .before .before .before .before .before in
     let a = start .args in (
-      logged-at (a .s .now) (a .n) (heldIs (a .last)) (a .out .now) (a .count) (start .pre .0) (start .pre .1) (t .s) (t .j) (t .inv),
+      t .inv .now .on,
       omega (arith, c .before .size .ensures, logged-number (a .s .now) (a .n) (heldIs (a .last)) (a .out .now) (a .count) (start .pre .0) (start .pre .1) (t .s) (t .j) (t .inv) (omega arith)),
       start .pre .1 .lastSender,
       logged-senders (a .s .now) (a .n) (heldIs (a .last)) (a .out .now) (a .count) (start .pre .0) (start .pre .1) (t .s) (t .j) (t .inv),
@@ -43,7 +43,7 @@ append-entry-requires c κs =
     let t = c .before .before .before .before .before .before .before .loop in
     let start = c .before .before .before .before .before .before .before .before .before in
     let a = start .args in (
-      logged-at (a .s .now) (a .n) (heldIs (a .last)) (a .out .now) (a .count) (start .pre .0) (start .pre .1) (t .s) (t .j) (t .inv),
+      t .inv .now .on,
       logged-few (a .s .now) (a .n) (heldIs (a .last)) (a .out .now) (a .count) (start .pre .0) (start .pre .1) (t .s) (t .j) (t .inv) (omega arith),
     )
 
@@ -64,9 +64,8 @@ returns c =
     let t = c .before .loop in
     let start = c .before .before .before in
     let a = start .args in
-    let x = nodeAt (lineOf (a .s .now)) (a .n) in
     let all : t .j ≡ a .count = omega (arith, t .inv .within) in
-    subst (λ (k : ℕ). Holds (t .s) (withNode (a .n) (withLog (loggedFrom (x .held ++ heldIs (a .last) ∷ []) (a .out .now) k) x) (lineOf (a .s .now)))) all (t .inv .now)
+    subst (λ (k : ℕ). NodeNow (a .s .now) (a .n) (withLog (loggedFrom (nodeAt (lineOf (a .s .now)) (a .n) .held ++ heldIs (a .last) ∷ []) (a .out .now) k)) (t .s)) all (t .inv .now)
 
 pub log-placed-spec : {M : Type 1} → statement M
 log-placed-spec =
@@ -86,5 +85,5 @@ log-placed-spec =
     (λ c. omega arith)
     (λ c. omega arith)
     loop-again
-    (λ c. omega (arith, c .before .loop .inv .now .ready .long, c .before .before .before .pre .0 .holds .ready .long))
+    (λ c. omega (arith, c .before .loop .inv .now .holds .ready .long, c .before .before .before .pre .0 .holds .ready .long))
     returns)

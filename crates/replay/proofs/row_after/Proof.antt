@@ -1,6 +1,9 @@
 use mathlib.Core.Path.{ap, _∙_}
+use native.Mathlib.Omega.{arith}
 use borrow.Author.Needs.{needs}
-use Prim.Native.Nat.{ℕ, max}
+use Prim.Native.Nat.{ℕ, _<_, max}
+use lib.ListN.{getD}
+use Rattle.recover.specs.Found.{rowsLong}
 use Rattle.replay.proofs.RowLaws.{row-else, row-here, taken-else, taken-here}
 use Rattle.replay.proofs.row_after.Statement.{statement}
 use Rattle.replay.proofs.row_after.Tie as tie
@@ -12,18 +15,24 @@ returns c =
 
 returns-2 : tie.Need-returns-2
 returns-2 c =
-    let first = c .before .before .before .before .before in
-    let a = first .before .before .args in
-    row-here (a .s .now) (a .n) (a .b) (a .time) (a .c) (first .receiver-of .result) (c .before .before .before .sender-of .result) (c .before .before .goal-of .result) (c .before .taken-of .result)
-    (first .receiver-of .ensures .0) (c .before .before .before .before .if1 .left) (c .before .before .before .sender-of .ensures .0) (c .before .before .goal-of .ensures)
+    let from = c .before .before .before in
+    let first = from .before .before in
+    let start = first .before .before in
+    let a = start .args in
+    let inside : from .sender-of .result < rowsLong = omega (arith, from .sender-of .ensures .1, start .pre .0 .holds .ready .nodes) in
+    row-here (a .s .now) (a .n) (a .b) (a .time) (a .c) (first .receiver-of .result) (from .sender-of .result) (getD (a .goals .now) (from .sender-of .result) 0) (c .before .taken-of .result)
+    (first .receiver-of .ensures .0) (from .before .if1 .left) (from .sender-of .ensures .0) (start .pre .1 .each (from .sender-of .result) inside)
     (taken-else (a .s .now) (a .n) (a .b) (a .time) (a .c) (c .before .taken-of .result) (c .before .taken-of .ensures) (c .if2 .taken))
 
 returns-3 : tie.Need-returns-3
 returns-3 c =
-    let first = c .before .before .before .before .before .before in
-    let a = first .before .before .args in
-    row-here (a .s .now) (a .n) (a .b) (a .time) (a .c) (first .receiver-of .result) (c .before .before .before .before .sender-of .result) (c .before .before .before .goal-of .result) (c .greater .result)
-    (first .receiver-of .ensures .0) (c .before .before .before .before .before .if1 .left) (c .before .before .before .before .sender-of .ensures .0) (c .before .before .before .goal-of .ensures)
+    let from = c .before .before .before .before in
+    let first = from .before .before in
+    let start = first .before .before in
+    let a = start .args in
+    let inside : from .sender-of .result < rowsLong = omega (arith, from .sender-of .ensures .1, start .pre .0 .holds .ready .nodes) in
+    row-here (a .s .now) (a .n) (a .b) (a .time) (a .c) (first .receiver-of .result) (from .sender-of .result) (getD (a .goals .now) (from .sender-of .result) 0) (c .greater .result)
+    (first .receiver-of .ensures .0) (from .before .if1 .left) (from .sender-of .ensures .0) (start .pre .1 .each (from .sender-of .result) inside)
     (taken-here (a .s .now) (a .n) (a .b) (a .time) (a .c) (c .greater .result) (c .greater .ensures ∙ ap (λ (t : ℕ). max t (a .time)) (c .before .before .taken-of .ensures)) (c .before .if2 .left))
 
 pub row-after-spec : {M : Type 1} → statement M
@@ -33,7 +42,8 @@ row-after-spec =
     (λ c κs. search needs)
     returns
     (λ c κs. search needs)
-    (λ c κs. search needs)
+    (λ c. search needs)
+    (λ c. search needs)
     (λ c κs. search needs)
     returns-2
     (λ c κs. search needs)

@@ -21,10 +21,10 @@ counted : (s : List ℕ) → channelCount (lineOf s .plan) ≡ planChannels s
 counted s = ap channelCount (line-plan s) ∙ channel-count s
 
 abbrev Inv-loop : tie.InvT-loop
-Inv-loop s n b time m ok₀ c₀ ok c = RowsFrom s n b time ok c
+Inv-loop s n goals b time m ok₀ c₀ ok c = RowsFrom s n b time ok c
 
 abbrev μ-loop : tie.MeasureT-loop
-μ-loop s n b time m ok₀ c₀ ok c = m - c
+μ-loop s n goals b time m ok₀ c₀ ok c = m - c
 
 loop-holds : tie.Need-loop-holds Inv-loop μ-loop
 unfolding rowsAfter
@@ -57,9 +57,9 @@ rows-after-spec =
     (tie.spec
     Inv-loop
     μ-loop
-    (λ c κs. c .before .pre .holds .ready)
+    (λ c κs. c .before .pre .0 .holds .ready)
     loop-holds
-    (λ c κs. (c .before .before .before .before .pre, omega (arith, c .before .before .channel-count .ensures .0)))
+    (λ c κs. (c .before .before .before .before .pre .0, c .before .before .before .before .pre .1, omega (arith, c .before .before .channel-count .ensures .0)))
     (λ c. omega arith)
     (λ c. omega arith)
     loop-again

@@ -29,7 +29,7 @@ taken-of-requires c κs =
     let t = c .before .before .loop in
     let first = c .before .before .before .before .before in
     let x = next (planChannels (first .args .s .now)) (t .left) (c .mask-next .result) (t .inv .channels) (t .inv .rest) (c .before .loop-test .taken) (c .mask-next .ensures) in
-    record { holds = first .pre .0 .holds; below = x .below }
+    (first .pre .0 .holds .ready, x .below)
 
 without-requires : tie.Need-without-requires Inv-loop μ-loop
 without-requires c κs =

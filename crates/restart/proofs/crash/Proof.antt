@@ -1,5 +1,5 @@
 use mathlib.Core.Path.{refl, sym, _∙_}
-use Rattle.buffer.proofs.HoldsLaws.{holds-again}
+use borrow.Author.Needs.{needs}
 use Rattle.restart.proofs.CrashLaws.{crash-on, crash-refused, crash-done}
 use Rattle.restart.proofs.crash.Statement.{statement}
 use Rattle.restart.proofs.crash.Tie as tie
@@ -39,6 +39,6 @@ crash-spec =
     (λ c. refl)
     returns
     empty-node-requires
-    (λ c κs. holds-again (c .before .before .before .empty-node .ensures))
+    (λ c κs. search needs)
     same-length-2
     returns-2)

@@ -29,13 +29,13 @@ returns-3 c =
     let to = other .before .receiver-of .ensures .0 in
     let first = other .before .before .before .before in
     let a = first .args in
-    on-else (a .s .now) (a .n) (λ b. wiped) (λ b. cleared) (a .b) (a .s .now) (λ q. other .if1 .left (to ∙ q)) (λ q. c .if2 .left (from ∙ q)) (first .pre .holds)
+    on-else (a .s .now) (a .n) (λ b. wiped) (λ b. cleared) (a .b) (a .s .now) (λ q. other .if1 .left (to ∙ q)) (λ q. c .if2 .left (from ∙ q)) (first .pre .holds) (first .pre)
 
 same-length : tie.Need-same-length
-same-length c = let done = c .before .before in done .wipe .ensures .ready .long ∙ sym (done .before .before .before .before .before .before .pre .holds .ready .long)
+same-length c = let done = c .before .before in done .wipe .ensures .holds .ready .long ∙ sym (done .before .before .before .before .before .before .pre .holds .ready .long)
 
 same-length-2 : tie.Need-same-length-2
-same-length-2 c = let done = c .before .before in done .clear .ensures .ready .long ∙ sym (done .before .before .before .before .before .before .before .before .before .pre .holds .ready .long)
+same-length-2 c = let done = c .before .before in done .clear .ensures .holds .ready .long ∙ sym (done .before .before .before .before .before .before .before .before .before .pre .holds .ready .long)
 
 pub crash-channel-spec : {M : Type 1} → statement M
 crash-channel-spec =

@@ -20,7 +20,7 @@ append-target-requires c κs =
     let t = turn .loop in
     let fill = turn .before .before .before .pre in
     let below = c .before .before .loop-test .taken in
-    (t .inv .so .on, filled-room fill below (t .inv), omega (arith, ap (λ (u : Target). u .parent) (c .goal-at .ensures), fill .parents (t .i) below))
+    (t .inv .now .on, filled-room fill below (t .inv), omega (arith, ap (λ (u : Target). u .parent) (c .goal-at .ensures), fill .parents (t .i) below))
 
 loop-again : tie.Need-loop-again Inv-loop μ-loop
 loop-again c =

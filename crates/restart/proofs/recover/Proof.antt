@@ -1,7 +1,6 @@
 use mathlib.Core.Path.{refl, sym, _∙_}
 use native.Mathlib.Omega.{arith}
 use borrow.Author.Needs.{needs}
-use Rattle.buffer.proofs.HoldsLaws.{holds-again}
 use Rattle.recover.proofs.RestoredLaws.{rows-none}
 use Rattle.restart.proofs.RecoverLaws.{logs-counted, recover-refused, recover-inside, recover-full, recover-none, recover-fillable, recover-done}
 use Rattle.restart.proofs.recover.Statement.{statement}
@@ -46,12 +45,6 @@ restore-node-requires c κs =
     let first = tested .before .before .before .before in
     recover-fillable (first .args .s .now) (first .args .n) (first .pre) (sym (tested .before .recover-refusal .ensures) ∙ tested .if1 .left) (told .told-of .last .1 .1 .1 .0) (told .told-of .result) (told .told-of .ensures .0)
     (omega (arith, few .if2 .left))
-
-restore-channels-requires : tie.Need-restore-channels-requires
-restore-channels-requires c κs =
-    let node = c .before .before .before .before in
-    let told = node .before .before .before .before .before .before .before .before .before .before in
-    (holds-again (node .restore-node .ensures), told .told-of .ensures .1 .long)
 
 returns-4 : tie.Need-returns-4
 returns-4 c =
@@ -99,6 +92,6 @@ recover-spec =
     returns-3
     (λ c. search needs)
     restore-node-requires
-    restore-channels-requires
+    (λ c κs. search needs)
     same-length-4
     returns-4)

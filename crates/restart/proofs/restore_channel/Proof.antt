@@ -46,13 +46,13 @@ returns-3 c =
     let a = first .args in
     let s = a .s .now in
     let entry : ℕ → Lane → Lane = λ b. restoredTo (getD (a .entries .now) (channelAt (lineOf s .plan) b .sender) 0) in
-    on-else s (a .n) entry (λ b. marked) (a .b) s (λ q. c .before .if1 .left (to ∙ q)) (λ q. c .if2 .left (from ∙ q)) (first .pre .0 .holds)
+    on-else s (a .n) entry (λ b. marked) (a .b) s (λ q. c .before .if1 .left (to ∙ q)) (λ q. c .if2 .left (from ∙ q)) (first .pre .0 .holds) (first .pre .0)
 
 same-length : tie.Need-same-length
-same-length c = let done = c .before .before in done .restore-entry .ensures .ready .long ∙ sym (done .before .before .before .before .before .before .before .before .before .pre .0 .holds .ready .long)
+same-length c = let done = c .before .before in done .restore-entry .ensures .holds .ready .long ∙ sym (done .before .before .before .before .before .before .before .before .before .pre .0 .holds .ready .long)
 
 same-length-2 : tie.Need-same-length-2
-same-length-2 c = let done = c .before .before in done .restore-mark .ensures .ready .long ∙ sym (done .before .before .before .before .before .before .before .before .before .pre .0 .holds .ready .long)
+same-length-2 c = let done = c .before .before in done .restore-mark .ensures .holds .ready .long ∙ sym (done .before .before .before .before .before .before .before .before .before .pre .0 .holds .ready .long)
 
 pub restore-channel-spec : {M : Type 1} → statement M
 restore-channel-spec =

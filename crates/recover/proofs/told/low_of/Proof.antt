@@ -18,15 +18,15 @@ loop-holds c = low-start (c .before .before .args .s .now) (c .before .before .a
 sender-of-requires : tie.Need-sender-of-requires Inv-loop μ-loop
 sender-of-requires c κs = record { ready = c .before .before .before .before .pre; below = omega (arith, c .before .before .channel-count .ensures .0) }
 
-taken-on-requires : tie.Need-taken-on-requires Inv-loop μ-loop
-taken-on-requires c κs = (c .before .before .before .before .before .pre, omega (arith, c .before .before .before .channel-count .ensures .0))
+taken-of-requires : tie.Need-taken-of-requires Inv-loop μ-loop
+taken-of-requires c κs = (c .before .before .before .before .before .pre, omega (arith, c .before .before .before .channel-count .ensures .0))
 
 loop-again : tie.Need-loop-again Inv-loop μ-loop
 loop-again c =
     let a = c .before .before .before .before .before .before .before .args in
     let t = c .before .before .before .before .loop in
     let h : t .b < planChannels (a .s .now) = omega (arith, c .before .before .before .before .before .channel-count .ensures .0) in
-    rw (c .low-with .ensures, c .before .taken-on .ensures, c .before .before .sender-of .ensures .0) (low-turn (a .s .now) (a .n) (t .b) (t .low) (t .seen) h (t .inv))
+    rw (c .low-with .ensures, c .before .taken-of .ensures, c .before .before .sender-of .ensures .0) (low-turn (a .s .now) (a .n) (t .b) (t .low) (t .seen) h (t .inv))
 
 returns : tie.Need-returns Inv-loop μ-loop
 returns c =
@@ -43,7 +43,7 @@ low-of-spec =
     (λ c κs. search needs)
     loop-holds
     sender-of-requires
-    taken-on-requires
+    taken-of-requires
     (λ c κs. tt)
     (λ c. omega arith)
     (λ c. omega arith)

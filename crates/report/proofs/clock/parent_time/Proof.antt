@@ -1,7 +1,6 @@
 use mathlib.Core.Path.{sym, subst, _∙_}
 use native.Mathlib.Omega.{arith}
 use borrow.Author.Needs.{needs}
-use Rattle.buffer.specs.Holds.{AtLane}
 use Rattle.report.specs.declared.Heard.{Heard}
 use Rattle.report.specs.declared.Heard.the-variants.{Itself, Through}
 use Rattle.report.specs.Clock.{HeardAt}
@@ -13,7 +12,7 @@ heard-of-requires : tie.Need-heard-of-requires
 heard-of-requires c κs =
     let start = c .before .before .before .before in
     let a = start .args in
-    through-at (a .s .now) (a .n) (start .pre .0 .holds) (a .h) (a .place) (c .before .h .given .0 .0) (c .before .h .given .1) (start .pre .1) (start .pre .2)
+    through-at (a .s .now) (a .n) (start .pre .0 .holds .ready) (a .h) (a .place) (c .before .h .given .0 .0) (c .before .h .given .1) (start .pre .1) (start .pre .2)
 
 returns : tie.Need-returns
 returns c =
@@ -32,7 +31,7 @@ parent-time-spec =
     tie.close
     (tie.spec
     (λ c. search needs)
-    (λ c κs. c .before .before .before .pre .0)
+    (λ c κs. search needs)
     (λ c. search needs)
     heard-of-requires
     returns
