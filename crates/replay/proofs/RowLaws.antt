@@ -2,7 +2,7 @@
 use Prim.Native.Nat.{ℕ, suc, _+_, _-_, _≤_, _<_, max}
 use mathlib.Core.Path.{_≡_, refl, sym, ap, ap₂, _∙_}
 use mathlib.Core.Logic.{_≢_}
-use mathlib.Core.Bool.{Bool, true, false, not, cond, _&&_, _||_, and-assoc, and-true}
+use mathlib.Core.Bool.{Bool, true, false, not, cond, _&&_, _||_}
 use mathlib.Core.List.{List, _∷_, map}
 use native.Mathlib.Numerals.{add-one}
 use native.Mathlib.Omega.{arith}
@@ -18,8 +18,8 @@ use Rattle.rules.specs.Recover.{rowGoal}
 use Rattle.state.specs.State.{lineOf}
 use Rattle.state.proofs.InPlace.{line-plan}
 use Rattle.buffer.specs.Nothing.{noTarget}
-use Rattle.recover.specs.Found.{Rows, raisedAt}
 use Rattle.buffer.proofs.LookLaws.{numbersOn, numbers-turn, numbers-end}
+use Rattle.recover.specs.Found.{Rows, raisedAt}
 use Rattle.replay.specs.After.{takenAfter, rowAfter}
 
 -- One target in front of others.
@@ -67,14 +67,14 @@ module _ (p : Plan) (n : ℕ) (f : ℕ → Bool) where
   all-kept true c cs = refl
   all-kept false c cs = refl
 
-  pub all-turn : (ok : Bool) (c : ℕ) → c < channelCount p → (ok && allFrom c) ≡ ((ok && (not (eqb (channelAt p c .receiver) n) || f c)) && allFrom (c + 1))
-  all-turn ok c h =
-      ap (λ (t : Bool). ok && t) (ap (allOf f) (numbers-turn p enters c h) ∙ all-kept (enters (channelAt p c)) c (numbersOn p enters (suc c)))
-      ∙ sym (and-assoc ok (not (enters (channelAt p c)) || f c) (allFrom (suc c)))
-      ∙ ap (λ (d : ℕ). (ok && (not (enters (channelAt p c)) || f c)) && allFrom d) (sym (add-one c))
+  pub all-turn : (c : ℕ) → c < channelCount p → allFrom c ≡ ((not (eqb (channelAt p c .receiver) n) || f c) && allFrom (c + 1))
+  all-turn c h =
+      ap (allOf f) (numbers-turn p enters c h)
+      ∙ all-kept (enters (channelAt p c)) c (numbersOn p enters (suc c))
+      ∙ ap (λ (d : ℕ). (not (enters (channelAt p c)) || f c) && allFrom d) (sym (add-one c))
 
-  pub all-end : (ok : Bool) (c : ℕ) → channelCount p ≤ c → (ok && allFrom c) ≡ ok
-  all-end ok c h = ap (λ (cs : List ℕ). ok && allOf f cs) (numbers-end p enters c h) ∙ and-true ok
+  pub all-end : (c : ℕ) → channelCount p ≤ c → allFrom c ≡ true
+  all-end c h = ap (allOf f) (numbers-end p enters c h)
 
   pub all-start : allFrom 0 ≡ allOf f (entering p n)
   unfolding entering

@@ -71,13 +71,14 @@ fn rows_after(s: &[u8], n: usize, goals: &[u32; 12], b: usize, time: u32) -> boo
     ensures { λ r. ⌜ r ≡ rowsAfter (lineOf (now (s .entry))) n b time ⌝ }
 {
     let m = look::channel_count(s);
-    let mut ok = true;
     let mut c: usize = 0;
     while c < m {
-        ok = ok & row_after(s, n, goals, b, time, c);
+        if !row_after(s, n, goals, b, time, c) {
+            return false;
+        }
         c += 1;
     }
-    ok
+    true
 }
 
 // ---- the record

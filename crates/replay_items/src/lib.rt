@@ -138,7 +138,8 @@ fn floor_of(s: &[u8], n: usize, mask: u32, r: Record) -> u32
     requires { ⌜ AtNode (now s) n × (mask ≡ planMask (now s) (leaving (planOf (now s)) n)) ⌝ }
     ensures { λ f. ⌜ f ≡ floorOf (lineOf (now (s .entry))) n r ⌝ }
 {
-    let mut left = plan::masks::taking_among(s, mask, r);
+    let taking = plan::masks::taking_among(s, mask, r);
+    let mut left = taking;
     let mut floor: u32 = 0;
     while left != 0 {
         let b = plan::masks::mask_next(left);

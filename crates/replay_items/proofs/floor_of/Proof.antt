@@ -7,10 +7,10 @@ use Rattle.replay_items.proofs.floor_of.Statement.{statement}
 use Rattle.replay_items.proofs.floor_of.Tie as tie
 
 abbrev Inv-loop : tie.InvT-loop
-Inv-loop s n mask left₀ floor₀ left floor = FloorTo s left₀ left floor
+Inv-loop s n mask taking left₀ floor₀ left floor = FloorTo s left₀ left floor
 
 abbrev μ-loop : tie.MeasureT-loop
-μ-loop s n mask left₀ floor₀ left floor = left
+μ-loop s n mask taking left₀ floor₀ left floor = left
 
 loop-holds : tie.Need-loop-holds Inv-loop μ-loop
 loop-holds c =
