@@ -1,11 +1,11 @@
 -- What a frame's bytes give, and its refusals among a step's.
 use Prim.Native.Nat.{ℕ, _+_, _≤_, _<_}
-use mathlib.Core.Path.{_≡_, refl, sym, ap, _∙_}
+use mathlib.Core.Path.{_≡_, refl, sym, ap, subst, _∙_}
 use mathlib.Core.Logic.{_≢_}
 use mathlib.Core.Bool.{Bool, true, false, cond, not, _&&_}
 use mathlib.Core.List.{List}
 use native.Mathlib.Omega.{arith}
-use borrow.Author.Tests.{eqb-true, eq-eqb, ne-eqb, leb-false, ltb-false, not-false}
+use borrow.Author.Tests.{eqb-true, eq-eqb, ne-eqb, le-leb, lt-leb, ltb-false, not-false}
 use lib.Dec.{leb, ltb, eqb}
 use lib.ListN.{length, getD, take, drop}
 use lib.Seq.{drop-drop}
@@ -15,8 +15,9 @@ use Rattle.plan.specs.Record.{recordWidths, recordOf, recordLayout, recordFits,
 use Rattle.plan.proofs.LayoutLaws.{fields-front}
 use Rattle.rules.specs.Line.{consoleCount, Line}
 use Rattle.rules.specs.Frame.{frameHead, frameNumber, frameVersion, frameKind, consoleBytes, frameConsole, frameOfKind, frameOf, badFrameLength, badFrameVersion, badKind, badConsole, frameRefusal}
-use Rattle.rules.specs.Step.{noStepsLeft, lineRefusal, refusal}
-use Rattle.rules.proofs.restart.Frames.{formed-refusal}
+use Rattle.rules.specs.Step.{refusal}
+use Rattle.frame.specs.declared.Reading.{Reading}
+use Rattle.frame.specs.Reading.{ReadAs, Versioned, Long}
 
 -- ---- the head
 
@@ -33,9 +34,9 @@ unfolding frameHead
 kind-field f = rw drop-drop
 
 -- What it asks, by its kind.
-pub by-kind : (f : List ℕ) (kind console n : ℕ) → kind ≡ frameKind f → console ≡ consoleBytes f → n ≡ getD f (4 + console) 0 → frameOf f ≡ frameOfKind kind n (drop (5 + console) f)
+pub by-kind : (f : List ℕ) (kind extra : ℕ) → kind ≡ frameKind f → extra ≡ consoleBytes f → frameOf f ≡ frameOfKind kind (getD f (4 + extra) 0) (drop (5 + extra) f)
 unfolding frameOf
-by-kind f kind console n k c m = rw (k, m, c)
+by-kind f kind extra k e = rw (k, e)
 
 -- ---- the record behind it
 
@@ -49,24 +50,6 @@ fits-front s = ap (λ (ns : List ℕ). materialFits (getD ns 1 0) && eqb (getD n
 
 -- ---- refusals
 
-pub record Passed (f : List ℕ) : Type 0 where
-  pub long : badFrameLength f ≡ false
-  pub version : badFrameVersion f ≡ false
-  pub kind : badKind f ≡ false
-  pub console : frameConsole f < consoleCount
-
-pub passed : (f : List ℕ) → frameRefusal f ≡ 0 → Passed f
-unfolding frameRefusal badConsole
-passed f z = go (badFrameLength f) (badFrameVersion f) (badKind f) (badConsole f) refl refl refl refl z
-  where
-    go : (a b c d : Bool) → badFrameLength f ≡ a → badFrameVersion f ≡ b → badKind f ≡ c → badConsole f ≡ d
-        → _≡_ {A = ℕ} (elim a [ true ↦ 9 | false ↦ elim b [ true ↦ 10 | false ↦ elim c [ true ↦ 11 | false ↦ elim d [ true ↦ 25 | false ↦ 0 ] ] ] ]) 0 → Passed f
-    go true b c d ea eb ec ed e = let no : ⊥ = omega arith in absurd no
-    go false true c d ea eb ec ed e = let no : ⊥ = omega arith in absurd no
-    go false false true d ea eb ec ed e = let no : ⊥ = omega arith in absurd no
-    go false false false true ea eb ec ed e = let no : ⊥ = omega arith in absurd no
-    go false false false false ea eb ec ed e = record { long = ea; version = eb; kind = ec; console = leb-false consoleCount (frameConsole f) ed }
-
 -- What the four tests give.
 pub by-tests : (f : List ℕ) {a b c d : Bool} → badFrameLength f ≡ a → badFrameVersion f ≡ b → badKind f ≡ c → badConsole f ≡ d
     → frameRefusal f ≡ (elim a [ true ↦ 9 | false ↦ elim b [ true ↦ 10 | false ↦ elim c [ true ↦ 11 | false ↦ elim d [ true ↦ 25 | false ↦ 0 ] ] ] ])
@@ -77,27 +60,44 @@ pub long-enough : (f : List ℕ) → badFrameLength f ≡ false → 5 ≤ length
 unfolding badFrameLength
 long-enough f e = ltb-false (length f) 5 (neither-true (ltb (length f) 5) (not (eqb (frameNumber 0 f) (length f))) e .0)
 
--- The length that the kind and the version ask for: a head at least, and a Feed's record.
-kind-long : (f : List ℕ) → badKind f ≡ false → length f ≡ cond (eqb (frameKind f) 1) 13 5 + consoleBytes f
-unfolding badKind
-kind-long f e =
-    let size = cond (eqb (frameKind f) 1) 13 5 + consoleBytes f in
-    eqb-true (length f) size (both-true (leb 1 (frameKind f) && leb (frameKind f) 5) (eqb (length f) size) (not-false _ e) .1)
+-- By the version.
+pub version-one : (f : List ℕ) → badFrameLength f ≡ false → frameVersion f ≡ 1 → Versioned f 0 0
+unfolding badFrameVersion consoleBytes frameConsole
+version-one f sized v = record { sized = sized; known = rw v; from = rw v; bytes = rw v; head = long-enough f sized; few = omega arith }
 
-pub head-long : (f : List ℕ) → badKind f ≡ false → 5 + consoleBytes f ≤ length f
-head-long f e = go (eqb (frameKind f) 1) (kind-long f e)
+pub version-two : (f : List ℕ) (c : ℕ) → badFrameLength f ≡ false → frameVersion f ≡ 2 → c ≡ getD f 4 0 → Versioned f c 1
+unfolding badFrameVersion consoleBytes frameConsole
+version-two f c sized v e = record { sized = sized; known = rw v; from = rw v e; bytes = rw v; head = long-enough f sized; few = omega arith }
+
+pub version-unknown : (f : List ℕ) → frameVersion f ≢ 1 → frameVersion f ≢ 2 → badFrameVersion f ≡ true
+unfolding badFrameVersion
+version-unknown f one two = rw (ne-eqb (frameVersion f) 1 one, ne-eqb (frameVersion f) 2 two)
+
+-- The length that the kind and the version ask for: a head at least, and a Feed's record.
+pub kind-long : (f : List ℕ) (kind extra : ℕ) → kind ≡ frameKind f → extra ≡ consoleBytes f → extra ≤ 1 → badKind f ≡ false → Long f kind extra
+unfolding badKind
+kind-long f kind extra k x few e = record { head = go (eqb kind 1) long; feed = λ one. let all : length f ≡ 13 + extra = rw (eq-eqb kind 1 one) at long in omega arith; few = few }
   where
-    go : (t : Bool) → length f ≡ cond t 13 5 + consoleBytes f → 5 + consoleBytes f ≤ length f
+    long : length f ≡ cond (eqb kind 1) 13 5 + extra
+    long = rw (k, x) (eqb-true (length f) (cond (eqb (frameKind f) 1) 13 5 + consoleBytes f) (both-true (leb 1 (frameKind f) && leb (frameKind f) 5) (eqb (length f) (cond (eqb (frameKind f) 1) 13 5 + consoleBytes f)) (not-false _ e) .1))
+
+    go : (t : Bool) → length f ≡ cond t 13 5 + extra → 5 + extra ≤ length f
     go true q = omega arith
     go false q = omega arith
 
-pub feed-long : (f : List ℕ) → badKind f ≡ false → frameKind f ≡ 1 → 5 + consoleBytes f + 8 ≤ length f
-feed-long f e k = let long : length f ≡ 13 + consoleBytes f = rw (eq-eqb (frameKind f) 1 k) at (kind-long f e) in omega arith
+pub console-above : (f : List ℕ) (c : ℕ) → c ≡ frameConsole f → consoleCount ≤ c → badConsole f ≡ true
+unfolding badConsole
+console-above f c e above = rw (← e) (le-leb consoleCount c above)
 
--- A refused frame is refused by every line with the same number; of one that is not, its console's steps are looked at, and then what it asks.
+pub console-there : (f : List ℕ) (c : ℕ) → c ≡ frameConsole f → c < consoleCount → badConsole f ≡ false
+unfolding badConsole
+console-there f c e there = rw (← e) (lt-leb consoleCount c there)
+
+-- A refused frame is refused by every line with the same number.
 pub frame-refused : (f : List ℕ) (r : ℕ) → frameRefusal f ≡ r → r ≢ 0 → (l : Line) → refusal l f ≡ r
 unfolding refusal
 frame-refused f r e some l = rw (ne-eqb (frameRefusal f) 0 (λ z. some (sym e ∙ z)), refusal) e
 
-pub frame-passed : (f : List ℕ) → frameRefusal f ≡ 0 → (l : Line) → refusal l f ≡ (elim (noStepsLeft l (frameConsole f)) [ true ↦ 12 | false ↦ lineRefusal l (frameOf f) ])
-frame-passed f z l = formed-refusal l (record { formed = z; from = refl; asks = refl })
+-- What was read, by what it is known to be.
+pub read-as : {r : Reading} (q : Reading) (f : List ℕ) → r ≡ q → ReadAs r f → ReadAs q f
+read-as q f e h = subst (λ (x : Reading). ReadAs x f) e h

@@ -1,6 +1,7 @@
 -- What a read, the opening and a turn leave, by their cases.
 use Prim.Native.Nat.{ℕ, zero, suc, _+_, _-_, _≤_, _<_}
 use mathlib.Core.Path.{_≡_, refl, sym, ap, ap₂, subst, _∙_}
+use mathlib.Core.Bool.{true, true≢false}
 use mathlib.Core.List.{List, [], _++_}
 use native.Mathlib.Nat.{min-eq-left}
 use native.Mathlib.Omega.{arith}
@@ -10,14 +11,14 @@ use lib.Seq.{take-at, length-take-le}
 use Rattle.libc.specs.Io.{Moved}
 use Rattle.io.specs.Counts.{clamped}
 use Rattle.stream.specs.declared.Phase.{Phase}
-use Rattle.stream.specs.declared.Phase.the-variants.{Planning}
+use Rattle.stream.specs.declared.Phase.the-variants.{Planning, Framing, Ended}
 use Rattle.stream.specs.declared.Reader.{Reader}
 use Rattle.stream.specs.Reading.{taken, closed}
 use Rattle.stream.specs.Reader.{windowSize, readingOf, Holding, Gave, Finished}
 use Rattle.sheet.specs.declared.Got.{Got}
 use Rattle.sheet.specs.declared.Got.the-variants.{Bytes, End}
 use Rattle.sheet.specs.declared.Next.{Next}
-use Rattle.sheet.specs.Turned.{gotOf, Within, countOf, ReadBehind, Between, Went, Stopped, at-the-end, Turned}
+use Rattle.sheet.specs.Turned.{gotOf, Within, countOf, ReadBehind, Between, Went, isEnded, LastTurn, Turned}
 
 -- What is read behind the first bytes leaves them.
 pub kept-front : (w : List ℕ) (have : ℕ) → have ≤ length w → (x : List ℕ) → take have (take have w ++ x) ≡ take have w
@@ -52,7 +53,7 @@ was-got {w = w} {have = have} {window = window} e read = subst (λ (x : Got). Re
 
 -- What a read gave, handed on.
 module _ (r : Reader) {s w o came state out : List ℕ} {left : ℕ} where
-  pub went : (n : ℕ) {g : Got} {next : Reader} {window : List ℕ} → g ≡ Bytes n → ReadBehind w (r .have) came g → Between r left s
+  abbrev pub went : (n : ℕ) {g : Got} {next : Reader} {window : List ℕ} → g ≡ Bytes n → ReadBehind w (r .have) came g → Between r left s
       → Gave (taken (readingOf r s came) (take n (drop (r .have) came))) (r .count + r .have + n) s came o state window out next → Went r s w o next state window out
   went n e read can gave =
       let within = bytes-within n (r .have) e (read .within) in
@@ -64,10 +65,17 @@ module _ (r : Reader) {s w o came state out : List ℕ} {left : ℕ} where
       }
 
   pub ended : {wrote : ℕ} {g : Got} → g ≡ End → ReadBehind w (r .have) came g → Between r left s
-      → Finished (closed (readingOf r s came)) (taken (readingOf r s came) []) s o state out wrote → Stopped r s w o state came out
-  ended {wrote} e read can finished =
-      at-the-end wrote (was-got e read)
-      (record { kept = read .kept; asked = record { holding = can .holding; room = omega (arith, can .room); few = omega (arith, can .few) }; finished = finished })
+      → Finished (closed (readingOf r s came)) (taken (readingOf r s came) []) s o state out wrote → LastTurn r s w o wrote state came out
+  ended e read can finished =
+      record {
+        read = was-got e read;
+        ended = record { kept = read .kept; asked = record { holding = can .holding; room = omega (arith, can .room); few = omega (arith, can .few) }; finished = finished };
+      }
+
+pub is-ended : (p : Phase) → isEnded p ≡ true → p ≡ Ended
+is-ended Planning e = absurd (true≢false (sym e))
+is-ended Framing e = absurd (true≢false (sym e))
+is-ended Ended e = refl
 
 -- What a turn left, by what it answered.
 pub turned-as : {t : Next} (q : Reader) (s w o : List ℕ) (left : ℕ) (n : Next) (state window out : List ℕ) → t ≡ n → Turned q s w o left t state window out → Turned q s w o left n state window out

@@ -1,5 +1,6 @@
 // The program `sheet` (document 01, "The sheet"): standard input, block by block, gives the text on standard output. It only moves bytes.
 ghost use mathlib.Core.Path.{_≡_};
+ghost use mathlib.Core.Bool.{false};
 ghost use Prim.Native.Nat.{_≤_};
 ghost use lib.ListN.{length};
 ghost use Rattle.stream.specs.Reader.{windowSize};
@@ -24,10 +25,18 @@ pub enum Got {
     Failed,
 }
 
-// Whether another block is read, with what reader and what is left of the allowance.
+// Why a run ended: the sheet is whole, a read failed, a write failed, or the allowance is used up.
+pub enum Ending {
+    Whole,
+    Unread,
+    Unwritten,
+    TooLong,
+}
+
+// Another block is read, with what reader and what is left of the allowance; or the run ends.
 pub enum Next {
     On(Reader, usize),
-    Stop,
+    Stop(Ending),
 }
 
 // What a read's answer says, and so many bytes that came.
@@ -52,15 +61,15 @@ fn read_behind(window: &mut [u8], have: usize) -> Got
     got_of(answer, io::count(answer, &window[have..]))
 }
 
-// The text that was written, to standard output; no call is made for none.
+// The text that was written, to standard output; none never fails.
 fn write(out: &[u8], wrote: usize) -> bool
     requires { ⌜ wrote ≤ length (now out) ⌝ }
+    ensures { λ r. ⌜ (r ≡ false → 1 ≤ wrote) ⌝ }
 {
-    let is_written = io::write_all(STDOUT_FILENO, &out[..wrote]);
-    if !is_written {
-        os::fail(b"sheet: write");
+    if wrote == 0 {
+        return true;
     }
-    is_written
+    io::write_all(STDOUT_FILENO, &out[..wrote])
 }
 
 // "and no more", "ends reading"
@@ -90,48 +99,60 @@ fn turn(
     match got {
         Got::Bytes(n) => {
             let next = stream::take_block(reader, state, window, n, out);
-            let phase = next.phase;
-            if write(out, next.wrote) & !is_ended(phase) {
-                return Next::On(next, left - n);
+            if !write(out, next.wrote) {
+                return Next::Stop(Ending::Unwritten);
             }
+            let phase = next.phase;
+            if is_ended(phase) {
+                return Next::Stop(Ending::Whole);
+            }
+            let rest = left - n;
+            Next::On(next, rest)
         }
         Got::End => {
             let wrote = stream::finish(reader, state, window, out);
-            write(out, wrote);
+            if !write(out, wrote) {
+                return Next::Stop(Ending::Unwritten);
+            }
+            Next::Stop(Ending::Whole)
         }
-        Got::Failed => {
-            os::fail(b"sheet: read");
-        }
+        Got::Failed => Next::Stop(Ending::Unread),
     }
-    Next::Stop
 }
 
-fn too_long() {
-    io::write_all(STDERR_FILENO, b"sheet: input too long\n");
-}
-
-fn run(state: &mut [u8; Line::STATE_SIZE], window: &mut [u8; WINDOW], out: &mut [u8; OUT])
-    ensures { λ _. ⌜ Ran (now (state .entry)) (now (window .entry)) (now (out .entry)) (now (state .exit)) (now (window .exit)) (now (out .exit)) ⌝ }
+// The opening, and then block by block.
+fn run(state: &mut [u8; Line::STATE_SIZE], window: &mut [u8; WINDOW], out: &mut [u8; OUT]) -> Ending
+    ensures { λ r. ⌜ Ran (now (state .entry)) (now (window .entry)) (now (out .entry)) r (now (state .exit)) (now (window .exit)) (now (out .exit)) ⌝ }
 {
     let mut reader = stream::begin(out);
     if !write(out, reader.wrote) {
-        return;
+        return Ending::Unwritten;
     }
     let mut left = ALLOWANCE;
     while WINDOW <= left {
         let t = turn(reader, left, state, window, out);
-        let Next::On(next, rest) = t else {
-            return;
-        };
-        reader = next;
-        left = rest;
+        match t {
+            Next::On(next, rest) => {
+                reader = next;
+                left = rest;
+            }
+            Next::Stop(ending) => return ending,
+        }
     }
-    too_long();
+    Ending::TooLong
 }
 
 fn main() {
     let mut state = [0u8; Line::STATE_SIZE];
     let mut window = [0u8; WINDOW];
     let mut out = [0u8; OUT];
-    run(&mut state, &mut window, &mut out);
+    let ending = run(&mut state, &mut window, &mut out);
+    match ending {
+        Ending::Whole => {}
+        Ending::Unread => os::fail(b"sheet: read"),
+        Ending::Unwritten => os::fail(b"sheet: write"),
+        Ending::TooLong => {
+            io::write_all(STDERR_FILENO, b"sheet: input too long\n");
+        }
+    }
 }

@@ -15,17 +15,20 @@ use Rattle.plan.specs.Lawful.{Bytes}
 use Rattle.plan.specs.Plan.{Plan, planOf, planChannels, channelAt, channelCount}
 use Rattle.rules.specs.Lists.{isEmpty}
 use Rattle.rules.specs.Line.{stepLimit, Message, Line, laneAt, receiverOf, counted, consoleCount, stepsFrom}
-use Rattle.rules.specs.Frame.{Frame, take, frameOf, frameConsole, frameRefusal}
+use Rattle.rules.specs.Frame.{Frame, take, frameOf, frameRefusal}
 use Rattle.rules.specs.Step.{noStepsLeft, endDown, replaying, accepted, lineRefusal, refusal, step}
 use Rattle.rules.specs.Damaged.{damaged}
-use Rattle.rules.proofs.theorem.Accepted.{step-accepted, step-refused}
+use Rattle.rules.proofs.restart.Frames.{Formed, formed-refusal, formed-line}
+use Rattle.rules.proofs.theorem.Accepted.{step-refused}
 use Rattle.rules.proofs.undamaged.StepSound.{step-undamaged}
 use Rattle.state.specs.Sizes.{stepsOfAt}
 use Rattle.state.specs.State.{lineBytes, lineOf}
 use Rattle.state.proofs.InPlace.{line-plan}
 use Rattle.buffer.specs.Holds.{Holds, Undamaged, Did}
 use Rattle.buffer.proofs.HoldsLaws.{holds-again, holds-channels, count-put}
-use Rattle.frame.proofs.FrameLaws.{frame-refused, frame-passed, passed}
+use Rattle.frame.specs.declared.Frame.{Frame as FrameRead}
+use Rattle.frame.specs.Reading.{AskedBy}
+use Rattle.frame.proofs.FrameLaws.{frame-refused}
 use Rattle.passing.proofs.RefusalLaws.{refusal-first, refused}
 use Rattle.step.specs.Stepped.{Stepped}
 use Rattle.rules.proofs.theorem.Unmoved.{effect-steps}
@@ -81,40 +84,37 @@ module _ (s frame : List ℕ) (u : Undamaged s) where
     undamaged = u;
   }
 
-  pub frame-step : (r : ℕ) → r ≢ 0 → r ≡ frameRefusal frame → Stepped s frame s r
-  frame-step r other e = refused-step r other (frame-refused frame r (sym e) other (lineOf s))
+  pub frame-step : (r : ℕ) → (frameRefusal frame ≡ r) × (r ≢ 0) → Stepped s frame s r
+  frame-step r (e, other) = refused-step r other (frame-refused frame r e other (lineOf s))
 
-  module _ (well : frameRefusal frame ≡ 0) where
-    abbrev who : ℕ
-    who = frameConsole frame
+  module _ {c : ℕ} {f : FrameRead} (asked : AskedBy frame c f) where
+    formed : Formed frame c (frameOf frame)
+    formed = record { formed = asked .formed; from = sym (asked .from); asks = refl }
 
-    pub there : frameConsole frame < consoleCount
-    there = passed frame well .console
-
-    pub limit-step : stepLimit ≤ stepsFrom (lineOf s) (frameConsole frame) → Stepped s frame s 12
+    pub limit-step : stepLimit ≤ stepsFrom (lineOf s) c → Stepped s frame s 12
     unfolding noStepsLeft
-    limit-step full = refused-step 12 (λ z. omega arith) (frame-passed frame well (lineOf s) ∙ rw (le-leb stepLimit (stepsFrom (lineOf s) who) full))
+    limit-step full = refused-step 12 (λ z. omega arith) (formed-refusal (lineOf s) formed ∙ rw (le-leb stepLimit (stepsFrom (lineOf s) c) full))
 
-    module _ (left : stepsFrom (lineOf s) (frameConsole frame) < stepLimit) where
+    module _ (left : stepsFrom (lineOf s) c < stepLimit) where
       asks : refusal (lineOf s) frame ≡ lineRefusal (lineOf s) (frameOf frame)
       unfolding noStepsLeft
-      asks = frame-passed frame well (lineOf s) ∙ rw (lt-leb stepLimit (stepsFrom (lineOf s) who) left)
+      asks = formed-refusal (lineOf s) formed ∙ rw (lt-leb stepLimit (stepsFrom (lineOf s) c) left)
 
       pub kind-refused : (t : List ℕ) (r : ℕ) → r ≢ 0 → Did s (frameOf frame) t r → Stepped s frame t r
       kind-refused t r other did = subst (λ (x : List ℕ). Stepped s frame x r) (sym (did .refused other)) (refused-step r other (asks ∙ did .number))
 
       -- Accepted: the line that the kind leaves has its counts as they were.
-      pub few-left : (t : List ℕ) (r : ℕ) → r ≡ 0 → Did s (frameOf frame) t r → Holds t (lineOf t) × (stepsFrom (lineOf t) (frameConsole frame) < stepLimit)
+      pub few-left : (t : List ℕ) (r : ℕ) → r ≡ 0 → Did s (frameOf frame) t r → Holds t (lineOf t) × (c < consoleCount) × (stepsFrom (lineOf t) c < stepLimit)
       few-left t r z did =
           let (k, (leads, holds)) = did .done z in
-          (holds-again holds, rw (ap (λ (x : Line). x .steps) (holds .same) ∙ effect-steps (lineOf s) (frameOf frame) leads) left)
+          (holds-again holds, asked .there, rw (ap (λ (x : Line). x .steps) (holds .same) ∙ effect-steps (lineOf s) (frameOf frame) leads) left)
 
       -- Accepted: the effect, and one more step of the caller's.
-      pub kind-accepted : Bytes frame → (t v : List ℕ) (r : ℕ) → r ≡ 0 → Did s (frameOf frame) t r → Holds v (counted (frameConsole frame) (lineOf t)) → Stepped s frame v r
+      pub kind-accepted : Bytes frame → (t v : List ℕ) (r : ℕ) → r ≡ 0 → Did s (frameOf frame) t r → Holds v (counted c (lineOf t)) → Stepped s frame v r
       kind-accepted bytes t v r z did now =
           let zeroed : refusal (lineOf s) frame ≡ 0 = asks ∙ did .number ∙ z in
           let (k, (leads, holds)) = did .done z in
-          let line : counted who (lineOf t) ≡ step (lineOf s) frame .line = ap (counted who) (holds .same) ∙ sym (step-accepted (lineOf s) frame zeroed .1 ∙ ap (accepted who (lineOf s)) leads) in
+          let line : counted c (lineOf t) ≡ step (lineOf s) frame .line = ap (counted c) (holds .same) ∙ sym (formed-line (lineOf s) formed zeroed ∙ ap (accepted c (lineOf s)) leads) in
           let right : Holds v (step (lineOf s) frame .line) = subst (Holds v) line now in
           record {
             number = z ∙ sym zeroed;

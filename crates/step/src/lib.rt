@@ -11,6 +11,7 @@ use buffer::bytes;
 use buffer::layout;
 use buffer::look;
 use frame::Frame;
+use frame::Reading;
 
 // Take: what both kinds of receivers are asked, then the one that there is.
 fn take(s: &mut [u8], b: usize) -> u32
@@ -60,18 +61,19 @@ pub fn step(s: &mut [u8], frame: &[u8]) -> u32
     requires { ⌜ Undamaged (now s) ⌝ }
     ensures { λ r. ⌜ Stepped (now (s .entry)) (now (frame .entry)) (now (s .exit)) r ⌝ }
 {
-    let refusal = frame::refusal_of(frame);
-    if refusal != 0 {
-        return refusal;
+    let reading = frame::read(frame);
+    match reading {
+        Reading::Refused(refusal) => refusal,
+        Reading::WellFormed(console, f) => {
+            if Line::STEP_LIMIT <= look::steps_from(s, console) {
+                return 12;
+            }
+            let number = asked(s, f);
+            if number != 0 {
+                return number;
+            }
+            count_step(s, console);
+            number
+        }
     }
-    let console = frame::console_of(frame);
-    if Line::STEP_LIMIT <= look::steps_from(s, console) {
-        return 12;
-    }
-    let number = asked(s, frame::frame_of(frame));
-    if number != 0 {
-        return number;
-    }
-    count_step(s, console);
-    number
 }

@@ -1,4 +1,5 @@
 use Prim.Native.Nat.{_-_}
+use mathlib.Core.Path.{_∙_}
 use native.Mathlib.Omega.{arith}
 use borrow.Author.Needs.{needs}
 use mir.Syntax.{w64}
@@ -20,6 +21,7 @@ returns c =
     let fits : SFits w64 (read .result) = record { sfits = read .ok } in
     let moved : Moved (windowSize - have) (read .result) = rw (behind-long (start .args .window .now) have (start .pre .1)) at (read .ensures) in
     record {
+      sized = c .before .before .before .before .before .window .given .1 ∙ start .pre .1;
       kept = kept-front (start .args .window .now) have (start .pre .0) _;
       answer = read .result;
       moved = moved;

@@ -1,95 +1,84 @@
-use Prim.Native.Nat.{ℕ, _<_}
-use mathlib.Core.Path.{_≡_, sym, _∙_}
-use mathlib.Core.List.{List}
+use Prim.Native.Nat.{_<_}
 use native.Mathlib.Omega.{arith}
 use borrow.Author.Needs.{needs}
 use Rattle.plan.proofs.BytesLaws.{bytes-known}
 use Rattle.rules.specs.Line.{stepLimit, stepsFrom}
-use Rattle.rules.specs.Frame.{frameConsole, frameOf, frameRefusal}
+use Rattle.rules.specs.Frame.{frameOf}
 use Rattle.state.specs.State.{lineOf}
-use Rattle.buffer.specs.Holds.{Did}
-use Rattle.frame.proofs.FrameLaws.{passed, long-enough}
-use Rattle.step.proofs.StepLaws.{frame-step, there, limit-step, kind-refused, kind-accepted, few-left}
+use Rattle.frame.specs.declared.Reading.the-variants.{Refused, WellFormed}
+use Rattle.frame.proofs.FrameLaws.{read-as}
+use Rattle.step.proofs.StepLaws.{frame-step, limit-step, kind-refused, kind-accepted, few-left}
 use Rattle.step.proofs.step.Statement.{statement}
 use Rattle.step.proofs.step.Tie as tie
 
-returns : tie.Need-returns
-returns c =
-    let start = c .before .before .before .before in
-    frame-step (start .args .s .now) (start .args .frame .now) (start .pre) (c .before .refusal-of .result) (c .if1 .taken) (c .before .refusal-of .ensures)
-
-console-of-requires : tie.Need-console-of-requires
-console-of-requires c κs =
-    let frame : List ℕ = c .before .before .before .before .args .frame .now in
-    long-enough frame (passed frame (sym (c .before .refusal-of .ensures) ∙ c .if1 .left) .long)
+frame-refused : tie.Need-returns-3
+frame-refused c =
+    let at = c .before in
+    let start = at .before .before .before .before .before in
+    let is = at .reading .given in
+    frame-step (start .args .s .now) (start .args .frame .now) (start .pre) (is .0 .0) (read-as (Refused (is .0 .0)) (start .args .frame .now) (is .1) (at .before .before .read .ensures))
 
 steps-from-requires : tie.Need-steps-from-requires
 steps-from-requires c κs =
-    let k = c .before in
-    let start = k .before .before .before .before .before in
-    let s : List ℕ = start .args .s .now in
-    let frame : List ℕ = start .args .frame .now in
-    let well : frameRefusal frame ≡ 0 = sym (k .before .before .refusal-of .ensures) ∙ k .before .if1 .left in
-    (start .pre .holds .ready, rw (k .console-of .ensures) (there s frame (start .pre) well))
+    let at = c .before .before in
+    let start = at .before .before .before .before .before in
+    let is = at .reading2 .given in
+    (start .pre .holds .ready, read-as (WellFormed (is .0 .0) (is .0 .1 .0)) (start .args .frame .now) (is .1) (at .before .before .read .ensures) .there)
 
-returns-2 : tie.Need-returns-2
-returns-2 c =
-    let k = c .before .before .before in
-    let start = k .before .before .before .before .before in
-    let s : List ℕ = start .args .s .now in
-    let frame : List ℕ = start .args .frame .now in
-    let well : frameRefusal frame ≡ 0 = sym (k .before .before .refusal-of .ensures) ∙ k .before .if1 .left in
-    limit-step s frame (start .pre) well (rw (sym (k .console-of .ensures)) (omega (arith, c .if2 .taken, c .before .steps-from .ensures)))
+no-steps-left : tie.Need-returns
+no-steps-left c =
+    let at = c .before .before .before .before in
+    let start = at .before .before .before .before .before in
+    let is = at .reading2 .given in
+    let asked = read-as (WellFormed (is .0 .0) (is .0 .1 .0)) (start .args .frame .now) (is .1) (at .before .before .read .ensures) in
+    limit-step (start .args .s .now) (start .args .frame .now) (start .pre) asked (omega (arith, c .if1 .taken, c .before .steps-from .ensures))
 
-returns-3 : tie.Need-returns-3
-returns-3 c =
-    let k = c .before .before .before .before .before .before .before .before .before in
-    let start = k .before .before .before .before .before in
-    let s : List ℕ = start .args .s .now in
-    let frame : List ℕ = start .args .frame .now in
-    let well : frameRefusal frame ≡ 0 = sym (k .before .before .refusal-of .ensures) ∙ k .before .if1 .left in
-    let left : stepsFrom (lineOf s) (frameConsole frame) < stepLimit = rw (sym (k .console-of .ensures)) (omega (arith, c .before .before .before .before .before .before .if2 .left, c .before .before .before .before .before .before .before .steps-from .ensures)) in
-    let did : Did s (frameOf frame) (c .before .before .before .asked .last .0) (c .before .before .before .asked .result) = c .before .before .before .asked .ensures (frameOf frame) (c .before .before .before .before .frame-of .ensures) in
-    kind-refused s frame (start .pre) well left (c .before .before .before .asked .last .0) (c .before .before .before .asked .result) (c .if3 .taken) did
+line-refused : tie.Need-returns-2
+line-refused c =
+    let did = c .before .before .before in
+    let at = did .before .before .before .before .before .before in
+    let start = at .before .before .before .before .before in
+    let is = at .reading2 .given in
+    let asked = read-as (WellFormed (is .0 .0) (is .0 .1 .0)) (start .args .frame .now) (is .1) (at .before .before .read .ensures) in
+    let left : stepsFrom (lineOf (start .args .s .now)) (is .0 .0) < stepLimit = omega (arith, did .before .before .if1 .left, did .before .before .before .steps-from .ensures) in
+    kind-refused (start .args .s .now) (start .args .frame .now) (start .pre) asked left (did .asked .last .0) (did .asked .result) (c .if2 .taken) (did .asked .ensures (frameOf (start .args .frame .now)) (asked .asks))
 
 count-step-requires : tie.Need-count-step-requires
 count-step-requires c κs =
-    let k = c .before .before .before .before .before .before .before .before .before .before in
-    let start = k .before .before .before .before .before in
-    let s : List ℕ = start .args .s .now in
-    let frame : List ℕ = start .args .frame .now in
-    let well : frameRefusal frame ≡ 0 = sym (k .before .before .refusal-of .ensures) ∙ k .before .if1 .left in
-    let left : stepsFrom (lineOf s) (frameConsole frame) < stepLimit = rw (sym (k .console-of .ensures)) (omega (arith, c .before .before .before .before .before .before .before .if2 .left, c .before .before .before .before .before .before .before .before .steps-from .ensures)) in
-    let did : Did s (frameOf frame) (c .before .before .before .before .asked .last .0) (c .before .before .before .before .asked .result) = c .before .before .before .before .asked .ensures (frameOf frame) (c .before .before .before .before .before .frame-of .ensures) in
-    let (holds, few) = few-left s frame (start .pre) well left (c .before .before .before .before .asked .last .0) (c .before .before .before .before .asked .result) (c .before .if3 .left) did in
-    (holds, rw (k .console-of .ensures) (there s frame (start .pre) well), rw (k .console-of .ensures) few)
+    let did = c .before .before .before .before in
+    let at = did .before .before .before .before .before .before in
+    let start = at .before .before .before .before .before in
+    let is = at .reading2 .given in
+    let asked = read-as (WellFormed (is .0 .0) (is .0 .1 .0)) (start .args .frame .now) (is .1) (at .before .before .read .ensures) in
+    let left : stepsFrom (lineOf (start .args .s .now)) (is .0 .0) < stepLimit = omega (arith, did .before .before .if1 .left, did .before .before .before .steps-from .ensures) in
+    few-left (start .args .s .now) (start .args .frame .now) (start .pre) asked left (did .asked .last .0) (did .asked .result) (c .before .if2 .left) (did .asked .ensures (frameOf (start .args .frame .now)) (asked .asks))
 
-returns-4 : tie.Need-returns-4
-returns-4 c =
-    let k = c .before .before .before .before .before .before .before .before .before .before .before .before .before in
-    let start = k .before .before .before .before .before in
-    let s : List ℕ = start .args .s .now in
-    let frame : List ℕ = start .args .frame .now in
-    let well : frameRefusal frame ≡ 0 = sym (k .before .before .refusal-of .ensures) ∙ k .before .if1 .left in
-    let left : stepsFrom (lineOf s) (frameConsole frame) < stepLimit = rw (sym (k .console-of .ensures)) (omega (arith, c .before .before .before .before .before .before .before .before .before .before .if2 .left, c .before .before .before .before .before .before .before .before .before .before .before .steps-from .ensures)) in
-    let did : Did s (frameOf frame) (c .before .before .before .before .before .before .before .asked .last .0) (c .before .before .before .before .before .before .before .asked .result) = c .before .before .before .before .before .before .before .asked .ensures (frameOf frame) (c .before .before .before .before .before .before .before .before .frame-of .ensures) in
-    kind-accepted s frame (start .pre) well left (bytes-known frame (λ i. k .before .before .before .shared-slice-known .given i .fits)) (c .before .before .before .before .before .before .before .asked .last .0) (c .before .before .count-step .last .0) (c .before .before .before .before .before .before .before .asked .result)
-    (c .before .before .before .before .if3 .left) did (rw (sym (k .console-of .ensures)) (c .before .before .count-step .ensures))
+accepted : tie.Need-returns-4
+accepted c =
+    let counted = c .before .before in
+    let did = counted .before .before .before .before .before in
+    let at = did .before .before .before .before .before .before in
+    let start = at .before .before .before .before .before in
+    let is = at .reading2 .given in
+    let asked = read-as (WellFormed (is .0 .0) (is .0 .1 .0)) (start .args .frame .now) (is .1) (at .before .before .read .ensures) in
+    let left : stepsFrom (lineOf (start .args .s .now)) (is .0 .0) < stepLimit = omega (arith, did .before .before .if1 .left, did .before .before .before .steps-from .ensures) in
+    let bytes = bytes-known (start .args .frame .now) (λ i. at .before .before .before .shared-slice-known .given i .fits) in
+    kind-accepted (start .args .s .now) (start .args .frame .now) (start .pre) asked left bytes (did .asked .last .0) (counted .count-step .last .0) (did .asked .result) (counted .before .before .if2 .left) (did .asked .ensures (frameOf (start .args .frame .now)) (asked .asks)) (counted .count-step .ensures)
 
 pub step-spec : {M : Type 1} → statement M
 step-spec =
     tie.close
     (tie.spec
     (λ c κs. tt)
-    returns
-    console-of-requires
+    (λ c. search needs)
+    (λ c. search needs)
     steps-from-requires
     (λ c. search needs)
-    returns-2
-    (λ c κs. sym (c .before .before .before .before .before .before .refusal-of .ensures) ∙ c .before .before .before .before .before .if1 .left)
+    no-steps-left
     (λ c κs. c .before .before .before .before .before .before .before .before .before .before .pre)
     (λ c. search needs)
-    returns-3
+    line-refused
     count-step-requires
+    frame-refused
     (λ c. search needs)
-    returns-4)
+    accepted)
