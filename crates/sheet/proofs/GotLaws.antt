@@ -1,14 +1,12 @@
 -- A read's answer by its sign.
 use Prim.Native.Nat.{ℕ, zero, suc}
-use mathlib.Core.Path.{_≡_, refl, sym}
+use mathlib.Core.Path.{_≡_, refl}
 use mathlib.Core.Logic.{_≢_}
 use mathlib.Core.Bool.{true, false, true≢false}
 use native.Mathlib.Omega.{arith}
 use lib.IntN.{ℤ, pos, negsuc}
-use lib.Dec.{ltb}
 use lib.Signed.{ltZ}
 use borrow.Author.Tests.{ltb-true}
-use Rattle.sheet.specs.declared.Got.{Got}
 use Rattle.sheet.specs.declared.Got.the-variants.{Bytes, End, Failed}
 use Rattle.sheet.specs.Turned.{gotOf}
 

@@ -13,7 +13,7 @@ use Rattle.stream.specs.Blocks.{Calls, one-more, the-end, no-more}
 use Rattle.stream.proofs.CallsLaws.{calls-write-the-sheet}
 use Rattle.sheet.specs.declared.Ending.{Ending}
 use Rattle.sheet.specs.Turned.{Went, Stopped, complete, at-the-end, read-failed, block-unwritten, last-unwritten}
-use Rattle.sheet.specs.Ran.{Turns, no-turn, more, turnsRead, turnsText, SoFar, readIn, textIn, Ran, whole-before-the-end, whole-at-the-end, unread, unwritten, unwritten-at-the-end}
+use Rattle.sheet.specs.Ran.{Turns, no-turn, more, turnsRead, turnsText, SoFar, readIn, textIn, Ran, whole-before-the-end, whole-at-the-end, unread-after, unwritten-after, unwritten-at-the-end}
 
 turns-calls : {r q : Reader} {s w o t v u text : List ℕ} {blocks : List (List ℕ)} (turns : Turns r s w o q t v u) → Calls q t v u blocks text
     → (all : List (List ℕ)) × (Calls r s w o all (turnsText turns ++ text) × (joined all ≡ turnsRead turns ++ joined blocks))
@@ -34,14 +34,14 @@ so-far {front = front} {start = start} begun turns = record { start = start; fro
 one-turn-more : {s w o : List ℕ} {q next : Reader} {t v u state window out : List ℕ} → SoFar s w o q t v u → Went q t v u next state window out → SoFar s w o next state window out
 one-turn-more run went = so-far (run .begun) (more (run .turns) went)
 
-pub stopped : {s w o : List ℕ} {q : Reader} {t v u : List ℕ} {why : Ending} {state window out : List ℕ} → SoFar s w o q t v u → Stopped q t v u why state window out → Ran s w o why state window out
-stopped run (complete went e) =
+pub ran-by : {s w o : List ℕ} {q : Reader} {t v u : List ℕ} {why : Ending} {state window out : List ℕ} → SoFar s w o q t v u → Stopped q t v u why state window out → Ran s w o why state window out
+ran-by run (complete went e) =
     let all = one-turn-more run went in
     whole-before-the-end all e (λ rest. sym (append-nil (textIn all)) ∙ run-writes {blocks = rest ∷ []} all (no-more e) ∙ rw append-nil)
-stopped run (at-the-end last) = whole-at-the-end run last (run-writes run (the-end (last .ended)) ∙ rw append-nil)
-stopped run (read-failed read) = unread run read
-stopped run (block-unwritten went some) = unwritten (one-turn-more run went) some
-stopped run (last-unwritten last some) = unwritten-at-the-end run last some
+ran-by run (at-the-end last) = whole-at-the-end run last (run-writes run (the-end (last .ended)) ∙ rw append-nil)
+ran-by run (read-failed read) = unread-after run read
+ran-by run (block-unwritten went some) = unwritten-after (one-turn-more run went) some
+ran-by run (last-unwritten last some) = unwritten-at-the-end run last some
 
 -- What a turn read is as long as it was told.
 pub one-turn-longer : {r q next : Reader} {s w o t v u state window out : List ℕ} (turns : Turns r s w o q t v u) (went : Went q t v u next state window out) → length (turnsRead (more turns went)) ≡ length (turnsRead turns) + went .n

@@ -47,9 +47,9 @@ pub data Ran (s w o : List ℕ) : Ending → List ℕ → List ℕ → List ℕ 
   -- Whole: a read told the end of the input; the text, the last text included, is the sheet of what was read.
   whole-at-the-end : {q : Reader} {t v u state window out : List ℕ} {wrote : ℕ} (run : SoFar s w o q t v u) → LastTurn q t v u wrote state window out → textIn run ++ take wrote out ≡ sheet (readIn run) → Ran s w o Whole state window out
   -- A read failed, and nothing was done behind it.
-  unread : {q : Reader} {state v window out : List ℕ} → SoFar s w o q state v out → ReadBehind v (q .have) window Failed → Ran s w o Unread state window out
+  unread-after : {q : Reader} {state v window out : List ℕ} → SoFar s w o q state v out → ReadBehind v (q .have) window Failed → Ran s w o Unread state window out
   -- The opening or a block's text was not written, or the last text was not: there was some.
-  unwritten : {q : Reader} {state window out : List ℕ} → SoFar s w o q state window out → 1 ≤ q .wrote → Ran s w o Unwritten state window out
+  unwritten-after : {q : Reader} {state window out : List ℕ} → SoFar s w o q state window out → 1 ≤ q .wrote → Ran s w o Unwritten state window out
   unwritten-at-the-end : {q : Reader} {t v u state window out : List ℕ} {wrote : ℕ} → SoFar s w o q t v u → LastTurn q t v u wrote state window out → 1 ≤ wrote → Ran s w o Unwritten state window out
   -- What was read leaves less than a window of the allowance.
-  too-long : {q : Reader} {state window out : List ℕ} (run : SoFar s w o q state window out) → allowance < length (readIn run) + windowSize → Ran s w o TooLong state window out
+  allowance-used : {q : Reader} {state window out : List ℕ} (run : SoFar s w o q state window out) → allowance < length (readIn run) + windowSize → Ran s w o TooLong state window out

@@ -6,9 +6,9 @@ use borrow.Author.Tests.{not-true}
 use lib.ListN.{length}
 use Rattle.sheet.specs.declared.Next.the-variants.{On, Stop}
 use Rattle.sheet.specs.Turned.{allowance, Between}
-use Rattle.sheet.specs.Ran.{Turns, no-turn, more, turnsRead, unwritten, too-long}
+use Rattle.sheet.specs.Ran.{Turns, no-turn, more, turnsRead, unwritten-after, allowance-used}
 use Rattle.sheet.proofs.TurnLaws.{turned-as, first-holding}
-use Rattle.sheet.proofs.RanLaws.{so-far, stopped, one-turn-longer}
+use Rattle.sheet.proofs.RanLaws.{so-far, ran-by, one-turn-longer}
 use Rattle.sheet.proofs.run.Statement.{statement}
 use Rattle.sheet.proofs.run.Tie as tie
 
@@ -20,7 +20,7 @@ abbrev μ-loop : tie.MeasureT-loop
 μ-loop state₀ window₀ out₀ reader₀ left₀ state window out reader left = left
 
 returns : tie.Need-returns Inv-loop μ-loop
-returns c = unwritten (so-far (c .before .before .before .before .begin .ensures) no-turn) (c .before .write .ensures (not-true (c .before .write .result) (c .if1 .taken)))
+returns c = unwritten-after (so-far (c .before .before .before .before .begin .ensures) no-turn) (c .before .write .ensures (not-true (c .before .write .result) (c .if1 .taken)))
 
 loop-holds : tie.Need-loop-holds Inv-loop μ-loop
 loop-holds c =
@@ -55,13 +55,13 @@ returns-2 c =
     let t = c .before .t2 .given in
     let looped = turned .before .before .before .before .before in
     let v = looped .loop in
-    stopped (so-far (looped .before .before .before .before .before .begin .ensures) (v .inv .1 .0))
+    ran-by (so-far (looped .before .before .before .before .before .begin .ensures) (v .inv .1 .0))
     (turned-as (v .reader) (v .state) (v .window) (v .out) (v .left) (Stop (t .0 .0)) (turned .turn .last .1 .1 .0) (turned .turn .last .1 .1 .1 .0) (turned .turn .last .1 .1 .1 .1 .0) (t .1) (turned .turn .ensures))
 
 returns-3 : tie.Need-returns-3 Inv-loop μ-loop
 returns-3 c =
     let looped = c .before in
-    too-long (so-far (looped .before .before .before .before .before .begin .ensures) (looped .loop .inv .1 .0)) (omega (arith, c .loop-test .left, looped .loop .inv .1 .1))
+    allowance-used (so-far (looped .before .before .before .before .before .begin .ensures) (looped .loop .inv .1 .0)) (omega (arith, c .loop-test .left, looped .loop .inv .1 .1))
 
 pub run-spec : {M : Type 1} → statement M
 run-spec =
