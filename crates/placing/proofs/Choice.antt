@@ -14,6 +14,10 @@ use Rattle.placing.specs.Walk.{Waiting, lastColumn, fixedHere, freeHere,
 abbrev pub rowOf : List (List Waiting) → ℕ → List Waiting
 rowOf rows r = getD rows r []
 
+-- A row that gives column c nothing: its next item is neither fixed there nor free with a floor below it.
+abbrev pub GivesNone : ℕ → List Waiting → Type 0
+GivesNone c ws = (fixedHere c ws ≡ false) × (freeHere c ws ≡ false)
+
 -- Of the rows counted from k: none has its next item fixed at column c, or row a is the first.
 abbrev FixedSays : ℕ → ℕ → List (List Waiting) → Option ℕ → Type 0
 FixedSays c k rows none = (r : ℕ) → fixedHere c (rowOf rows r) ≡ false
@@ -67,7 +71,7 @@ pub record FreeChosen (high c : ℕ) (rows : List (List Waiting)) (a : ℕ) : Ty
   pub least : (s : ℕ) → freeHere c (rowOf rows s) ≡ true → lastColumn high (rowOf rows a) ≤ lastColumn high (rowOf rows s)
 
 abbrev pub ChoiceSays : ℕ → ℕ → List (List Waiting) → Option ℕ → Type 0
-ChoiceSays high c rows none = (r : ℕ) → (fixedHere c (rowOf rows r) ≡ false) × (freeHere c (rowOf rows r) ≡ false)
+ChoiceSays high c rows none = (r : ℕ) → GivesNone c (rowOf rows r)
 ChoiceSays high c rows (some a) = (fixedHere c (rowOf rows a) ≡ true) ⊎ FreeChosen high c rows a
 
 choice-step : (high c : ℕ) (rows : List (List Waiting)) (x : Option ℕ) (f : Option Candidate) → FixedSays c 0 rows x → FreeSays high c 0 rows f → ChoiceSays high c rows (orElse x f)

@@ -12,6 +12,7 @@ mod ItemsLaws
 mod PrepareLaws
 mod WalkLaws
 mod SearchLaws
+mod ShutLaws
 mod OfferLaws
 mod Turn
 mod Formed

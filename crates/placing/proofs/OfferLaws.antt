@@ -1,53 +1,77 @@
--- What a row offers a column, as the code finds it at the row's next place.
-use Prim.Native.Nat.{ℕ, suc, _<_}
-use mathlib.Core.Path.{_≡_, refl, sym, ap, _∙_}
-use mathlib.Core.Logic.{_≢_}
+-- What a row offers a column, as the code finds it: what the offer tells of the row.
+use Prim.Native.Nat.{ℕ, _<_, _≤_}
+use mathlib.Core.Path.{_≡_, refl, ap, _∙_}
 use mathlib.Core.Bool.{Bool, true, false}
-use mathlib.Core.List.{List, [], _∷_}
+use mathlib.Core.List.{List}
 use native.Mathlib.Omega.{arith}
-use native.Mathlib.Decide.{decLt, ℕ-discrete}
 use lib.ListN.{length, getD}
-use borrow.Author.Tests.{lt-ltb, le-ltb, eq-eqb, ne-eqb}
-use Rattle.placing.specs.Item.{itemsOf, itemAt}
+use lib.Dec.{ltb, eqb}
+use borrow.Author.Tests.{ltb-true, ltb-false, eqb-true, eqb-false, lt-ltb}
+use Rattle.placing.specs.Item.{itemsOf}
 use Rattle.placing.specs.Walk.{lastColumn, fixedHere, freeHere}
-use Rattle.placing.specs.declared.Offer.the-variants.{Fixed, Free, Nothing}
-use Rattle.placing.specs.Places.{rowAt, rowFrom, RowsAtLeast, Ordered, offerBy, offerAt}
-use Rattle.placing.proofs.Rows.{from-head, from-none}
-use Rattle.placing.proofs.PrepareLaws.{row-is, fixed-is, floor-is, in-table, in-rows, sorted-table}
+use Rattle.placing.specs.declared.Offer.the-variants.{Fixed, Free, Passed, Nothing}
+use Rattle.placing.specs.Places.{rowAt, rowFrom, offerBy, offerAt}
+use Rattle.placing.proofs.PrepareLaws.{row-is}
+use Rattle.placing.proofs.ShutLaws.{Opens, Shut, fixed-here, free-here, shut-passed}
 
-module _ (high : ℕ) (rows times fixed floors lasts : List ℕ) (o : Ordered rows) (r i c : ℕ) (low : RowsAtLeast (itemsOf rows times fixed floors) r i)
-    (lasts-are : i < length rows → getD lasts i 0 ≡ lastColumn high (rowFrom (itemsOf rows times fixed floors) (rowAt (itemsOf rows times fixed floors) i) i)) where
-  nothing-there : (i < length rows → getD rows i 0 ≢ r) → rowFrom (itemsOf rows times fixed floors) r i ≡ []
-  nothing-there h = from-none (itemsOf rows times fixed floors) (sorted-table rows times fixed floors o) r i low (λ l e. h (in-rows rows times fixed floors l) (sym (row-is rows times fixed floors i (in-rows rows times fixed floors l)) ∙ e))
+never : {A : Type 0} → _≡_ {A = ℕ} 0 1 → A
+never z = let no : ⊥ = omega arith in absurd no
 
-  pub offer-is : offerAt rows fixed floors lasts r i c
-      ≡ offerBy true (fixedHere c (rowFrom (itemsOf rows times fixed floors) r i)) (freeHere c (rowFrom (itemsOf rows times fixed floors) r i)) (lastColumn high (rowFrom (itemsOf rows times fixed floors) r i))
+by-fixed : (b f g : Bool) (l : ℕ) → offerBy b f g l ≡ Fixed → (b ≡ true) × (f ≡ true)
+by-fixed true true g l e = (refl, refl)
+by-fixed true false true l e = never (cc)
+by-fixed true false false l e = never (cc)
+by-fixed false f g l e = never (cc)
+
+by-free : (b f g : Bool) (l v : ℕ) → offerBy b f g l ≡ Free v → (b ≡ true) × (f ≡ false) × (g ≡ true) × (v ≡ l)
+by-free true false true l v e = (refl, refl, refl, cc)
+by-free true true g l v e = never (cc)
+by-free true false false l v e = never (cc)
+by-free false f g l v e = never (cc)
+
+by-passed : (b f g : Bool) (l : ℕ) → offerBy b f g l ≡ Passed → (b ≡ true) × (f ≡ false) × (g ≡ false)
+by-passed true false false l e = (refl, refl, refl)
+by-passed true true g l e = never (cc)
+by-passed true false true l e = never (cc)
+by-passed false f g l e = never (cc)
+
+by-nothing : (b f g : Bool) (l : ℕ) → offerBy b f g l ≡ Nothing → b ≡ false
+by-nothing false f g l e = refl
+by-nothing true true g l e = never (cc)
+by-nothing true false true l e = never (cc)
+by-nothing true false false l e = never (cc)
+
+module _ {high : ℕ} {rows fixed floors : List ℕ} {r i c a : ℕ} (s : Shut high rows fixed floors r i c a) (inside : c ≤ high) (lasts : List ℕ) where
+  open-now : ltb a c ≡ true → (a < c) × Opens rows fixed floors r i a
+  open-now e = let l : a < c = ltb-true a c e in (l, s .opens (omega arith))
+
+  pub offer-fixed : offerAt fixed lasts a i c ≡ Fixed → (times : List ℕ) → fixedHere c (rowFrom (itemsOf rows times fixed floors) r i) ≡ true
   unfolding offerAt
-  offer-is =
-      let table = itemsOf rows times fixed floors in
-      elim (decLt i (length rows)) [
-        | no h ↦ rw (le-ltb i (length rows) (omega arith), nothing-there (λ l. absurd (h l)))
-        | yes l ↦ elim (ℕ-discrete (getD rows i 0) r) [
-          | no h ↦ rw (lt-ltb i (length rows) l, ne-eqb (getD rows i 0) r h, nothing-there (λ _. h))
-          | yes e ↦
-              (let row : rowAt table i ≡ r = row-is rows times fixed floors i l ∙ e in
-              let last : getD lasts i 0 ≡ lastColumn high (rowFrom table r i) = lasts-are l ∙ ap (λ (s : ℕ). lastColumn high (rowFrom table s i)) row in
-              let head : rowFrom table r i ≡ record { place = i; item = itemAt table i } ∷ rowFrom table r (suc i) = from-head table r i (in-table rows times fixed floors l) row in
-              rw (lt-ltb i (length rows) l, eq-eqb (getD rows i 0) r e, last, head, fixed-is rows times fixed floors i l, floor-is rows times fixed floors i l))
-        ]
-      ]
+  offer-fixed e times =
+      let (b, f) = by-fixed (ltb a c) (eqb (getD fixed i 0) c) (eqb (getD fixed i 0) 0) (getD lasts i 0) e in
+      let (_, o) = open-now b in
+      fixed-here rows fixed floors r i (o .there) (o .row) times c ∙ f
 
-pub offer-fixed : (f g : Bool) (l : ℕ) → offerBy true f g l ≡ Fixed → f ≡ true
-offer-fixed true g l e = refl
-offer-fixed false true l e = cc
-offer-fixed false false l e = cc
+  pub offer-free : (last : ℕ) → offerAt fixed lasts a i c ≡ Free last
+      → (times : List ℕ) → (i < length rows → getD lasts i 0 ≡ lastColumn high (rowFrom (itemsOf rows times fixed floors) (rowAt (itemsOf rows times fixed floors) i) i))
+      → (fixedHere c (rowFrom (itemsOf rows times fixed floors) r i) ≡ false) × (freeHere c (rowFrom (itemsOf rows times fixed floors) r i) ≡ true) × (last ≡ lastColumn high (rowFrom (itemsOf rows times fixed floors) r i))
+  unfolding offerAt
+  offer-free last e times lasts-are =
+      let (b, f, g, v) = by-free (ltb a c) (eqb (getD fixed i 0) c) (eqb (getD fixed i 0) 0) (getD lasts i 0) last e in
+      let (l, o) = open-now b in
+      let below : getD floors i 0 < c = omega (arith, o .by-floor (eqb-true (getD fixed i 0) 0 g)) in (
+        fixed-here rows fixed floors r i (o .there) (o .row) times c ∙ f,
+        free-here rows fixed floors r i (o .there) (o .row) times c ∙ (rw (g, lt-ltb (getD floors i 0) c below)),
+        v ∙ lasts-are (o .there) ∙ ap (λ (k : ℕ). lastColumn high (rowFrom (itemsOf rows times fixed floors) k i)) (row-is rows times fixed floors i (o .there) ∙ o .row),
+      )
 
-pub offer-free : (f g : Bool) (l v : ℕ) → offerBy true f g l ≡ Free v → (f ≡ false) × (g ≡ true) × (v ≡ l)
-offer-free true g l v e = let z : _≡_ {A = ℕ} 0 1 = cc in let no : ⊥ = omega arith in absurd no
-offer-free false true l v e = (refl, refl, cc)
-offer-free false false l v e = let z : _≡_ {A = ℕ} 0 1 = cc in let no : ⊥ = omega arith in absurd no
+  pub offer-passed : offerAt fixed lasts a i c ≡ Passed → Shut high rows fixed floors r i c high
+  unfolding offerAt
+  offer-passed e =
+      let (b, f, g) = by-passed (ltb a c) (eqb (getD fixed i 0) c) (eqb (getD fixed i 0) 0) (getD lasts i 0) e in
+      let (l, o) = open-now b in
+      shut-passed high rows fixed floors r i c a l o (eqb-false (getD fixed i 0) 0 g) (eqb-false (getD fixed i 0) c f)
 
-pub offer-nothing : (f g : Bool) (l : ℕ) → offerBy true f g l ≡ Nothing → (f ≡ false) × (g ≡ false)
-offer-nothing true g l e = let z : _≡_ {A = ℕ} 0 1 = cc in let no : ⊥ = omega arith in absurd no
-offer-nothing false true l e = let z : _≡_ {A = ℕ} 0 1 = cc in let no : ⊥ = omega arith in absurd no
-offer-nothing false false l e = (refl, refl)
+  pub offer-nothing : offerAt fixed lasts a i c ≡ Nothing → c ≤ a
+  unfolding offerAt
+  offer-nothing e = ltb-false a c (by-nothing (ltb a c) (eqb (getD fixed i 0) c) (eqb (getD fixed i 0) 0) (getD lasts i 0) e)

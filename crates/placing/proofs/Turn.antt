@@ -2,25 +2,26 @@
 use Prim.Native.Nat.{ℕ, zero, suc, _+_, _-_, _<_, _≤_}
 use mathlib.Core.Path.{_≡_, refl, sym, ap, _∙_}
 use mathlib.Core.Logic.{_⊎_, inl, inr}
-use mathlib.Core.Bool.{true}
 use mathlib.Core.List.{List, [], _∷_}
 use mathlib.Core.Option.{Option, none, some}
 use native.Mathlib.Omega.{arith}
 use native.Mathlib.Numerals.{add-one}
 use lib.ListN.{length, getD, set, take, replicate, length-set}
+use lib.Seq.{getD-set-same, getD-set-other}
 use lib.Dec.{eqb}
 use borrow.Author.Tests.{eq-eqb}
 use Rattle.placing.specs.Item.{Item, itemsOf}
 use Rattle.placing.specs.Table.{mostItems, rowCount}
-use Rattle.placing.specs.Walk.{Waiting, Walk, lastColumn, fixedHere, freeHere, Candidate, sooner, orElse, chosenRow, placeIn, walk, begun, walked, noneWait, rowsOf}
+use Rattle.placing.specs.Walk.{Walk, Candidate, sooner, orElse, chosenRow, placeIn, walk, begun, walked, noneWait, rowsOf}
 use Rattle.placing.specs.declared.Offer.{Offer}
-use Rattle.placing.specs.declared.Offer.the-variants.{Fixed, Free, Nothing}
-use Rattle.placing.specs.Places.{rowFrom, RowsAtLeast, offerBy, offerAt, WalkAsks, WalkGives}
+use Rattle.placing.specs.declared.Offer.the-variants.{Fixed, Free, Passed, Nothing}
+use Rattle.placing.specs.Places.{rowFrom, RowsAtLeast, shutUntil, ShutRows, NextColumn, offerAt, WalkAsks, WalkGives}
 use Rattle.placing.proofs.AnswerLaws.{length-items}
 use Rattle.placing.proofs.PrepareLaws.{row-is, in-rows, sorted-table}
-use Rattle.placing.proofs.Choice.{rowOf}
-use Rattle.placing.proofs.OfferLaws.{offer-is, offer-fixed, offer-free, offer-nothing}
-use Rattle.placing.proofs.WalkLaws.{rowsNow, view, row-now, length-now, total, none-total, total-begun, walk-idle, walk-more, Step, step}
+use Rattle.placing.proofs.Choice.{rowOf, GivesNone, ChoiceSays, choice-says}
+use Rattle.placing.proofs.ShutLaws.{Shut, AllShut, shut-until, all-later, all-set, none-between}
+use Rattle.placing.proofs.OfferLaws.{offer-fixed, offer-free, offer-passed, offer-nothing}
+use Rattle.placing.proofs.WalkLaws.{rowsNow, view, row-now, length-now, total, none-total, total-begun, empty-columns, walk-idle, walk-more, Step, step}
 use Rattle.placing.proofs.SearchLaws.{Searched, search-begun, search-fixed, search-nothing, search-free, search-ended}
 
 -- The rows before r are searched, whatever the times.
@@ -52,44 +53,42 @@ searching-ended {high} {rows} {fixed} {floors} {next} {c} {best} {r} l s times =
     search-ended high c (rowsNow (itemsOf rows times fixed floors) next) r best (rw length-now l) (s .searched times)
 
 module _ {low high : ℕ} {rows fixed floors lasts next₀ work₀ next work : List ℕ} {left c : ℕ} (w : Walking low high rows fixed floors lasts next₀ work₀ next work left c) where
-  module _ {best : Option Candidate} {r : ℕ} (s : Searching high rows fixed floors next c best r) (l : r < 4) {o : Offer} (gives : o ≡ offerAt rows fixed floors lasts r (getD next r 0) c) where
-    rowNow : List ℕ → List Waiting
-    rowNow times = rowOf (rowsNow (itemsOf rows times fixed floors) next) r
-
-    offers : (times : List ℕ) → o ≡ offerBy true (fixedHere c (rowNow times)) (freeHere c (rowNow times)) (lastColumn high (rowNow times))
-    unfolding rowNow
-    offers times =
-        rw (gives, row-now (itemsOf rows times fixed floors) next r l)
-        (offer-is high rows times fixed floors lasts (w .asks .ordered) r (getD next r 0) c (w .lows times r l) (λ m. w .asks .prepared .lasts-are (getD next r 0) (omega arith) m times floors))
-
+  module _ {best : Option Candidate} {r : ℕ} (s : Searching high rows fixed floors next c best r) (l : r < 4) where
     there : (times : List ℕ) → r < length (rowsNow (itemsOf rows times fixed floors) next)
     there times = rw length-now l
 
-    pub turn-fixed : o ≡ Fixed → Chosen high rows fixed floors next c (some r)
-    unfolding rowNow
-    turn-fixed e times =
-        search-fixed high c (rowsNow (itemsOf rows times fixed floors) next) r best (there times) (s .searched times)
-        (offer-fixed (fixedHere c (rowNow times)) (freeHere c (rowNow times)) (lastColumn high (rowNow times)) (sym (offers times) ∙ e))
-
-    pub turn-nothing : o ≡ Nothing → Searching high rows fixed floors next c best (r + 1)
-    unfolding rowNow
-    turn-nothing e =
+    shut-here : {a : ℕ} → Shut high rows fixed floors r (getD next r 0) c a → c ≤ a → Searching high rows fixed floors next c best (r + 1)
+    shut-here one m =
         record {
           within = omega arith;
           searched = λ times.
-              (let t = offer-nothing (fixedHere c (rowNow times)) (freeHere c (rowNow times)) (lastColumn high (rowNow times)) (sym (offers times) ∙ e) in
+              (let t : GivesNone c (rowOf (rowsNow (itemsOf rows times fixed floors) next) r) = rw (row-now (itemsOf rows times fixed floors) next r l) (one .gives-none times c (omega arith) m) in
               search-nothing high c (rowsNow (itemsOf rows times fixed floors) next) r best (there times) (s .searched times) (t .0) (t .1));
         }
 
-    pub turn-free : (last : ℕ) → o ≡ Free last → Searching high rows fixed floors next c (sooner best (some (record { row = r; last = last }))) (r + 1)
-    unfolding rowNow
-    turn-free last e =
-        record {
-          within = omega arith;
-          searched = λ times.
-              (let t = offer-free (fixedHere c (rowNow times)) (freeHere c (rowNow times)) (lastColumn high (rowNow times)) last (sym (offers times) ∙ e) in
-              search-free high c (rowsNow (itemsOf rows times fixed floors) next) r best (there times) (s .searched times) (t .0) (t .1) last (t .2));
-        }
+    module _ {shut : List ℕ} (all : AllShut high rows fixed floors next c shut) (inside : c ≤ high) {o : Offer} (gives : o ≡ offerAt fixed lasts (getD shut r 0) (getD next r 0) c) where
+      pub turn-fixed : o ≡ Fixed → Chosen high rows fixed floors next c (some r)
+      turn-fixed e times =
+          search-fixed high c (rowsNow (itemsOf rows times fixed floors) next) r best (there times) (s .searched times)
+          (rw (row-now (itemsOf rows times fixed floors) next r l) (offer-fixed (all .each r l) inside lasts (sym gives ∙ e) times))
+
+      pub turn-free : (last : ℕ) → o ≡ Free last → Searching high rows fixed floors next c (sooner best (some (record { row = r; last = last }))) (r + 1)
+      turn-free last e =
+          record {
+            within = omega arith;
+            searched = λ times.
+                (let t = offer-free (all .each r l) inside lasts last (sym gives ∙ e) times (λ m. w .asks .prepared .lasts-are (getD next r 0) (omega arith) m times floors) in
+                let same = row-now (itemsOf rows times fixed floors) next r l in
+                search-free high c (rowsNow (itemsOf rows times fixed floors) next) r best (there times) (s .searched times) (rw same (t .0)) (rw same (t .1)) last (rw same (t .2)));
+          }
+
+      pub turn-passed : o ≡ Passed → Searching high rows fixed floors next c best (r + 1) × AllShut high rows fixed floors next c (set shut r high)
+      turn-passed e =
+          let one = offer-passed (all .each r l) inside lasts (sym gives ∙ e) in
+          (shut-here one inside, all-set next r high l (λ q h. refl) one all)
+
+      pub turn-nothing : o ≡ Nothing → Searching high rows fixed floors next c best (r + 1)
+      turn-nothing e = shut-here (all .each r l) (offer-nothing (all .each r l) inside lasts (sym gives ∙ e))
 
   stepOf : (a : ℕ) → Chosen high rows fixed floors next c (some a) → (times : List ℕ) → Step (itemsOf rows times fixed floors) next work a c
   stepOf a e times = step (itemsOf rows times fixed floors) (sorted-table rows times fixed floors (w .asks .ordered)) next work (w .next-long) (w .lows times) high c a (e times)
@@ -116,22 +115,41 @@ module _ {low high : ℕ} {rows fixed floors lasts next₀ work₀ next work : L
             w .same times ∙ walk-more high c s q ∙ ap (λ (o : Option ℕ). walk high (suc high - (c + 1)) (c + 1) (placeIn c o s)) (e times) ∙ ap (walk high (suc high - (c + 1)) (c + 1)) (stepOf a e times .placed));
       }
 
-  -- A column left empty.
-  pub column-empty : c ≤ high → Chosen high rows fixed floors next c none → Walking low high rows fixed floors lasts next₀ work₀ next work left (c + 1)
+  -- The columns up to d, to which no row gives anything.
+  pub columns-empty : (d : ℕ) → c ≤ d → d ≤ high + 1 → ((times : List ℕ) (e r : ℕ) → c ≤ e → e < d → GivesNone e (rowOf (rowsNow (itemsOf rows times fixed floors) next) r)) → Walking low high rows fixed floors lasts next₀ work₀ next work left d
   unfolding view
-  column-empty q e =
+  columns-empty d p q h =
       record {
         asks = w .asks;
         above = omega (arith, w .above);
-        within = omega arith;
+        within = q;
         next-long = w .next-long;
         work-long = w .work-long;
         lows = w .lows;
         left-is = w .left-is;
-        same = λ times.
-            (let s = view (itemsOf rows times fixed floors) next work in
-            w .same times ∙ walk-more high c s q ∙ ap (λ (o : Option ℕ). walk high (suc high - (c + 1)) (c + 1) (placeIn c o s)) (e times));
+        same = λ times. w .same times ∙ (rw there at (empty-columns high (d - c) c (view (itemsOf rows times fixed floors) next work) (omega arith) (λ e r m n. h times e r m (omega arith))));
       }
+    where
+      there : c + (d - c) ≡ d
+      there = omega arith
+
+  -- A column left empty.
+  pub column-empty : c ≤ high → Chosen high rows fixed floors next c none → Walking low high rows fixed floors lasts next₀ work₀ next work left (c + 1)
+  column-empty q e =
+      columns-empty (c + 1) (omega arith) (omega arith) (λ times k r m n.
+      (let same : k ≡ c = omega arith in
+      let says : ChoiceSays high c (rowsNow (itemsOf rows times fixed floors) next) none = rw (e times) at (choice-says high c (rowsNow (itemsOf rows times fixed floors) next)) in
+      rw same (says r)))
+
+  -- The next place of a row that gave its item.
+  pub shut-taken : (a : ℕ) {shut : List ℕ} → Chosen high rows fixed floors next c (some a) → AllShut high rows fixed floors next c shut
+      → AllShut high rows fixed floors (set next a (getD next a 0 + 1)) c (set shut a (shutUntil high rows fixed floors a (getD next a 0 + 1)))
+  shut-taken a {shut} e s =
+      let (four, _) = chosen-inside a e in
+      let after : ℕ = getD next a 0 + 1 in
+      let now : getD (set next a after) a 0 ≡ after = getD-set-same next a after 0 (omega (arith, w .next-long)) in
+      all-set (set next a after) a (shutUntil high rows fixed floors a after) four (λ q h. getD-set-other next a q after 0 h)
+      (rw now (shut-until high rows fixed floors a after (w .asks .ordered) (λ times. rw now at (stepOf a e times .lows a four)) c (omega (arith, w .above)))) s
 
   finished : (high < c) ⊎ (left ≡ 0) → (times : List ℕ) → walked low high (itemsOf rows times fixed floors) ≡ view (itemsOf rows times fixed floors) next work
   unfolding view
@@ -148,6 +166,11 @@ module _ {low high : ℕ} {rows fixed floors lasts next₀ work₀ next work : L
         placed-is = λ times. ap (λ (n : ℕ). eqb n 0) (w .left-is times) ∙ none-total (rowsNow (itemsOf rows times fixed floors) next) ∙ ap (λ (s : Walk). noneWait (s .waiting)) (sym (finished e times));
         columns-are = λ times. ap (λ (n : ℕ). take n work) (sym (length-items rows times fixed floors)) ∙ ap (λ (s : Walk). s .columns) (sym (finished e times));
       }
+
+-- The walk goes on at the next column: those before it stay empty.
+pub goes-on : {low high : ℕ} {rows fixed floors lasts next₀ work₀ next work shut : List ℕ} {left c d : ℕ} → Walking low high rows fixed floors lasts next₀ work₀ next work left (c + 1)
+    → AllShut high rows fixed floors next c shut → NextColumn high shut c d → Walking low high rows fixed floors lasts next₀ work₀ next work left d × AllShut high rows fixed floors next d shut
+goes-on {c = c} {d} w s n = (columns-empty w d (omega (arith, n .past)) (n .within) (none-between (all-later (c + 1) (omega arith) s) n), all-later d (omega (arith, n .past)) s)
 
 rows-begun : (table : List Item) (next : List ℕ) → ((r : ℕ) → r < 4 → rowFrom table r 0 ≡ rowFrom table r (getD next r 0)) → rowsOf table ≡ rowsNow table next
 unfolding rowsNow rowsOf rowFrom
@@ -177,6 +200,13 @@ walking-begun low high rows fixed floors lasts next work a =
 
     clear : (times : List ℕ) → replicate (length (itemsOf rows times fixed floors)) 0 ≡ take (length (itemsOf rows times fixed floors)) work
     clear times = rw length-items (sym (a .work-clear))
+
+pub shut-begun : {low high : ℕ} {rows fixed floors lasts next work shut : List ℕ} → WalkAsks low high rows fixed floors lasts next work → ShutRows high rows fixed floors next rowCount shut → AllShut high rows fixed floors next (low + 1) shut
+shut-begun {low} {high} {rows} {fixed} {floors} {next = next} a s =
+    record {
+      long = s .long;
+      each = λ r l. rw (s .until r l) (shut-until high rows fixed floors r (getD next r 0) (a .ordered) (λ times. a .prepared .begins r l times floors .low) (low + 1) (omega arith));
+    }
 
 pub take-replicate : (n m x : ℕ) → n ≤ m → take n (replicate m x) ≡ replicate n x
 take-replicate zero m x l = refl

@@ -2,13 +2,13 @@
 use Prim.Native.Nat.{ℕ, zero, suc, _+_, _-_, _<_, _≤_}
 use mathlib.Core.Path.{_≡_, refl, sym, ap, subst, _∙_}
 use mathlib.Core.Logic.{inl, inr}
-use mathlib.Core.Bool.{true}
+use mathlib.Core.Bool.{true, true≢false}
 use mathlib.Core.List.{List, [], _∷_}
 use mathlib.Core.Option.{Option, none, some}
 use native.Mathlib.Omega.{arith}
 use native.Mathlib.Decide.{ℕ-discrete}
 use native.Mathlib.Numerals.{add-one}
-use lib.ListN.{length, getD, set, take, length-set}
+use lib.ListN.{length, getD, set, take, length-set, List·getD-eq-default}
 use lib.Seq.{getD-set-same, getD-set-other, ext-getD, take-set-lt}
 use lib.Dec.{eqb}
 use borrow.Author.Tests.{ne-eqb}
@@ -17,7 +17,7 @@ use Rattle.placing.specs.Walk.{Waiting, Walk, inRow, consIf, rowsOf, cho
 use Rattle.placing.specs.Places.{rowAt, rowFrom, RowsAtLeast}
 use Rattle.placing.proofs.Rows.{Sorted, nil-cons, from-head, from-some, low-next}
 use Rattle.placing.proofs.Fits.{cons-first, cons-rest}
-use Rattle.placing.proofs.Choice.{rowOf, ChoiceSays, choice-says}
+use Rattle.placing.proofs.Choice.{rowOf, GivesNone, ChoiceSays, choice-says}
 use Rattle.placing.proofs.Complete.{fixed-next, free-next, took, none-waits}
 
 -- The walk that the arrays stand for.
@@ -35,6 +35,14 @@ row-now table next (suc (suc zero)) l = refl
 row-now table next (suc (suc (suc zero))) l = refl
 row-now table next (suc (suc (suc (suc r)))) l = let no : ⊥ = omega arith in absurd no
 
+pub length-now : (table : List Item) (next : List ℕ) → length (rowsNow table next) ≡ 4
+unfolding rowsNow
+length-now table next = refl
+
+-- Past the four rows nothing waits.
+pub row-past : (table : List Item) (next : List ℕ) (r : ℕ) → 4 ≤ r → rowOf (rowsNow table next) r ≡ []
+row-past table next r l = List·getD-eq-default (rowsNow table next) [] (rw length-now l)
+
 row-small : (table : List Item) (next : List ℕ) (r : ℕ) {w : Waiting} {ws : List Waiting} → rowOf (rowsNow table next) r ≡ w ∷ ws → r < 4
 unfolding rowsNow
 row-small table next zero e = omega arith
@@ -42,10 +50,6 @@ row-small table next (suc zero) e = omega arith
 row-small table next (suc (suc zero)) e = omega arith
 row-small table next (suc (suc (suc zero))) e = omega arith
 row-small table next (suc (suc (suc (suc r)))) e = absurd (nil-cons e)
-
-pub length-now : (table : List Item) (next : List ℕ) → length (rowsNow table next) ≡ 4
-unfolding rowsNow
-length-now table next = refl
 
 -- How many items wait.
 abbrev pub total : List (List Waiting) → ℕ
@@ -83,16 +87,31 @@ pub total-begun : (table : List Item) → ((j : ℕ) → j < length table → ro
 unfolding rowsOf
 total-begun table h = total-from 0 table h
 
--- A walk with nothing waiting stays as it is.
-none-chosen : (high c : ℕ) (rows : List (List Waiting)) → ((r : ℕ) → rowOf rows r ≡ []) → (o : Option ℕ) → ChoiceSays high c rows o → o ≡ none
+none-chosen : (high c : ℕ) (rows : List (List Waiting)) → ((r : ℕ) → GivesNone c (rowOf rows r)) → (o : Option ℕ) → ChoiceSays high c rows o → o ≡ none
 none-chosen high c rows h none says = refl
-none-chosen high c rows h (some a) (inl e) = absurd (nil-cons (sym (h a) ∙ fixed-next c (rowOf rows a) e .2))
-none-chosen high c rows h (some a) (inr f) = absurd (nil-cons (sym (h a) ∙ free-next c (rowOf rows a) (f .may) .2))
+none-chosen high c rows h (some a) (inl e) = absurd (true≢false (sym e ∙ h a .0))
+none-chosen high c rows h (some a) (inr f) = absurd (true≢false (sym (f .may) ∙ h a .1))
 
+-- A column that no row gives anything changes nothing of the walk.
+pub empty-column : (high n c : ℕ) (s : Walk) → ((r : ℕ) → GivesNone c (rowOf (s .waiting) r)) → walk high (suc n) c s ≡ walk high n (suc c) s
+empty-column high n c s h = rw (none-chosen high c (s .waiting) h (chosenRow high c (s .waiting)) (choice-says high c (s .waiting)))
+
+-- So the walk goes over m such columns at once.
+pub empty-columns : (high m c : ℕ) (s : Walk) → c + m ≤ suc high → ((e r : ℕ) → c ≤ e → e < c + m → GivesNone e (rowOf (s .waiting) r)) → walk high (suc high - c) c s ≡ walk high (suc high - (c + m)) (c + m) s
+empty-columns high zero c s l h = let e : c + 0 ≡ c = omega arith in rw e
+empty-columns high (suc m) c s l h =
+    let first : suc high - c ≡ suc (high - c) = omega arith in
+    let left : suc high - suc c ≡ high - c = omega arith in
+    let there : suc c + m ≡ c + suc m = omega arith in
+    (rw first (empty-column high (high - c) c s (λ r. h c r (omega arith) (omega arith))))
+    ∙ ap (λ (n : ℕ). walk high n (suc c) s) (sym left)
+    ∙ empty-columns high m (suc c) s (omega arith) (λ e r p q. h e r (omega arith) (omega arith))
+    ∙ ap (λ (d : ℕ). walk high (suc high - d) d s) there
+
+-- A walk with nothing waiting stays as it is.
 pub walk-idle : (high n c : ℕ) (s : Walk) → noneWait (s .waiting) ≡ true → walk high n c s ≡ s
 walk-idle high zero c s e = refl
-walk-idle high (suc n) c s e =
-    rw (none-chosen high c (s .waiting) (none-waits (s .waiting) e) (chosenRow high c (s .waiting)) (choice-says high c (s .waiting))) (walk-idle high n (suc c) s e)
+walk-idle high (suc n) c s e = empty-column high n c s (λ r. rw (none-waits (s .waiting) e r) (refl, refl)) ∙ walk-idle high n (suc c) s e
 
 -- One column of the walk.
 pub walk-more : (high c : ℕ) (s : Walk) → c ≤ high → walk high (suc high - c) c s ≡ walk high (suc high - (c + 1)) (c + 1) (placeIn c (chosenRow high c (s .waiting)) s)

@@ -1,7 +1,7 @@
 -- Where each row's items stand in a table, which the code goes by. Only the contracts of functions within the crate cite this.
-use Prim.Native.Nat.{ℕ, _<_, _≤_}
+use Prim.Native.Nat.{ℕ, _+_, _-_, _<_, _≤_}
 use mathlib.Core.Path.{_≡_}
-use mathlib.Core.Bool.{Bool, true, false, _&&_}
+use mathlib.Core.Bool.{Bool, true, false, cond, _&&_}
 use mathlib.Core.List.{List}
 use mathlib.Core.Option.{Option, none, some}
 use lib.ListN.{length, getD, take, drop, replicate}
@@ -10,7 +10,7 @@ use Rattle.placing.specs.Item.{Item, itemsOf, itemAt}
 use Rattle.placing.specs.Table.{mostItems, greatest, rowCount}
 use Rattle.placing.specs.Walk.{Waiting, Candidate, inRow, lastColumn, walked, noneWait}
 use Rattle.placing.specs.declared.Offer.{Offer}
-use Rattle.placing.specs.declared.Offer.the-variants.{Fixed, Free, Nothing}
+use Rattle.placing.specs.declared.Offer.the-variants.{Fixed, Free, Passed, Nothing}
 use Rattle.placing.specs.declared.Pick.{Pick}
 use Rattle.placing.specs.declared.Pick.the-variants.{Row, Empty}
 
@@ -64,16 +64,35 @@ pub record Aligned (rows fixed floors lasts : List ℕ) : Type 0 where
   pub floors-long : length floors ≡ length rows
   pub lasts-long : length lasts ≡ mostItems
 
--- What a row offers a column, by whether its next item is there, is fixed at the column, or is free with a floor below it.
+-- The last column that finds an item shut: its floor, or the one before its fixed column.
+abbrev pub shutBefore : ℕ → ℕ → ℕ
+shutBefore fixed floor = cond (eqb fixed 0) floor (fixed - 1)
+
+-- The last column that finds row r shut where its next place is i. Without an item there it stays shut.
+unfoldable pub shutUntil : ℕ → List ℕ → List ℕ → List ℕ → ℕ → ℕ → ℕ
+shutUntil high rows fixed floors r i = cond (ltb i (length rows) && eqb (getD rows i 0) r) (shutBefore (getD fixed i 0) (getD floors i 0)) high
+
+-- The first n rows are shut until these columns.
+pub record ShutRows (high : ℕ) (rows fixed floors next : List ℕ) (n : ℕ) (shut : List ℕ) : Type 0 where
+  pub long : length shut ≡ rowCount
+  pub until : (r : ℕ) → r < n → getD shut r 0 ≡ shutUntil high rows fixed floors r (getD next r 0)
+
+-- A column d past c, and every row is shut at the columns between.
+pub record NextColumn (high : ℕ) (shut : List ℕ) (c d : ℕ) : Type 0 where
+  pub past : c < d
+  pub within : d ≤ high + 1
+  pub between : (r e : ℕ) → r < rowCount → c < e → e < d → e ≤ getD shut r 0
+
+-- What a row offers a column, by whether it is open, its next item is fixed at the column, or is free.
 abbrev pub offerBy : Bool → Bool → Bool → ℕ → Offer
 offerBy false fixed free last = Nothing
 offerBy true true free last = Fixed
 offerBy true false true last = Free last
-offerBy true false false last = Nothing
+offerBy true false false last = Passed
 
--- What row r offers column c where its next place is i.
-unfoldable pub offerAt : List ℕ → List ℕ → List ℕ → List ℕ → ℕ → ℕ → ℕ → Offer
-offerAt rows fixed floors lasts r i c = offerBy (ltb i (length rows) && eqb (getD rows i 0) r) (eqb (getD fixed i 0) c) (eqb (getD fixed i 0) 0 && ltb (getD floors i 0) c) (getD lasts i 0)
+-- What a row that is shut up to the column `shut`, with its next place at i, offers column c.
+unfoldable pub offerAt : List ℕ → List ℕ → ℕ → ℕ → ℕ → Offer
+offerAt fixed lasts shut i c = offerBy (ltb shut c) (eqb (getD fixed i 0) c) (eqb (getD fixed i 0) 0) (getD lasts i 0)
 
 -- The candidate that the code's pick stands for.
 abbrev pub candidateOf : Pick → Option Candidate

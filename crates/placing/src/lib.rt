@@ -7,10 +7,10 @@ ghost use lib.Dec.{ltb, eqb};
 ghost use mathlib.Core.Bool.{cond};
 ghost use mathlib.Core.Option.{some};
 ghost use Rattle.placing.specs.Item.{itemsOf};
-ghost use Rattle.placing.specs.Table.{greatest, itemFits, comesAfter, itemsFit, malformed};
+ghost use Rattle.placing.specs.Table.{greatest, rowCount, itemFits, comesAfter, itemsFit, malformed};
 ghost use Rattle.placing.specs.Walk.{sooner};
 ghost use Rattle.placing.specs.Answer.{answer, columnsLeft};
-ghost use Rattle.placing.specs.Places.{Prepared, PrepareAsks, Aligned, offerAt, candidateOf, WalkAsks, WalkGives};
+ghost use Rattle.placing.specs.Places.{Prepared, PrepareAsks, shutUntil, ShutRows, NextColumn, offerAt, candidateOf, WalkAsks, WalkGives};
 
 // "at most 64 items"
 const MOST_ITEMS: usize = 64;
@@ -131,35 +131,79 @@ fn prepare(high: u32, rows: &[u32], fixed: &[u32], lasts: &mut [u32], next: &mut
     }
 }
 
-// What a row offers a column: its next item, fixed there or free with its last column, or nothing.
-enum Offer {
-    Fixed,
-    Free(u32),
-    Nothing,
-}
-
-// What row r, whose next place is i, offers column c.
-fn offered(
-    rows: &[u32],
-    fixed: &[u32],
-    floors: &[u32],
-    lasts: &[u32],
-    r: usize,
-    i: usize,
-    c: u32,
-) -> Offer
-    requires { ⌜ Aligned (now rows) (now fixed) (now floors) (now lasts) ⌝ }
-    ensures { λ o. ⌜ o ≡ offerAt (now (rows .entry)) (now (fixed .entry)) (now (floors .entry)) (now (lasts .entry)) r i c ⌝ }
+// The last column that finds row r shut, where its next place is i: its next item's floor, or the column before that
+// item's fixed one. A row with no item left stays shut.
+fn shut_until(high: u32, rows: &[u32], fixed: &[u32], floors: &[u32], r: usize, i: usize) -> u32
+    requires { ⌜ (length (now fixed) ≡ length (now rows)) × (length (now floors) ≡ length (now rows)) ⌝ }
+    ensures { λ s. ⌜ s ≡ shutUntil high (now (rows .entry)) (now (fixed .entry)) (now (floors .entry)) r i ⌝ }
 {
     if i < rows.len() {
         if row_number(rows[i]) == r {
-            if fixed[i] == c {
-                return Offer::Fixed;
+            if fixed[i] == 0 {
+                return floors[i];
             }
-            if (fixed[i] == 0) & (floors[i] < c) {
-                return Offer::Free(lasts[i]);
-            }
+            return fixed[i] - 1;
         }
+    }
+    high
+}
+
+// The last column that finds each row shut.
+fn shut_rows(high: u32, rows: &[u32], fixed: &[u32], floors: &[u32], next: &[usize]) -> [u32; ROWS]
+    requires { ⌜ (length (now fixed) ≡ length (now rows)) × (length (now floors) ≡ length (now rows)) × (length (now next) ≡ rowCount) ⌝ }
+    ensures { λ s. ⌜ ShutRows high (now (rows .entry)) (now (fixed .entry)) (now (floors .entry)) (now (next .entry)) rowCount s ⌝ }
+{
+    let mut shut = [high; ROWS];
+    let mut r: usize = 0;
+    while r < ROWS {
+        shut[r] = shut_until(high, rows, fixed, floors, r, next[r]);
+        r += 1;
+    }
+    shut
+}
+
+// The first column past c that finds a row open, or the one past the highest.
+fn next_column(high: u32, shut: &[u32; ROWS], c: u32) -> u32
+    requires { ⌜ (c ≤ high) × (high ≤ greatest) ⌝ }
+    ensures { λ d. ⌜ NextColumn high (now (shut .entry)) c d ⌝ }
+{
+    let mut least = high;
+    let mut r: usize = 0;
+    while r < ROWS {
+        let until = shut[r];
+        if until <= c {
+            return c + 1;
+        }
+        if until < least {
+            least = until;
+        }
+        r += 1;
+    }
+    least + 1
+}
+
+// What a row offers a column: its next item, fixed there or free with its last column; or nothing, as that item's fixed
+// column has passed, or as the row is still shut.
+enum Offer {
+    Fixed,
+    Free(u32),
+    Passed,
+    Nothing,
+}
+
+// What a row offers column c that is shut up to the column `shut` and has its next place at i.
+fn offered(fixed: &[u32], lasts: &[u32], shut: u32, i: usize, c: u32) -> Offer
+    requires { ⌜ (shut < c → (i < length (now fixed)) × (i < length (now lasts))) ⌝ }
+    ensures { λ o. ⌜ o ≡ offerAt (now (fixed .entry)) (now (lasts .entry)) shut i c ⌝ }
+{
+    if shut < c {
+        if fixed[i] == c {
+            return Offer::Fixed;
+        }
+        if fixed[i] == 0 {
+            return Offer::Free(lasts[i]);
+        }
+        return Offer::Passed;
     }
     Offer::Nothing
 }
@@ -198,6 +242,7 @@ fn walk(
     requires { ⌜ WalkAsks low high (now rows) (now fixed) (now floors) (now lasts) (now next) (now work) ⌝ }
     ensures { λ r. ⌜ WalkGives low high (now (rows .entry)) (now (fixed .entry)) (now (floors .entry)) r (now (work .exit)) ⌝ }
 {
+    let mut shut = shut_rows(high, rows, fixed, floors, next);
     let mut left = rows.len();
     let mut c = low + 1;
     while (0 < left) & (c <= high) {
@@ -208,7 +253,7 @@ fn walk(
             if r == ROWS {
                 break 'search best;
             }
-            let o = offered(rows, fixed, floors, lasts, r, next[r], c);
+            let o = offered(fixed, lasts, shut[r], next[r], c);
             match o {
                 Offer::Fixed => {
                     break 'search Pick::Row(r, c);
@@ -216,20 +261,21 @@ fn walk(
                 Offer::Free(last) => {
                     best = sooner(best, r, last);
                 }
+                Offer::Passed => {
+                    shut[r] = high;
+                }
                 Offer::Nothing => {}
             }
             r += 1;
         };
-        match chosen {
-            Pick::Row(row, _) => {
-                let i = next[row];
-                work[i] = c;
-                next[row] = i + 1;
-                left -= 1;
-            }
-            Pick::Empty => {}
+        if let Pick::Row(row, _) = chosen {
+            let i = next[row];
+            work[i] = c;
+            next[row] = i + 1;
+            shut[row] = shut_until(high, rows, fixed, floors, row, i + 1);
+            left -= 1;
         }
-        c += 1;
+        c = next_column(high, &shut, c);
     }
     left == 0
 }
