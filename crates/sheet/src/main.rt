@@ -61,7 +61,7 @@ fn read_behind(window: &mut [u8], have: usize) -> Got
     got_of(answer, io::count(answer, &window[have..]))
 }
 
-// The text that was written, to standard output; none never fails.
+// The text that was written, to standard output. An empty one is not written, and does not fail.
 fn write(out: &[u8], wrote: usize) -> bool
     requires { ⌜ wrote ≤ length (now out) ⌝ }
     ensures { λ r. ⌜ (r ≡ false → 1 ≤ wrote) ⌝ }
