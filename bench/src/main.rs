@@ -8,12 +8,15 @@ mod tables;
 use std::hint::black_box;
 use std::time::Instant;
 
-use model::placing::{self, ACCEPTED, GREATEST};
+use model::placing::{self, ACCEPTED, GREATEST, NO_PLACING};
 use model::random::Random;
 
 use tables::Input;
 
 const ROUNDS: usize = 41;
+
+/// A timing takes at least about so many nanoseconds.
+const LEAST_TIME: f64 = 1e6;
 
 type Place = fn(&Input, &mut [u32]) -> u32;
 
@@ -61,11 +64,17 @@ fn time(place: Place, inputs: &[Input], repeats: usize) -> f64 {
     start.elapsed().as_nanos() as f64 / (repeats * inputs.len()) as f64
 }
 
-fn assert_same(input: &Input) {
+/// How often the inputs are gone through in one timing.
+fn repeats(place: Place, inputs: &[Input]) -> usize {
+    let once = time(place, inputs, 1) * inputs.len() as f64;
+    (LEAST_TIME / once).ceil() as usize
+}
+
+fn assert_same(input: &Input, answer: u32) {
     let mut engine_columns = [0; placing::MOST_ITEMS];
     let mut model_columns = [0; placing::MOST_ITEMS];
-    assert_eq!(engine_place(input, &mut engine_columns), ACCEPTED);
-    assert_eq!(model_place(input, &mut model_columns), ACCEPTED);
+    assert_eq!(engine_place(input, &mut engine_columns), answer);
+    assert_eq!(model_place(input, &mut model_columns), answer);
     assert_eq!(engine_columns, model_columns);
 }
 
@@ -74,29 +83,31 @@ fn median(mut times: Vec<f64>) -> f64 {
     times[times.len() / 2]
 }
 
-fn report(name: &str, inputs: &[Input], repeats: usize) {
-    inputs.iter().for_each(assert_same);
+fn report(name: &str, inputs: &[Input], answer: u32) {
+    inputs.iter().for_each(|input| assert_same(input, answer));
+    let engine_repeats = repeats(engine_place, inputs);
+    let model_repeats = repeats(model_place, inputs);
     let mut engine_times = Vec::new();
     let mut model_times = Vec::new();
     for round in 0..ROUNDS {
         if round % 2 == 0 {
-            engine_times.push(time(engine_place, inputs, repeats));
-            model_times.push(time(model_place, inputs, repeats));
+            engine_times.push(time(engine_place, inputs, engine_repeats));
+            model_times.push(time(model_place, inputs, model_repeats));
         } else {
-            model_times.push(time(model_place, inputs, repeats));
-            engine_times.push(time(engine_place, inputs, repeats));
+            model_times.push(time(model_place, inputs, model_repeats));
+            engine_times.push(time(engine_place, inputs, engine_repeats));
         }
     }
-    let columns: u32 = inputs.iter().map(|input| input.high - input.low).sum();
-    let columns = f64::from(columns) / inputs.len() as f64;
+    let items: usize = inputs.iter().map(|input| input.rows.len()).sum();
+    let items = items as f64 / inputs.len() as f64;
     let (engine, model) = (median(engine_times), median(model_times));
     println!(
-        "{name:<38}{:>12.3}{:>12.3}{:>16.2}{:>12.3}{:>12.3}",
+        "{name:<38}{:>12.3}{:>12.3}{:>16.5}{:>12.1}{:>12.1}",
         engine / 1000.0,
         model / 1000.0,
         engine / model,
-        engine / columns,
-        model / columns
+        engine / items,
+        model / items
     );
 }
 
@@ -105,18 +116,34 @@ fn main() {
     println!("median of {ROUNDS} rounds");
     println!(
         "{:<38}{:>40}{:>24}",
-        "", "microseconds a call", "nanoseconds a column"
+        "", "microseconds a call", "nanoseconds an item"
     );
     println!(
         "{:<38}{:>12}{:>12}{:>16}{:>12}{:>12}",
-        "64 items", "engine", "model", "engine / model", "engine", "model"
+        "64 items, or as said", "engine", "model", "engine / model", "engine", "model"
     );
     let few = tables::few_columns(&mut random);
-    report("64..100 columns", &few, 20);
+    report("64..100 columns", &few, ACCEPTED);
     for (high, told) in [(1_000_000, "1,000,000"), (GREATEST, "4,000,000")] {
         let spread = tables::spread_items(&mut random, high);
-        report(&format!("{told} columns, spread over all"), &spread, 1);
+        report(
+            &format!("{told} columns, spread over all"),
+            &spread,
+            ACCEPTED,
+        );
         let late = tables::late_items(&mut random, high);
-        report(&format!("{told} columns, late ones crowded"), &late, 1);
+        report(
+            &format!("{told} columns, late ones crowded"),
+            &late,
+            ACCEPTED,
+        );
     }
+    for (high, told) in [(100, "100"), (GREATEST, "4,000,000")] {
+        let same = tables::stretched_items(high);
+        report(&format!("{told} columns, the same items"), &same, ACCEPTED);
+    }
+    let sparse = tables::sparse_items(&mut random, GREATEST);
+    report("4,000,000 columns, 8 items", &sparse, ACCEPTED);
+    let unplaceable = tables::unplaceable_items(&mut random, GREATEST);
+    report("4,000,000 columns, no placing", &unplaceable, NO_PLACING);
 }

@@ -1,4 +1,6 @@
-// The tables that are timed: 64 items, each with a placing.
+// The tables that are timed.
+
+use std::collections::BTreeSet;
 
 use model::placing::tables::{placeable, Table};
 use model::placing::{Item, MOST_ITEMS, ROWS};
@@ -51,23 +53,76 @@ pub fn late_items(random: &mut Random, high: u32) -> Vec<Input> {
     (0..4).map(|_| around(random, high, &columns)).collect()
 }
 
-/// Items held at the columns by a fixed column or by a floor.
+/// The same items for every `high`: 64 of 100 columns, stretched over all.
+pub fn stretched_items(high: u32) -> Vec<Input> {
+    let mut random = Random::new(2);
+    let table = |_| {
+        let columns = some_columns(&mut random, high, MOST_ITEMS);
+        around(&mut random, high, &columns)
+    };
+    (0..8).map(table).collect()
+}
+
+/// Few items, far from one another.
+pub fn sparse_items(random: &mut Random, high: u32) -> Vec<Input> {
+    let table = |_| {
+        let columns = some_columns(random, high, 8);
+        around(random, high, &columns)
+    };
+    (0..8).map(table).collect()
+}
+
+/// Two rows begin with an item fixed at one column, so that one of them waits
+/// to the end and no placing exists.
+pub fn unplaceable_items(random: &mut Random, high: u32) -> Vec<Input> {
+    let table = |_| {
+        let columns = some_columns(random, high, MOST_ITEMS - 2);
+        let mut parts = held_at(random, &columns);
+        for part in &mut parts[..2] {
+            part.insert(0, Item::default());
+            part[0].fixed = 1;
+        }
+        in_rows(high, parts)
+    };
+    (0..8).map(table).collect()
+}
+
+/// Some of 100 columns, stretched over all.
+fn some_columns(random: &mut Random, high: u32, count: usize) -> Vec<u32> {
+    let mut chosen = BTreeSet::new();
+    while chosen.len() < count {
+        chosen.insert(random.between(1, 100));
+    }
+    chosen.iter().map(|column| column * (high / 100)).collect()
+}
+
 fn around(random: &mut Random, high: u32, columns: &[u32]) -> Input {
+    let parts = held_at(random, columns);
+    in_rows(high, parts)
+}
+
+/// Items held at the columns by a fixed column or by a floor.
+fn held_at(random: &mut Random, columns: &[u32]) -> [Vec<Item>; ROWS] {
     let mut parts: [Vec<Item>; ROWS] = Default::default();
     for &column in columns {
         let row = random.index(ROWS);
-        let time = parts[row].len() as u32 + 1;
-        let (fixed, floor) = if random.one_in(4) {
-            (column, 0)
+        let mut item = Item::default();
+        if random.one_in(4) {
+            item.fixed = column;
         } else {
-            (0, column - 1)
-        };
-        parts[row].push(Item {
-            row: row as u32,
-            time,
-            fixed,
-            floor,
-        });
+            item.floor = column - 1;
+        }
+        parts[row].push(item);
+    }
+    parts
+}
+
+fn in_rows(high: u32, mut parts: [Vec<Item>; ROWS]) -> Input {
+    for (row, part) in parts.iter_mut().enumerate() {
+        for (index, item) in part.iter_mut().enumerate() {
+            item.row = row as u32;
+            item.time = index as u32 + 1;
+        }
     }
     Input::new(&Table {
         low: 0,

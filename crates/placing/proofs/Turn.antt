@@ -57,6 +57,7 @@ module _ {low high : ℕ} {rows fixed floors lasts next₀ work₀ next work : L
     there : (times : List ℕ) → r < length (rowsNow (itemsOf rows times fixed floors) next)
     there times = rw length-now l
 
+    -- A row that is shut at the column.
     shut-here : {a : ℕ} → Shut high rows fixed floors r (getD next r 0) c a → c ≤ a → Searching high rows fixed floors next c best (r + 1)
     shut-here one m =
         record {
@@ -141,7 +142,7 @@ module _ {low high : ℕ} {rows fixed floors lasts next₀ work₀ next work : L
       let says : ChoiceSays high c (rowsNow (itemsOf rows times fixed floors) next) none = rw (e times) at (choice-says high c (rowsNow (itemsOf rows times fixed floors) next)) in
       rw same (says r)))
 
-  -- The next place of a row that gave its item.
+  -- A row that gave its item is shut until its next one may be taken.
   pub shut-taken : (a : ℕ) {shut : List ℕ} → Chosen high rows fixed floors next c (some a) → AllShut high rows fixed floors next c shut
       → AllShut high rows fixed floors (set next a (getD next a 0 + 1)) c (set shut a (shutUntil high rows fixed floors a (getD next a 0 + 1)))
   shut-taken a {shut} e s =
@@ -201,6 +202,7 @@ walking-begun low high rows fixed floors lasts next work a =
     clear : (times : List ℕ) → replicate (length (itemsOf rows times fixed floors)) 0 ≡ take (length (itemsOf rows times fixed floors)) work
     clear times = rw length-items (sym (a .work-clear))
 
+-- The rows as they are shut at first.
 pub shut-begun : {low high : ℕ} {rows fixed floors lasts next work shut : List ℕ} → WalkAsks low high rows fixed floors lasts next work → ShutRows high rows fixed floors next rowCount shut → AllShut high rows fixed floors next (low + 1) shut
 shut-begun {low} {high} {rows} {fixed} {floors} {next = next} a s =
     record {
