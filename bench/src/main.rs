@@ -16,7 +16,7 @@ use tables::Input;
 const ROUNDS: usize = 41;
 
 /// A timing takes at least about so many nanoseconds.
-const LEAST_TIME: f64 = 1e6;
+const LEAST_TIME: f64 = 4e6;
 
 type Place = fn(&Input, &mut [u32]) -> u32;
 
