@@ -1,9 +1,10 @@
 use Prim.Native.Nat.{ℕ, _+_}
-use mathlib.Core.Path.{ap}
+use mathlib.Core.Path.{ap, subst}
 use borrow.Author.Needs.{needs}
-use Rattle.rules.specs.Line.{nodeAt}
+use Rattle.rules.specs.Line.{Node, nodeAt, withNode}
 use Rattle.state.specs.State.{lineOf}
 use Rattle.slots.specs.Slots.{originIs}
+use Rattle.buffer.specs.Holds.{Holds}
 use Rattle.buffer.proofs.HoldsLaws.{node-then}
 use Rattle.passing.proofs.FeedLaws.{logged-twice}
 use Rattle.passing.proofs.log_made.Statement.{statement}
@@ -19,7 +20,11 @@ returns c =
     let time = read .time-of .result + 1 in
     let x = nodeAt (lineOf (a .s .now)) (a .n) in
     let both = node-then (start .pre .at) (put .append-entry .ensures) (set .set-time .ensures) in
-    record { holds = rw (logged-twice (a .what) (originIs (a .made)) (originIs (a .before)) x time (ap (λ (t : ℕ). t + 1) (read .time-of .ensures))) at (both .holds); on = both .on }
+    record {
+      holds = subst (λ (y : Node). Holds (set .set-time .last .0) (withNode (a .n) y (lineOf (a .s .now))))
+          (logged-twice (a .what) (originIs (a .made)) (originIs (a .before)) x time (ap (λ (t : ℕ). t + 1) (read .time-of .ensures))) (both .holds);
+      on = both .on;
+    }
 
 pub log-made-spec : {M : Type 1} → statement M
 log-made-spec = tie.close (tie.spec (λ c κs. search needs) (λ c. search needs) (λ c κs. search needs) (λ c κs. search needs) (λ c. search needs) returns)
