@@ -19,6 +19,7 @@ pub mod Order
 pub mod undamaged
 -- A crashed node can always come back.
 pub mod restart
+pub mod trimming
 pub mod AlwaysBack
 -- Consoles: who sends a step does not matter to the line, and frames of version 1 are answered as before.
 pub mod console

@@ -10,4 +10,6 @@ pub mod Logs
 pub mod Heard
 pub mod Logging
 pub mod Rooms
+pub mod Trimmed
+pub mod Lows
 pub mod Limits

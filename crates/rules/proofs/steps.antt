@@ -7,3 +7,5 @@ pub mod SendInv
 pub mod TakeInv
 pub mod HoldInv
 pub mod CrashInv
+pub mod Floors
+pub mod TrimInv

@@ -13,10 +13,12 @@ pub mod LogSound
 pub mod FeedSound
 pub mod SendSound
 pub mod HeardLaws
+pub mod LowLaws
 pub mod TakeSound
 pub mod CrashSound
 pub mod PlacedLog
 pub mod EndSound
 pub mod HoldSound
 pub mod RecoverSound
+pub mod TrimSound
 pub mod StepSound

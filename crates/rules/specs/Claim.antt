@@ -6,7 +6,7 @@ use lib.Dec.{eqb}
 use Rattle.plan.specs.Record.{recordLayout}
 use Rattle.rules.specs.Lists.{isEmpty, keep, allOf, anyOf}
 use Rattle.rules.specs.Line.{Message, Line, nodeAt, laneAt, nodeNumbers, channelNumbersOf, senderOf, receiverOf, isUp}
-use Rattle.rules.specs.Frame.{Frame, feed, send, take, crash, recover, frameOf}
+use Rattle.rules.specs.Frame.{Frame, feed, send, take, crash, recover, trim, frameOf}
 use Rattle.rules.specs.Step.{step, sendable, isNothing}
 use Rattle.rules.specs.Plain.{Act, feeds, Receipt}
 
@@ -21,6 +21,7 @@ receiptOf l (send b) = []
 receiptOf l (take b) = firstReceipt l b (laneAt l b .queue)
 receiptOf l (crash n) = []
 receiptOf l (recover n) = []
+receiptOf l (trim n) = []
 
 -- An accepted Feed, as the plain line is fed.
 abbrev pub feedOf : Frame → List Act
@@ -29,6 +30,7 @@ feedOf (send b) = []
 feedOf (take b) = []
 feedOf (crash n) = []
 feedOf (recover n) = []
+feedOf (trim n) = []
 
 -- The node that an accepted Crash names.
 abbrev pub crashOf : Frame → List ℕ
@@ -37,6 +39,7 @@ crashOf (send b) = []
 crashOf (take b) = []
 crashOf (crash n) = n ∷ []
 crashOf (recover n) = []
+crashOf (trim n) = []
 
 abbrev pub named : ℕ → List ℕ → Bool
 named n ns = anyOf (eqb n) ns

@@ -32,7 +32,7 @@ nextToSend c mark (e ∷ log) = elim (ltb mark (e .time) && takes c (e .what)) [
 
 -- A message goes on the channel, and "the mark becomes its time".
 unfoldable pub sentOn : Entry → Lane → Lane
-sentOn e s = record { mark = e .time; taken = s .taken; heard = s .heard; queue = s .queue ++ messageOf e ∷ [] }
+sentOn e s = record { mark = e .time; taken = s .taken; heard = s .heard; queue = s .queue ++ messageOf e ∷ []; low = s .low }
 
 -- The entries for the sender's parents, raised by what a message was made from.
 abbrev pub raiseHeard : List ℕ → List ℕ → Origin → List ℕ
@@ -43,7 +43,7 @@ raiseHeard (p ∷ ps) (h ∷ hs) (made s t) = cond (eqb p s) (max h t) h ∷ rai
 
 -- "the receiver removes the belt's first message, raises its clock by it": for the sender its time, for the sender's parents what the message was made from. The rest of the queue stays.
 unfoldable pub takenFrom : List ℕ → Message → List Message → Lane → Lane
-takenFrom senderParents m rest s = record { mark = s .mark; taken = max (s .taken) (m .time); heard = raiseHeard senderParents (s .heard) (m .origin); queue = rest }
+takenFrom senderParents m rest s = record { mark = s .mark; taken = max (s .taken) (m .time); heard = raiseHeard senderParents (s .heard) (m .origin); queue = rest; low = s .low }
 
 -- The entry for a parent of the sender, among those heard: 0 for a node that is none.
 abbrev pub entryFor : ℕ → List ℕ → List ℕ → ℕ

@@ -1,5 +1,5 @@
 -- What makes a line damaged (document 01, "Damaged"): conditions of the line, of a node n and of a channel b, each by itself. What a line cannot spell is the layout's matter: unused bytes, counts past their limits, status and crash mark bytes that no node has, and in the stored plan its length and rule bytes that no rule has.
-use Prim.Native.Nat.{ℕ, _^_}
+use Prim.Native.Nat.{ℕ, suc, _^_}
 use mathlib.Core.Bool.{Bool, true, false, not, _&&_, _||_}
 use mathlib.Core.List.{List, [], _∷_, _++_, map}
 use mathlib.Core.Option.{Option, none, some}
@@ -27,7 +27,7 @@ unfoldable pub planBroken : Line → Bool
 unfolding planFits
 planBroken l = not (planFits (l .plan))
 
--- A count for each console, a node for each rule, a lane for each channel, an entry heard for each parent of its sender.
+-- A count for each console, a node for each rule, a lane for each channel, an entry heard for each parent of its sender; and in the low clock one for the sender and one for each of its parents.
 unfoldable pub misshapen : Line → Bool
 unfolding parents
 misshapen l =
@@ -35,6 +35,7 @@ misshapen l =
     || not (eqb (length (l .nodes)) (nodeCount (l .plan)))
     || not (eqb (length (l .lanes)) (channelCount (l .plan)))
     || someChannel l (λ (b : ℕ). not (eqb (length (laneAt l b .heard)) (length (parents (l .plan) (senderOf l b)))))
+    || someChannel l (λ (b : ℕ). not (eqb (length (laneAt l b .low)) (suc (length (parents (l .plan) (senderOf l b))))))
 
 -- What a node has worked on: its log, and its held records as the entries that they are to become.
 abbrev pub workedOn : Node → List Entry
@@ -219,6 +220,15 @@ channelHolds l b =
     || (nodeDown l (receiverOf l b) && anyOf (ltb 0) (s .taken ∷ s .heard))
     || (replaying l (senderOf l b) && not (isEmpty (s .queue)))
 
+-- 2026-04: "a low clock entry above the node's clock is damaged"
+abbrev pub lowPast : List ℕ → List ℕ → Bool
+lowPast [] ts = false
+lowPast (k ∷ ks) [] = false
+lowPast (k ∷ ks) (t ∷ ts) = ltb t k || lowPast ks ts
+
+unfoldable pub lowWrong : Lane → Bool
+lowWrong s = lowPast (s .low) (s .taken ∷ s .heard)
+
 -- All the conditions of a node, and of a channel.
 unfoldable pub nodeDamaged : Line → ℕ → Bool
 unfolding nodePastLimits nodeWrongParent nodeTimePast nodeTimeZero nodeMakerWrong logWrong pastClock heldWrong heldNotPassed markMissing markOnEnd replayWrong nodeHolds
@@ -228,11 +238,11 @@ nodeDamaged l n =
     || heldWrong l n || heldNotPassed (l .plan) n x || markMissing x || markOnEnd (l .plan) n x || replayWrong l n || nodeHolds x
 
 unfoldable pub channelDamaged : Line → ℕ → Bool
-unfolding channelPastLimits channelWrongParent channelTimePast channelTimeZero channelMakerWrong queueWrong marksJoined channelHolds
+unfolding channelPastLimits channelWrongParent channelTimePast channelTimeZero channelMakerWrong queueWrong marksJoined channelHolds lowWrong
 channelDamaged l b =
     let s = laneAt l b in
     channelPastLimits s || channelWrongParent (l .plan) b s || channelTimePast (acceptedSteps l) s || channelTimeZero s || channelMakerWrong (l .plan) b s
-    || queueWrong l b || marksJoined l b || channelHolds l b
+    || queueWrong l b || marksJoined l b || channelHolds l b || lowWrong s
 
 -- Any of them.
 unfoldable pub damaged : Line → Bool

@@ -12,7 +12,7 @@ use Rattle.rules.specs.Lists.{isEmpty, joined, upTo}
 use Rattle.rules.specs.Claim.{Story, startOf, storyFrom, told}
 use Rattle.rules.specs.Marked.{channel, feedFrame, frame, moved as twoSteps, replayPlan, replayBegun, replayEnded}
 use Rattle.rules.specs.Examples.{chain}
-use Rattle.rules.specs.Damaged.{someNode, someChannel, planBroken, misshapen, stepsPast, nodePastLimits, nodeWrongParent, nodeTimePast, nodeTimeZero, nodeMakerWrong, logWrong, pastClock, heldWrong, heldNotPassed, markMissing, markOnEnd, replayWrong, nodeHolds, channelPastLimits, channelWrongParent, channelTimePast, channelTimeZero, channelMakerWrong, queueWrong, marksJoined, channelHolds, damaged}
+use Rattle.rules.specs.Damaged.{someNode, someChannel, planBroken, misshapen, stepsPast, nodePastLimits, nodeWrongParent, nodeTimePast, nodeTimeZero, nodeMakerWrong, logWrong, pastClock, heldWrong, heldNotPassed, markMissing, markOnEnd, replayWrong, nodeHolds, channelPastLimits, channelWrongParent, channelTimePast, channelTimeZero, channelMakerWrong, queueWrong, marksJoined, channelHolds, lowWrong, damaged}
 
 -- The conditions in the order in which `damaged` has them; `met` gives the numbers, from 1, of those that hold.
 abbrev numbersOf : ℕ → List Bool → List ℕ
@@ -27,7 +27,7 @@ abbrev atChannel : Line → (ℕ → Lane → Bool) → Bool
 atChannel l f = someChannel l (λ (b : ℕ). f b (laneAt l b))
 
 unfoldable pub met : Line → List ℕ
-unfolding planBroken misshapen stepsPast nodePastLimits nodeWrongParent nodeTimePast nodeTimeZero nodeMakerWrong logWrong pastClock heldWrong heldNotPassed markMissing markOnEnd replayWrong nodeHolds channelPastLimits channelWrongParent channelTimePast channelTimeZero channelMakerWrong queueWrong marksJoined channelHolds
+unfolding planBroken misshapen stepsPast nodePastLimits nodeWrongParent nodeTimePast nodeTimeZero nodeMakerWrong logWrong pastClock heldWrong heldNotPassed markMissing markOnEnd replayWrong nodeHolds channelPastLimits channelWrongParent channelTimePast channelTimeZero channelMakerWrong queueWrong marksJoined channelHolds lowWrong
 met l =
     let p = l .plan in
     numbersOf 1 (
@@ -55,6 +55,7 @@ met l =
     ∷ someChannel l (queueWrong l)
     ∷ someChannel l (marksJoined l)
     ∷ someChannel l (channelHolds l)
+    ∷ atChannel l (λ b s. lowWrong s)
     ∷ [])
 
 unfoldable pub begun : Line
@@ -104,7 +105,7 @@ abbrev pub piece : ℕ → ℕ → Record
 piece k m = record { piece = k; material = m; mass = 0 }
 
 abbrev origins : Origin → Lane → Lane
-origins o s = record { mark = s .mark; taken = s .taken; heard = s .heard; queue = map (λ (m : Message). record { what = m .what; time = m .time; origin = o }) (s .queue) }
+origins o s = record { mark = s .mark; taken = s .taken; heard = s .heard; queue = map (λ (m : Message). record { what = m .what; time = m .time; origin = o }) (s .queue); low = s .low }
 
 abbrev logs : (Entry → Entry) → Node → Node
 logs f x = record { status = x .status; crashed = x .crashed; time = x .time; log = map f (x .log); held = x .held; targets = x .targets }
@@ -122,7 +123,7 @@ abbrev aims : List Target → Node → Node
 aims ts x = record { status = x .status; crashed = x .crashed; time = x .time; log = x .log; held = x .held; targets = ts }
 
 abbrev moved : ℕ → ℕ → Lane → Lane
-moved m t s = record { mark = m; taken = t; heard = s .heard; queue = s .queue }
+moved m t s = record { mark = m; taken = t; heard = s .heard; queue = s .queue; low = s .low }
 
 abbrev held : ℕ → ℕ → Held
 held material time = record { what = piece 1 material; sender = 0; time = time; before = fed }
@@ -146,10 +147,13 @@ abbrev standing : Status → Node → Node
 standing s x = record { status = s; crashed = x .crashed; time = x .time; log = x .log; held = x .held; targets = x .targets }
 
 abbrev queued : List Message → Lane → Lane
-queued ms s = record { mark = s .mark; taken = s .taken; heard = s .heard; queue = ms }
+queued ms s = record { mark = s .mark; taken = s .taken; heard = s .heard; queue = ms; low = s .low }
 
 abbrev hears : List ℕ → Lane → Lane
-hears hs s = record { mark = s .mark; taken = s .taken; heard = hs; queue = s .queue }
+hears hs s = record { mark = s .mark; taken = s .taken; heard = hs; queue = s .queue; low = s .low }
+
+abbrev keeps : List ℕ → Lane → Lane
+keeps ks s = record { mark = s .mark; taken = s .taken; heard = s .heard; queue = s .queue; low = ks }
 
 abbrev shaped : List Node → List Lane → Line → Line
 shaped ns ls l = record { plan = l .plan; steps = l .steps; nodes = ns; lanes = ls }
@@ -221,7 +225,7 @@ trials =
     ∷ trial (replanned 2 (λ c. c) begun) []
     ∷ trial (replanned 1 lighter begun) (1 ∷ [])
     ∷ trial (replanned 2 lighter begun) []
-    ∷ trial (lane 0 (λ (s : Lane). record { mark = s .mark; taken = s .taken; heard = 0 ∷ s .heard; queue = s .queue }) begun) (2 ∷ [])
+    ∷ trial (lane 0 (λ (s : Lane). record { mark = s .mark; taken = s .taken; heard = 0 ∷ s .heard; queue = s .queue; low = s .low }) begun) (2 ∷ [])
     ∷ trial (steps 1_000_001 begun) (3 ∷ [])
     ∷ trial (withSteps (0 ∷ 0 ∷ 0 ∷ 1_000_001 ∷ []) begun) (3 ∷ [])
     -- a node
@@ -243,7 +247,7 @@ trials =
     ∷ trial (node 3 (aims (target 1 2 1 ∷ [])) begun) (16 ∷ [])
     ∷ trial (node 2 (timed 1) fallen) (16 ∷ [])
     -- a channel
-    ∷ trial (lane 0 (λ (s : Lane). record { mark = 1; taken = 0; heard = s .heard; queue = record { what = piece 1 16; time = 1; origin = fed } ∷ [] }) begun) (17 ∷ [])
+    ∷ trial (lane 0 (λ (s : Lane). record { mark = 1; taken = 0; heard = s .heard; queue = record { what = piece 1 16; time = 1; origin = fed } ∷ []; low = s .low }) begun) (17 ∷ [])
     ∷ trial (lane 3 (origins (made 3 1)) ended) (18 ∷ [])
     ∷ trial (lane 0 (moved 100 1) ended) (19 ∷ [])
     ∷ trial (lane 3 (origins (made 0 0)) ended) (20 ∷ [])
@@ -253,6 +257,10 @@ trials =
     ∷ trial (node 1 (marked true) (node 2 (marked true) (initialLine chain))) (23 ∷ [])
     ∷ trial (lane 3 (moved 1 0) fallen) (24 ∷ [])
     ∷ trial (lane 0 (moved 0 1) fallen) (24 ∷ [])
+    -- a low clock at the clock, and above it, in either layer
+    ∷ trial (lane 2 (keeps (2 ∷ 1 ∷ 0 ∷ [])) ended) []
+    ∷ trial (lane 2 (keeps (3 ∷ 1 ∷ 0 ∷ [])) ended) (25 ∷ [])
+    ∷ trial (lane 2 (keeps (2 ∷ 2 ∷ 0 ∷ [])) ended) (25 ∷ [])
     -- times of nodes and channels past the steps; a marked sink beside a marked node
     ∷ trial (steps 1 begun) (6 ∷ 19 ∷ [])
     ∷ trial (node 3 (marked true) begun) (14 ∷ 23 ∷ [])
@@ -265,6 +273,8 @@ parts =
     trial later []
     ∷ trial (deepHeld (made 0 2)) []
     ∷ trial chainFallen []
+    -- an entry of the low clock for the sender and each of its parents
+    ∷ trial (lane 2 (keeps (0 ∷ 0 ∷ [])) ended) (2 ∷ [])
     -- a count for each console
     ∷ trial (withSteps (2 ∷ 2 ∷ 7 ∷ []) begun) (2 ∷ [])
     -- each console's count

@@ -72,7 +72,7 @@ exampleTable =
     -- 10: version 3; 10 comes before 11
     ∷ record { given = answers 0 ((0 ∷ 5 ∷ 3 ∷ 2 ∷ 0 ∷ []) ∷ (0 ∷ 5 ∷ 0 ∷ 6 ∷ 0 ∷ []) ∷ []); expected = 10 ∷ 10 ∷ [] }
     -- 11: kinds 0 and 6, a Feed of 5 bytes; 11 comes before 12
-    ∷ record { given = answers 0 (frame 0 0 ∷ frame 6 0 ∷ frame 1 0 ∷ []) ++ answers 1_000_000 (frame 6 0 ∷ []); expected = replicate 4 11 }
+    ∷ record { given = answers 0 (frame 0 0 ∷ frame 7 0 ∷ frame 1 0 ∷ []) ++ answers 1_000_000 (frame 7 0 ∷ []); expected = replicate 4 11 }
     -- 12: "one more Crash", before all that comes after it
     ∷ record { given = answers 1_000_000 (frame 4 1 ∷ frame 4 99 ∷ []); expected = 12 ∷ 12 ∷ [] }
     -- 13 to 18: "belt 24", "Crash 0", "Crash twice", "parent of a crashed node", "material 16", "empty belt"
@@ -96,9 +96,9 @@ exampleTable =
     ∷ record { given = answersOn replayPlan 0 (replicate 64 (feedFrame 0 1 3) ++ (joined (replicate 64 (moved 0)) ++ feedFrame 1 1 3 ∷ frame 2 1 ∷ frame 3 1 ∷ frame 4 2 ∷ [])); expected = replicate 194 0 ++ 21 ∷ 0 ∷ [] }
     -- "accepted steps": P9 has 25 answers 0, all of version 1, so of console 0
     ∷ record { given = length (keep (eqb 0) (replayAfter .numbers)) ∷ replayAfter .line .steps; expected = 25 ∷ 25 ∷ 0 ∷ 0 ∷ 0 ∷ [] }
-    -- 2026-01, 11: a version 2 frame of 5 bytes, a Feed of 13, kind 6; a version 1 frame of 6 bytes, a Feed of 14; 11 comes before 25
+    -- 2026-01, 11: a version 2 frame of 5 bytes, a Feed of 13, kind 7; a version 1 frame of 6 bytes, a Feed of 14; 11 comes before 25
     ∷ record {
-      given = answers 0 ((0 ∷ 5 ∷ 2 ∷ 2 ∷ 0 ∷ []) ∷ (0 ∷ 13 ∷ 2 ∷ 1 ∷ 0 ∷ replicate 8 0) ∷ frameFrom (console 0) 6 0 ∷ (0 ∷ 6 ∷ 1 ∷ 2 ∷ 0 ∷ 0 ∷ []) ∷ (0 ∷ 14 ∷ 1 ∷ 1 ∷ 0 ∷ replicate 9 0) ∷ (0 ∷ 5 ∷ 2 ∷ 2 ∷ 9 ∷ []) ∷ []);
+      given = answers 0 ((0 ∷ 5 ∷ 2 ∷ 2 ∷ 0 ∷ []) ∷ (0 ∷ 13 ∷ 2 ∷ 1 ∷ 0 ∷ replicate 8 0) ∷ frameFrom (console 0) 7 0 ∷ (0 ∷ 6 ∷ 1 ∷ 2 ∷ 0 ∷ 0 ∷ []) ∷ (0 ∷ 14 ∷ 1 ∷ 1 ∷ 0 ∷ replicate 9 0) ∷ (0 ∷ 5 ∷ 2 ∷ 2 ∷ 9 ∷ []) ∷ []);
       expected = replicate 6 11;
     }
     -- 25: "a console above 3", before 13 and 17; console 3 gets as far as 13; in version 1 the fifth byte is no console
@@ -112,7 +112,7 @@ exampleTable =
     ∷ record { given = raiseHeard (0 ∷ 1 ∷ []) (5 ∷ 2 ∷ []) (made 0 3); expected = 5 ∷ 2 ∷ [] }
     ∷ record { given = raiseHeard (0 ∷ 1 ∷ []) (5 ∷ 2 ∷ []) (made 1 3); expected = 5 ∷ 3 ∷ [] }
     -- so is the entry for the sender; a Take leaves the mark
-    ∷ record { given = clockNumbers (takenFrom [] (record { what = record { piece = 1; material = 1; mass = 0 }; time = 1; origin = fed }) [] (record { mark = 5; taken = 3; heard = []; queue = [] })); expected = 5 ∷ 3 ∷ [] }
+    ∷ record { given = clockNumbers (takenFrom [] (record { what = record { piece = 1; material = 1; mass = 0 }; time = 1; origin = fed }) [] (record { mark = 5; taken = 3; heard = []; queue = []; low = [] })); expected = 5 ∷ 3 ∷ [] }
     -- "removes the belt's first message": pieces 1 and 2 go on it, 1 is taken
     ∷ record { given = map (λ (r : Receipt). r .what .piece) (storyFrom (startOf (initialLine chain)) (feedFrame 0 1 1 ∷ feedFrame 0 2 1 ∷ frame 2 0 ∷ frame 2 0 ∷ frame 3 0 ∷ []) .receipts); expected = 1 ∷ [] }
     ∷ []

@@ -3,6 +3,7 @@ pub mod Lists
 pub mod Line
 pub mod Frame
 pub mod Clock
+pub mod Trim
 pub mod Recover
 pub mod Replay
 pub mod Step
@@ -10,6 +11,7 @@ pub mod Damaged
 pub mod Plain
 pub mod Sheet
 pub mod Claim
+pub mod Trimming
 pub mod Order
 pub mod Restart
 pub mod Console

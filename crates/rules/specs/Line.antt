@@ -80,11 +80,13 @@ pub record Node : Type 0 where
   pub targets : List Target
 
 -- A channel's state (document 01: a belt). The receiver's clock entry for the sender is `taken`, its entries for the sender's parents are `heard`, in the parents' order: a pair of nodes has at most one channel.
+-- 2026-04: what the receiver's low clock holds for the sender and then for the sender's parents is `low`.
 pub record Lane : Type 0 where
   pub mark : ℕ
   pub taken : ℕ
   pub heard : List ℕ
   pub queue : List Message
+  pub low : List ℕ
 
 -- Of the steps, those accepted from each console.
 pub record Line : Type 0 where
@@ -117,7 +119,7 @@ parents p n = map (λ (b : ℕ). channelAt p b .sender) (entering p n)
 -- A channel with nothing on it, marked and taken up to a time.
 unfoldable pub freshLane : Plan → Channel → ℕ → Lane
 unfolding parents
-freshLane p c t = record { mark = t; taken = t; heard = replicate (length (parents p (c .sender))) 0; queue = [] }
+freshLane p c t = record { mark = t; taken = t; heard = replicate (length (parents p (c .sender))) 0; queue = []; low = replicate (suc (length (parents p (c .sender)))) 0 }
 
 -- The line that a plan starts as.
 unfoldable pub initialLine : Plan → Line
@@ -125,7 +127,7 @@ unfolding freshLane
 initialLine p = record { plan = p; steps = onlyCount 0; nodes = replicate (nodeCount p) freshNode; lanes = map (λ (c : Channel). freshLane p c 0) (p .channels) }
 
 abbrev pub noLane : Lane
-noLane = record { mark = 0; taken = 0; heard = []; queue = [] }
+noLane = record { mark = 0; taken = 0; heard = []; queue = []; low = [] }
 
 abbrev pub nodeAt : Line → ℕ → Node
 nodeAt l n = getD (l .nodes) n freshNode

@@ -2,10 +2,12 @@
 use Prim.Native.Nat.{ℕ}
 use mathlib.Core.Bool.{Bool, true, false, cond, _&&_, _||_}
 use mathlib.Core.List.{List, [], _∷_, _++_, map}
+use lib.ListN.{drop}
 use lib.Dec.{leb, ltb, eqb}
 use Rattle.plan.specs.Plan.{channelAt, entering, leaving}
 use Rattle.rules.specs.Lists.{keep, allOf, anyOf, joined, greatestOf, leastOf}
-use Rattle.rules.specs.Line.{Origin, fed, made, Entry, Target, Status, up, replay, Lane, Line, nodeAt, laneAt, withNode, withLane, withLanes, freshLane}
+use Rattle.rules.specs.Line.{Origin, fed, made, Entry, Target, Status, up, replay, Lane, Line, nodeAt, laneAt, withNode, withLane, withLanes, parents, freshLane}
+use Rattle.rules.specs.Clock.{entryFor}
 
 -- The children's clock entries for B.
 unfoldable pub childTimes : Line → ℕ → List ℕ
@@ -36,10 +38,15 @@ unfoldable pub childTriples : Line → ℕ → List Target
 unfolding leaving
 childTriples l b = joined (map (λ (c : ℕ). triples b (nodeAt l (channelAt (l .plan) c .receiver) .log)) (leaving (l .plan) b))
 
--- "the restored entry is the greatest A-time in children's log entries made from B's messages with B-time at most low, 0 if none"
+-- What the children's low clocks hold for a parent of B, through B.
+unfoldable pub childLows : Line → ℕ → ℕ → List ℕ
+unfolding leaving parents
+childLows l b parent = map (λ (c : ℕ). entryFor parent (parents (l .plan) b) (drop 1 (laneAt l c .low))) (leaving (l .plan) b)
+
+-- "the restored entry is the greatest A-time in children's log entries made from B's messages with B-time at most low, 0 if none". 2026-04: "Recover starts the restored entries from the children's low clocks".
 unfoldable pub restored : Line → ℕ → ℕ → ℕ
-unfolding childTriples lowOf
-restored l b parent = greatestOf (map (λ (t : Target). t .parentTime) (keep (λ (t : Target). eqb (t .parent) parent && leb (t .time) (lowOf l b)) (childTriples l b)))
+unfolding childTriples lowOf childLows
+restored l b parent = greatestOf (childLows l b parent ++ map (λ (t : Target). t .parentTime) (keep (λ (t : Target). eqb (t .parent) parent && leb (t .time) (lowOf l b)) (childTriples l b)))
 
 -- Targets in their stored order: by B-time, then parent, then the parent's time.
 abbrev pub sameTarget : Target → Target → Bool
@@ -91,7 +98,7 @@ statusOf (t ∷ ts) = replay
 unfoldable pub recovered : ℕ → Line → Line
 unfolding lowOf targetsOf restored entering leaving freshLane withNode withLane
 recovered b l =
-    let marked : ℕ → Lane → Lane = λ c s. record { mark = s .taken; taken = s .taken; heard = s .heard; queue = s .queue } in
+    let marked : ℕ → Lane → Lane = λ c s. record { mark = s .taken; taken = s .taken; heard = s .heard; queue = s .queue; low = s .low } in
     let entered : ℕ → Lane → Lane = λ c s. freshLane (l .plan) (channelAt (l .plan) c) (restored l b (channelAt (l .plan) c .sender)) in
     withLanes entered (entering (l .plan) b)
     (withLanes marked (leaving (l .plan) b)

@@ -20,7 +20,7 @@ abbrev plan : Rule → Plan
 plan r = record { version = 1; rules = Keep ∷ Keep ∷ r ∷ Keep ∷ Keep ∷ Keep ∷ []; channels = channel 0 2 65535 ∷ channel 1 2 65535 ∷ channel 2 3 2 ∷ channel 2 4 6 ∷ channel 2 5 4 ∷ [] }
 
 abbrev lane : ℕ → ℕ → List ℕ → List Message → Lane
-lane m t h q = record { mark = m; taken = t; heard = h; queue = q }
+lane m t h q = record { mark = m; taken = t; heard = h; queue = q; low = map (λ (k : ℕ). 0) (0 ∷ h) }
 
 abbrev upNode : ℕ → List Entry → Node
 upNode t es = record { status = up; crashed = false; time = t; log = es; held = []; targets = [] }

@@ -1,4 +1,4 @@
--- A step: the refusals 9 to 21, 24 and 25 in their order, and the effect of each kind (document 01, "Clocks and steps", "Numbers returned"; document 02, 2026-01).
+-- A step: the refusals 9 to 21 and 24 to 26 in their order, and the effect of each kind (document 01, "Clocks and steps", "Numbers returned"; document 02, 2026-01 and 2026-04).
 use Prim.Native.Nat.{ℕ}
 use mathlib.Core.Bool.{Bool, true, false, cond, not, _&&_, _||_}
 use mathlib.Core.List.{List, [], _∷_}
@@ -11,10 +11,11 @@ use Rattle.plan.specs.Rule.{applied}
 use Rattle.plan.specs.Channel.{takes}
 use Rattle.plan.specs.Plan.{nodeCount, channelCount, ruleAt, channelAt, entering, leaving, isSource, isSink}
 use Rattle.rules.specs.Lists.{isEmpty, anyOf}
-use Rattle.rules.specs.Line.{logLimit, queueLimit, heldLimit, targetLimit, stepLimit, fed, made, Message, Entry, down, Lane, Line, nodeAt, laneAt, stepsFrom, senderOf, receiverOf, withNode, withLane, counted, withLanes, isDown, isReplay, parents, freshLane}
-use Rattle.rules.specs.Frame.{Frame, feed, send, take, crash, recover, frameConsole, frameOf, frameRefusal}
+use Rattle.rules.specs.Line.{nodeNumbers, isUp, logLimit, queueLimit, heldLimit, targetLimit, stepLimit, fed, made, Message, Entry, down, Lane, Line, nodeAt, laneAt, stepsFrom, senderOf, receiverOf, withNode, withLane, counted, withLanes, isDown, isReplay, parents, freshLane}
+use Rattle.rules.specs.Frame.{Frame, feed, send, take, crash, recover, trim, frameConsole, frameOf, frameRefusal}
 use Rattle.rules.specs.Clock.{logged, nextToSend, sentOn, takenFrom}
 use Rattle.rules.specs.Recover.{targetsOf, conflict, rowComplete, recovered}
+use Rattle.rules.specs.Trim.{trimmedLine}
 use Rattle.rules.specs.Replay.{passedOn, holding, endedIfComplete}
 
 -- 12: "1,000,000 steps accepted". 2026-01: "refusal 12 looks only at the caller's" count.
@@ -28,6 +29,19 @@ noSuch l (send b) = leb (channelCount (l .plan)) b
 noSuch l (take b) = leb (channelCount (l .plan)) b
 noSuch l (crash n) = leb (nodeCount (l .plan)) n
 noSuch l (recover n) = leb (nodeCount (l .plan)) n
+noSuch l (trim n) = leb (nodeCount (l .plan)) n
+
+-- 26, of 2026-04: "after 13, a Trim while a node is down or replaying"
+abbrev pub notAllUp : Line → Bool
+notAllUp l = anyOf (λ (n : ℕ). not (isUp (nodeAt l n .status))) (nodeNumbers l)
+
+abbrev pub someStopped : Line → Frame → Bool
+someStopped l (feed n r) = false
+someStopped l (send b) = false
+someStopped l (take b) = false
+someStopped l (crash n) = false
+someStopped l (recover n) = false
+someStopped l (trim n) = notAllUp l
 
 -- 14: "Feed not to an infeed; Crash or Recover of an infeed or outfeed"
 abbrev pub wrongNode : Line → Frame → Bool
@@ -36,6 +50,7 @@ wrongNode l (send b) = false
 wrongNode l (take b) = false
 wrongNode l (crash n) = isSource (l .plan) n || isSink (l .plan) n
 wrongNode l (recover n) = isSource (l .plan) n || isSink (l .plan) n
+wrongNode l (trim n) = false
 
 abbrev pub nodeDown : Line → ℕ → Bool
 nodeDown l n = isDown (nodeAt l n .status)
@@ -50,6 +65,7 @@ wrongStatus l (send b) = endDown l b
 wrongStatus l (take b) = endDown l b
 wrongStatus l (crash n) = nodeDown l n
 wrongStatus l (recover n) = not (nodeDown l n)
+wrongStatus l (trim n) = false
 
 -- 16: "Crash of a node joined by a belt to one crashed earlier in the run"
 unfoldable pub neighbourCrashed : Line → ℕ → Bool
@@ -64,6 +80,7 @@ besideCrashed l (send b) = false
 besideCrashed l (take b) = false
 besideCrashed l (crash n) = neighbourCrashed l n
 besideCrashed l (recover n) = false
+besideCrashed l (trim n) = false
 
 -- 17: "material over 15, zero byte not 0"
 abbrev pub badRecord : Frame → Bool
@@ -72,6 +89,7 @@ badRecord (send b) = false
 badRecord (take b) = false
 badRecord (crash n) = false
 badRecord (recover n) = false
+badRecord (trim n) = false
 
 -- What a Send would send.
 unfoldable pub sendable : Line → ℕ → Option Entry
@@ -89,6 +107,7 @@ nothingThere l (send b) = isNothing (sendable l b)
 nothingThere l (take b) = isEmpty (laneAt l b .queue)
 nothingThere l (crash n) = false
 nothingThere l (recover n) = false
+nothingThere l (trim n) = false
 
 -- 19: "belt holds 8"
 abbrev pub queueFull : Line → Frame → Bool
@@ -97,6 +116,7 @@ queueFull l (send b) = leb queueLimit (length (laneAt l b .queue))
 queueFull l (take b) = false
 queueFull l (crash n) = false
 queueFull l (recover n) = false
+queueFull l (trim n) = false
 
 abbrev pub replaying : Line → ℕ → Bool
 replaying l n = isReplay (nodeAt l n .status)
@@ -108,6 +128,7 @@ rowDone l (send b) = false
 rowDone l (take b) = replaying l (receiverOf l b) && rowComplete l (receiverOf l b) b
 rowDone l (crash n) = false
 rowDone l (recover n) = false
+rowDone l (trim n) = false
 
 -- The record that a node makes of another, by its rule.
 abbrev pub madeBy : Line → ℕ → Record → Record
@@ -135,6 +156,7 @@ noSpace l (send b) = false
 noSpace l (take b) = takeLacks l b
 noSpace l (crash n) = false
 noSpace l (recover n) = ltb targetLimit (length (targetsOf l n))
+noSpace l (trim n) = false
 
 -- Feed: "an infeed applies its rule, its time rises by 1, the message is logged".
 unfoldable pub fedLine : ℕ → List ℕ → Line → Line
@@ -183,7 +205,7 @@ takenLine b l = takenFirst b (laneAt l b .queue) l
 unfoldable pub crashedLine : ℕ → Line → Line
 unfolding entering leaving freshLane withNode withLane
 crashedLine n l =
-    let left : ℕ → Lane → Lane = λ b s. record { mark = 0; taken = s .taken; heard = s .heard; queue = [] } in
+    let left : ℕ → Lane → Lane = λ b s. record { mark = 0; taken = s .taken; heard = s .heard; queue = []; low = s .low } in
     let entered : ℕ → Lane → Lane = λ b s. freshLane (l .plan) (channelAt (l .plan) b) 0 in
     withLanes entered (entering (l .plan) n)
     (withLanes left (leaving (l .plan) n)
@@ -205,41 +227,45 @@ recoverGives l n = elim (noSpace l (recover n)) [ true ↦ none | false ↦ reco
 
 -- The line that a frame leads to, steps not counted; nothing where 24 applies.
 unfoldable pub effect : Line → Frame → Option Line
-unfolding fedLine sentOn withLane sendable takenLine crashedLine recoveredLine
+unfolding fedLine sentOn withLane sendable takenLine crashedLine recoveredLine trimmedLine
 effect l (feed n r) = some (fedLine n r l)
 effect l (send b) = some (sentLine b (sendable l b) l)
 effect l (take b) = takenLine b l
 effect l (crash n) = some (crashedLine n l)
 effect l (recover n) = recoveredLine n l
+effect l (trim n) = some (trimmedLine n l)
 
 -- 24: "no placing exists; targets give one time two inputs or one input two times; a target not held when rows are complete"
 unfoldable pub noPlacing : Line → Frame → Bool
 unfolding effect
 noPlacing l f = isNothing (effect l f)
 
--- What the line itself refuses, whoever sent the frame: the first of 13 to 21 and 24 that applies, 0 if none does.
+-- What the line itself refuses, whoever sent the frame: the first of 13, 26, 14 to 21 and 24 that applies, 0 if none does.
 unfoldable pub lineRefusal : Line → Frame → ℕ
 unfolding isSource isSink neighbourCrashed recordFits sendable rowComplete takeLacks targetsOf noPlacing
 lineRefusal l f =
     elim (noSuch l f) [
       | true ↦ 13
-      | false ↦ elim (wrongNode l f) [
-        | true ↦ 14
-        | false ↦ elim (wrongStatus l f) [
-          | true ↦ 15
-          | false ↦ elim (besideCrashed l f) [
-            | true ↦ 16
-            | false ↦ elim (badRecord f) [
-              | true ↦ 17
-              | false ↦ elim (nothingThere l f) [
-                | true ↦ 18
-                | false ↦ elim (queueFull l f) [
-                  | true ↦ 19
-                  | false ↦ elim (rowDone l f) [
-                    | true ↦ 20
-                    | false ↦ elim (noSpace l f) [
-                      | true ↦ 21
-                      | false ↦ elim (noPlacing l f) [ true ↦ 24 | false ↦ 0 ]
+      | false ↦ elim (someStopped l f) [
+        | true ↦ 26
+        | false ↦ elim (wrongNode l f) [
+          | true ↦ 14
+          | false ↦ elim (wrongStatus l f) [
+            | true ↦ 15
+            | false ↦ elim (besideCrashed l f) [
+              | true ↦ 16
+              | false ↦ elim (badRecord f) [
+                | true ↦ 17
+                | false ↦ elim (nothingThere l f) [
+                  | true ↦ 18
+                  | false ↦ elim (queueFull l f) [
+                    | true ↦ 19
+                    | false ↦ elim (rowDone l f) [
+                      | true ↦ 20
+                      | false ↦ elim (noSpace l f) [
+                        | true ↦ 21
+                        | false ↦ elim (noPlacing l f) [ true ↦ 24 | false ↦ 0 ]
+                      ]
                     ]
                   ]
                 ]

@@ -10,9 +10,9 @@ use Rattle.plan.specs.Layout.{via}
 use Rattle.plan.specs.Lawful.{Each, FieldsFit, UpToFit}
 use Rattle.rules.specs.Line.{logLimit, queueLimit, heldLimit, targetLimit, Status, up, down, replay, Node}
 use Rattle.state.specs.Sound.{Sound}
-use Rattle.state.specs.Sizes.{countSize, parentLimit, nodeRest, laneRest}
+use Rattle.state.specs.Sizes.{countSize, parentLimit, lowLimit, nodeRest, laneRest}
 use Rattle.state.specs.Node.{statusNumber, statusOf, crashNumber, crashOf, nodeWidths, nodeHeadNumbers, nodeSeen, nodeFrom, logLayout, heldListLayout, targetsLayout, NodeParts, nodeParts, nodeLayout}
-use Rattle.state.specs.Lane.{heardWidths, laneWidths, laneSeen, laneFrom, queueLayout, laneParts, laneLayout}
+use Rattle.state.specs.Lane.{heardWidths, laneWidths, lowWidths, lowFields, laneSeen, laneFrom, queueLayout, laneParts, laneLayout}
 use Rattle.state.specs.Fits.{TimeFits, MessageFits, EntryFits, HeldFits, TargetFits, NodeFits, PaddedFits}
 use Rattle.state.proofs.SoundLaws.{fields-sound, pair-sound, via-sound, padded-sound, upTo-sound}
 use Rattle.state.proofs.PieceLaws.{message-sound, entry-sound, held-sound, target-sound}
@@ -103,9 +103,21 @@ four-words-known (a ∷ b ∷ c ∷ []) h = absurd (h .1 .1 .1)
 four-words-known (a ∷ b ∷ c ∷ d ∷ []) h = (refl, h)
 four-words-known (a ∷ b ∷ c ∷ d ∷ f ∷ hs) h = absurd (h .1 .1 .1 .1)
 
-pub lane-parts-sound : Sound laneParts (λ p. FieldsFit laneWidths (p .0) × UpToFit queueLimit MessageFits (p .1))
+pub five-words-fit : (ks : List ℕ) → length ks ≡ lowLimit → Each TimeFits ks → FieldsFit lowWidths ks
+five-words-fit [] e h = let no : ⊥ = omega arith in absurd no
+five-words-fit (k ∷ ks) e h = (h .0, four-words-fit ks (omega arith) (h .1))
+
+pub five-words-known : (ks : List ℕ) → FieldsFit lowWidths ks → (length ks ≡ lowLimit) × Each TimeFits ks
+five-words-known [] h = absurd h
+five-words-known (k ∷ ks) h = let (e, f) = four-words-known ks (h .1) in (omega arith, (h .0, f))
+
+pub low-sound : Sound lowFields (FieldsFit lowWidths)
+unfolding lowFields
+low-sound = fields-sound lowWidths
+
+pub lane-parts-sound : Sound laneParts (λ p. FieldsFit laneWidths (p .0) × (UpToFit queueLimit MessageFits (p .1 .0) × FieldsFit lowWidths (p .1 .1)))
 unfolding laneParts
-lane-parts-sound = pair-sound (fields-sound laneWidths) queue-sound
+lane-parts-sound = pair-sound (fields-sound laneWidths) (pair-sound queue-sound low-sound)
 
 lane-numbers : (ns : List ℕ) → FieldsFit laneWidths ns → TimeFits (getD ns 0 0) × (TimeFits (getD ns 1 0) × FieldsFit heardWidths (drop 2 ns))
 lane-numbers [] h = absurd h
@@ -115,11 +127,12 @@ lane-numbers (a ∷ b ∷ ns) h = h
 pub lane-body-sound : Sound (via laneParts laneSeen laneFrom) PaddedFits
 lane-body-sound =
     via-sound lane-parts-sound laneSeen laneFrom
-    (λ x h. ((h .lane .mark, (h .lane .taken, four-words-fit (x .heard) (h .four) (h .lane .heard))), h .lane .queue)) (λ x h. refl)
+    (λ x h. ((h .lane .mark, (h .lane .taken, four-words-fit (x .heard) (h .four) (h .lane .heard))), (h .lane .queue, five-words-fit (x .low) (h .five) (h .lane .low)))) (λ x h. refl)
     (λ p h.
     let ns = lane-numbers (p .0) (h .0) in
     let hs = four-words-known (drop 2 (p .0)) (ns .1 .1) in
-    record { lane = record { mark = ns .0; taken = ns .1 .0; heard = hs .1; queue = h .1 }; four = hs .0 })
+    let ks = five-words-known (p .1 .1) (h .1 .1) in
+    record { lane = record { mark = ns .0; taken = ns .1 .0; heard = hs .1; low = ks .1; queue = h .1 .0 }; four = hs .0; five = ks .0 })
 
 pub lane-sound : Sound laneLayout PaddedFits
 unfolding laneLayout

@@ -11,19 +11,19 @@ use Rattle.plan.specs.Layout.{Layout, spelled, pair, via}
 use Rattle.plan.specs.Lawful.{Bytes, Zeros}
 use Rattle.plan.proofs.BytesLaws.{each-take}
 use Rattle.rules.specs.Line.{logLimit, queueLimit, heldLimit, targetLimit, Lane}
-use Rattle.state.specs.Sizes.{countSize, pageSize, blockSize, nodeRest, laneRest, nodeRestAt, laneRestAt, statusAt, crashedAt, entrySize, heldAt, heldSize, targetsAt, targetSize, queueAt, messageSize, parentLimit, heardAt}
+use Rattle.state.specs.Sizes.{countSize, pageSize, blockSize, nodeRest, laneRest, nodeRestAt, laneRestAt, statusAt, crashedAt, entrySize, heldAt, heldSize, targetsAt, targetSize, queueAt, messageSize, parentLimit, lowLimit, heardAt, lowAt}
 use Rattle.state.specs.Pieces.{messageLayout, entryLayout, heldLayout, targetLayout}
 use Rattle.state.specs.Node.{statusNumber, statusOf, crashNumber, crashOf, nodeWidths, NodeParts, nodeSeen, nodeFrom, logLayout, heldListLayout, targetsLayout, nodeParts, nodeLayout}
-use Rattle.state.specs.Lane.{laneWidths, queueLayout, laneLayout, withHeard, padHeard, cutHeard}
+use Rattle.state.specs.Lane.{laneWidths, lowWidths, lowFields, queueLayout, laneLayout, withHeard, withLow, padHeard, cutHeard}
 use Rattle.state.specs.Right.{ZerosAt, wordAt, ListRight, MessageRight, EntryRight, HeldRight, TargetRight, NodeRight, LaneRight}
 use Rattle.state.proofs.SoundLaws.{fields-sound}
 use Rattle.state.proofs.PieceLaws.{message-sound, entry-sound, held-sound, target-sound}
-use Rattle.state.proofs.BlockLaws.{log-sound, held-list-sound, node-parts-sound, node-seen-fits, node-body-sound, lane-body-sound, lane-sound}
+use Rattle.state.proofs.BlockLaws.{queue-sound, log-sound, held-list-sound, node-parts-sound, node-seen-fits, node-body-sound, lane-body-sound, lane-sound}
 use Rattle.state.specs.Fits.{TimeFits, LaneFits}
 use Rattle.state.proofs.ListLaws.{IsZero, each-known, each-at, take-replicate}
 use Rattle.state.proofs.HeardLaws.{pad-fits}
 use Rattle.state.proofs.ReadLaws.{part-part}
-use Rattle.state.proofs.FieldLaws.{heard-at}
+use Rattle.state.proofs.FieldLaws.{heard-at, low-at}
 use Rattle.state.proofs.RightLaws.{zeros-same}
 use Rattle.state.proofs.RightAt.{RightAt, part-bytes, fields-at, pair-at, padded-at, via-at, list-at, list-slots}
 use Rattle.state.proofs.PieceRight.{byte-in, message-at, entry-at, held-at, target-at}
@@ -171,30 +171,40 @@ unfoldable pub laneWith : ℕ → Layout Lane
 unfolding laneLayout padHeard cutHeard via
 laneWith count = via laneLayout padHeard (cutHeard count)
 
-heard-same : (count : ℕ) (x : Lane) → length (x .heard) ≡ parentLimit → (padHeard (cutHeard count x) ≡ x) ↔ ((i : ℕ) → count ≤ i → i < parentLimit → getD (x .heard) i 0 ≡ 0)
+heard-same : (count : ℕ) (x : Lane) → length (x .heard) ≡ parentLimit → length (x .low) ≡ lowLimit
+    → (padHeard (cutHeard count x) ≡ x) ↔ (((i : ℕ) → count ≤ i → i < parentLimit → getD (x .heard) i 0 ≡ 0) × ((i : ℕ) → suc count ≤ i → i < lowLimit → getD (x .low) i 0 ≡ 0))
 unfolding padHeard cutHeard
-heard-same count x e =
+heard-same count x e f =
     let same = pad-cut parentLimit parentLimit count (x .heard) e (omega arith) in
-    (λ q. same .0 (ap (λ (y : Lane). y .heard) q), λ f. ap (λ (hs : List ℕ). withHeard hs x) (same .1 f))
+    let low = pad-cut lowLimit lowLimit (suc count) (x .low) f (omega arith) in
+    (λ q. (same .0 (ap (λ (y : Lane). y .heard) q), low .0 (ap (λ (y : Lane). y .low) q)), λ (g, k) i. withLow (low .1 k i) (withHeard (same .1 g i) x))
 
 cut-fits : (count : ℕ) (x : Lane) → LaneFits x → LaneFits (cutHeard count x)
 unfolding cutHeard
-cut-fits count x h = record { mark = h .mark; taken = h .taken; heard = each-take TimeFits count (x .heard) (h .heard); queue = h .queue }
+cut-fits count x h = record { mark = h .mark; taken = h .taken; heard = each-take TimeFits count (x .heard) (h .heard); low = each-take TimeFits (suc count) (x .low) (h .low); queue = h .queue }
 
 module _ (s : List ℕ) (k : Bytes s) (a : ℕ) (h : a + blockSize ≤ length s) where
   block-right : RightAt laneLayout a s ↔ (ListRight MessageRight queueLimit messageSize (a + queueAt) s × ZerosAt (a + laneRestAt) laneRest s)
-  unfolding laneLayout
+  unfolding laneLayout lowFields
   block-right =
       let whole = padded-at lane-body-sound a s laneRest h in
-      let first = pair-at (fields-sound laneWidths) a s queueLayout in
+      let first = pair-at (fields-sound laneWidths) a s (pair queueLayout lowFields) in
+      let second = pair-at queue-sound (a + queueAt) s lowFields in
       let queue = queue-right s k (a + queueAt) (omega arith) in
-      (λ r. (queue .0 (first .0 (whole .0 r .0) .1), whole .0 r .1), λ r. whole .1 (first .1 (fields-at laneWidths a s (omega arith) k, queue .1 (r .0)), r .1))
+      let low : RightAt lowFields (a + queueAt + 164) s = fields-at lowWidths (a + queueAt + 164) s (omega arith) k in
+      (λ r. (queue .0 (second .0 (first .0 (whole .0 r .0) .1) .0), whole .0 r .1), λ r. whole .1 (first .1 (fields-at laneWidths a s (omega arith) k, second .1 (queue .1 (r .0), low)), r .1))
 
   heard-word : (i : ℕ) → i < parentLimit → getD (laneLayout .read (take blockSize (drop a s)) .heard) i 0 ≡ wordAt (a + heardAt + 4 * i) s
   heard-word i l =
       heard-at (take blockSize (drop a s)) i l
       ∙ ap (spelled 0) (part-part 4 (heardAt + 4 * i) blockSize a s (omega arith))
       ∙ ap (λ (j : ℕ). wordAt j s) (let e : a + (heardAt + 4 * i) ≡ a + heardAt + 4 * i = omega arith in e)
+
+  low-word : (i : ℕ) → i < lowLimit → getD (laneLayout .read (take blockSize (drop a s)) .low) i 0 ≡ wordAt (a + lowAt + 4 * i) s
+  low-word i l =
+      low-at (take blockSize (drop a s)) i l
+      ∙ ap (spelled 0) (part-part 4 (lowAt + 4 * i) blockSize a s (omega arith))
+      ∙ ap (λ (j : ℕ). wordAt j s) (let e : a + (lowAt + 4 * i) ≡ a + lowAt + 4 * i = omega arith in e)
 
   pub lane-right : (count : ℕ) → RightAt (laneWith count) a s ↔ LaneRight count a s
   unfolding laneWith
@@ -203,10 +213,10 @@ module _ (s : List ℕ) (k : Bytes s) (a : ℕ) (h : a + blockSize ≤ length s)
       let x = laneLayout .read t in
       let fits = lane-sound .fits t (part-bytes a blockSize s k) in
       let split = via-at lane-sound a s padHeard (cutHeard count) (pad-fits (cutHeard count x) (cut-fits count x (fits .lane))) in
-      let heard = heard-same count x (fits .four) in (
+      let heard = heard-same count x (fits .four) (fits .five) in (
         λ r.
             let v = split .0 r in
             let b = block-right .0 (v .0) in
-            record { heard = λ i l j. sym (heard-word i j) ∙ heard .0 (v .1) i l j; queue = b .0; rest = b .1 },
-        λ r. split .1 (block-right .1 (r .queue, r .rest), heard .1 (λ i l j. heard-word i j ∙ r .heard i l j)),
+            record { heard = λ i l j. sym (heard-word i j) ∙ heard .0 (v .1) .0 i l j; queue = b .0; low = λ i l j. sym (low-word i j) ∙ heard .0 (v .1) .1 i (omega arith) j; rest = b .1 },
+        λ r. split .1 (block-right .1 (r .queue, r .rest), heard .1 (λ i l j. heard-word i j ∙ r .heard i l j, λ i l j. low-word i j ∙ r .low i (omega arith) j)),
       )

@@ -7,10 +7,10 @@ use lib.ListN.{length, getD, take, drop}
 use lib.Seq.{drop-drop}
 use Rattle.plan.specs.Layout.{spelled, readFields}
 use Rattle.rules.specs.Line.{logLimit, queueLimit, heldLimit, targetLimit, Message, Entry, Held, Target, Node, Lane}
-use Rattle.state.specs.Sizes.{countSize, statusAt, crashedAt, timeAt, logAt, entrySize, heldAt, heldSize, targetsAt, targetSize, markAt, takenAt, heardAt, parentLimit, queueAt, messageSize}
+use Rattle.state.specs.Sizes.{countSize, statusAt, crashedAt, timeAt, logAt, entrySize, heldAt, heldSize, targetsAt, targetSize, markAt, takenAt, heardAt, lowAt, lowLimit, parentLimit, queueAt, messageSize}
 use Rattle.state.specs.Pieces.{messageLayout, entryLayout, heldLayout, targetLayout}
 use Rattle.state.specs.Node.{statusOf, crashOf, logLayout, heldListLayout, targetsLayout, nodeLayout}
-use Rattle.state.specs.Lane.{heardWidths, queueLayout, laneLayout}
+use Rattle.state.specs.Lane.{heardWidths, lowWidths, queueLayout, laneLayout}
 use Rattle.state.proofs.ReadLaws.{list-count, list-at, node-read, lane-read}
 
 -- A count of four bytes.
@@ -74,6 +74,16 @@ module _ (b : List ℕ) where
 
   pub heard-four : length (laneLayout .read b .heard) ≡ parentLimit
   heard-four = ap (λ (x : Lane). length (x .heard)) (lane-read b)
+
+  five-at : (s : List ℕ) (i : ℕ) → i < lowLimit → getD (readFields lowWidths s) i 0 ≡ spelled 0 (take 4 (drop (4 * i) s))
+  five-at s zero h = refl
+  five-at s (suc i) h = four-at (drop 4 s) i (omega arith) ∙ ap (λ (t : List ℕ). spelled 0 (take 4 t)) (drop-drop (4 * i) 4 s ∙ ap (λ (j : ℕ). drop j s) (let e : 4 + 4 * i ≡ 4 * suc i = omega arith in e))
+
+  pub low-at : (i : ℕ) → i < lowLimit → getD (laneLayout .read b .low) i 0 ≡ spelled 0 (take 4 (drop (lowAt + 4 * i) b))
+  low-at i h = ap (λ (x : Lane). getD (x .low) i 0) (lane-read b) ∙ five-at (drop lowAt b) i h ∙ ap (λ (t : List ℕ). spelled 0 (take 4 t)) (drop-drop (4 * i) lowAt b)
+
+  pub low-five : length (laneLayout .read b .low) ≡ lowLimit
+  low-five = ap (λ (x : Lane). length (x .low)) (lane-read b)
 
   pub queue-count : length (laneLayout .read b .queue) ≡ min (countAt queueAt b) queueLimit
   unfolding queueLayout

@@ -15,8 +15,8 @@ use Rattle.plan.proofs.FitsLaws.{fitting}
 use Rattle.plan.proofs.AcceptedLaws.{four-at}
 use Rattle.rules.specs.Line.{Lane, noLane}
 use Rattle.rules.proofs.steps.PlanOrder.{ordered-channels}
-use Rattle.state.specs.Sizes.{parentLimit}
-use Rattle.state.specs.Lane.{withHeard, padHeard, cutHeard, heardCount, cutLanes}
+use Rattle.state.specs.Sizes.{parentLimit, lowLimit}
+use Rattle.state.specs.Lane.{withHeard, withLow, padHeard, cutHeard, heardCount, cutLanes}
 use Rattle.state.specs.Fits.{TimeFits, LaneFits, PaddedFits}
 use Rattle.state.proofs.ListLaws.{each-append, each-replicate}
 
@@ -33,6 +33,9 @@ heard-few p e b h =
 abbrev padding : List ℕ
 padding = replicate parentLimit 0
 
+abbrev lowPadding : List ℕ
+lowPadding = replicate lowLimit 0
+
 pub pad-fits : (x : Lane) → LaneFits x → PaddedFits (padHeard x)
 unfolding padHeard
 pad-fits x h = record {
@@ -40,19 +43,24 @@ pad-fits x h = record {
     mark = h .mark;
     taken = h .taken;
     heard = each-take TimeFits parentLimit (x .heard ++ padding) (each-append TimeFits (x .heard) padding (h .heard) (each-replicate TimeFits parentLimit 0 (lit< tt)));
+    low = each-take TimeFits lowLimit (x .low ++ lowPadding) (each-append TimeFits (x .low) lowPadding (h .low) (each-replicate TimeFits lowLimit 0 (lit< tt)));
     queue = h .queue;
   };
   four = simp (length-take, length-append) (omega arith);
+  five = simp (length-take, length-append) (omega arith);
 }
 
-pub cut-pad : (x : Lane) (n : ℕ) → length (x .heard) ≡ n → n ≤ parentLimit → cutHeard n (padHeard x) ≡ x
+pub cut-pad : (x : Lane) (n : ℕ) → length (x .heard) ≡ n → length (x .low) ≡ suc n → n ≤ parentLimit → cutHeard n (padHeard x) ≡ x
 unfolding padHeard cutHeard
-cut-pad x n e h = ap (λ (hs : List ℕ). withHeard hs x) (take-take n parentLimit (x .heard ++ padding) h ∙ take-at (x .heard) padding n e)
+cut-pad x n e f h =
+    let heard = take-take n parentLimit (x .heard ++ padding) h ∙ take-at (x .heard) padding n e in
+    let low = take-take (suc n) lowLimit (x .low ++ lowPadding) (omega arith) ∙ take-at (x .low) lowPadding (suc n) f in
+    λ i. withLow (low i) (withHeard (heard i) x)
 
 pub cut-pads : (p : Plan) (cs : List Channel) (xs : List Lane) → length xs ≡ length cs
-    → ((b : ℕ) → b < length cs → (length (getD xs b noLane .heard) ≡ heardCount p (getD cs b noChannel)) × (heardCount p (getD cs b noChannel) ≤ parentLimit))
+    → ((b : ℕ) → b < length cs → (length (getD xs b noLane .heard) ≡ heardCount p (getD cs b noChannel)) × (length (getD xs b noLane .low) ≡ suc (heardCount p (getD cs b noChannel))) × (heardCount p (getD cs b noChannel) ≤ parentLimit))
     → cutLanes p cs (map padHeard xs) ≡ xs
 cut-pads p [] [] e h = refl
 cut-pads p [] (x ∷ xs) e h = let no : ⊥ = omega arith in absurd no
 cut-pads p (c ∷ cs) [] e h = let no : ⊥ = omega arith in absurd no
-cut-pads p (c ∷ cs) (x ∷ xs) e h = let k = h zero (omega arith) in rw (cut-pad x (heardCount p c) (k .0) (k .1), cut-pads p cs xs (omega arith) (λ b l. h (suc b) (omega arith)))
+cut-pads p (c ∷ cs) (x ∷ xs) e h = let k = h zero (omega arith) in rw (cut-pad x (heardCount p c) (k .0) (k .1) (k .2), cut-pads p cs xs (omega arith) (λ b l. h (suc b) (omega arith)))

@@ -123,7 +123,7 @@ line-known l f = λ i. record {
   plan = l .plan;
   steps = l .steps;
   nodes = l .nodes;
-  lanes = cut-pads (l .plan) (l .plan .channels) (l .lanes) (f .lanes) (λ b h. (f .heard b h, heard-few (l .plan) (f .plan) b h)) i;
+  lanes = cut-pads (l .plan) (l .plan .channels) (l .lanes) (f .lanes) (λ b h. (f .heard b h, f .low b h, heard-few (l .plan) (f .plan) b h)) i;
 }
 
 pub line-read : (l : Line) → LineFits l → lineOf (lineBytes l) ≡ l

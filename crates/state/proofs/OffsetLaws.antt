@@ -1,5 +1,5 @@
 -- The line's fields by their offsets in the whole state.
-use Prim.Native.Nat.{ℕ, _+_, _*_, min, _≤_, _<_}
+use Prim.Native.Nat.{ℕ, suc, _+_, _*_, min, _≤_, _<_}
 use mathlib.Core.Path.{_≡_, ap, _∙_}
 use mathlib.Core.List.{List}
 use native.Mathlib.Omega.{arith}
@@ -9,13 +9,13 @@ use lib.Seq.{getD-take}
 use Rattle.plan.specs.Layout.{Layout, spelled}
 use Rattle.plan.specs.Plan.{planOf, planNodes, planChannels, channelAt}
 use Rattle.rules.specs.Line.{logLimit, queueLimit, heldLimit, targetLimit, Message, Entry, Held, Target, Node, Lane, nodeAt, laneAt}
-use Rattle.state.specs.Sizes.{pageSize, blockSize, countSize, pageAt, blockAt, statusAt, crashedAt, timeAt, logAt, entrySize, heldAt, heldSize, targetsAt, targetSize, markAt, takenAt, heardAt, parentLimit, queueAt, messageSize}
+use Rattle.state.specs.Sizes.{pageSize, blockSize, countSize, pageAt, blockAt, lowAt, lowLimit, statusAt, crashedAt, timeAt, logAt, entrySize, heldAt, heldSize, targetsAt, targetSize, markAt, takenAt, heardAt, parentLimit, queueAt, messageSize}
 use Rattle.state.specs.Pieces.{messageLayout, entryLayout, heldLayout, targetLayout}
 use Rattle.state.specs.Node.{statusOf, crashOf, nodeLayout}
 use Rattle.state.specs.Lane.{laneLayout, cutHeard, heardCount}
 use Rattle.state.specs.State.{lineOf}
 use Rattle.state.proofs.ReadLaws.{part-part, byte-part}
-use Rattle.state.proofs.FieldLaws.{countAt, status-at, crashed-at, time-at, log-count, log-at, held-count, held-at, targets-count, target-at, mark-at, taken-at, heard-at, queue-count, queue-at}
+use Rattle.state.proofs.FieldLaws.{low-at, countAt, status-at, crashed-at, time-at, log-count, log-at, held-count, held-at, targets-count, target-at, mark-at, taken-at, heard-at, queue-count, queue-at}
 use Rattle.state.proofs.InPlace.{Counted, pageOf, blockOf, node-in, lane-in}
 
 -- ---- a node's fields
@@ -94,6 +94,11 @@ module _ (s : List ℕ) (few : Counted s) (b : ℕ) (h : b < planChannels s) whe
   unfolding cutHeard
   line-heard-at i l q =
       block (λ x. getD (x .heard) i 0) ∙ getD-take count (laneLayout .read (blockOf b s) .heard) i 0 l ∙ heard-at (blockOf b s) i q ∙ block-number (heardAt + 4 * i) (omega arith)
+
+  pub line-low-at : (i : ℕ) → i < suc count → i < lowLimit → getD (on .low) i 0 ≡ spelled 0 (take 4 (drop (blockAt b + (lowAt + 4 * i)) s))
+  unfolding cutHeard
+  line-low-at i l q =
+      block (λ x. getD (x .low) i 0) ∙ getD-take (suc count) (laneLayout .read (blockOf b s) .low) i 0 l ∙ low-at (blockOf b s) i q ∙ block-number (lowAt + 4 * i) (omega arith)
 
   pub line-queue-count : length (on .queue) ≡ min (countAt (blockAt b + queueAt) s) queueLimit
   unfolding cutHeard

@@ -13,13 +13,13 @@ use Rattle.plan.proofs.LayoutLaws.{length-readSlots, slot-at, fields-front}
 use Rattle.plan.proofs.ReadLaws.{byte-field}
 use Rattle.plan.specs.Record.{recordLayout}
 use Rattle.state.specs.Sound.{Sound}
-use Rattle.state.specs.Sizes.{countSize, crashedAt, statusAt, timeAt, logAt, heldAt, targetsAt, markAt, takenAt, heardAt, queueAt}
+use Rattle.state.specs.Sizes.{countSize, crashedAt, statusAt, timeAt, logAt, heldAt, targetsAt, markAt, takenAt, heardAt, queueAt, lowAt}
 use Rattle.state.specs.Pieces.{originFrom, originLayout, messageFrom, messageLayout, entryFrom, entryLayout, heldFrom, heldLayout, targetWidths, targetOf, targetLayout}
 use Rattle.state.specs.Node.{statusOf, crashOf, nodeWidths, nodeFrom, logLayout, heldListLayout, targetsLayout, nodeLayout}
-use Rattle.state.specs.Lane.{heardWidths, laneWidths, laneFrom, queueLayout, laneLayout}
+use Rattle.state.specs.Lane.{heardWidths, laneWidths, lowWidths, lowFields, laneFrom, queueLayout, laneLayout}
 use Rattle.state.proofs.SoundLaws.{number-sound, pair-sound}
 use Rattle.state.proofs.PieceLaws.{record-sound, origin-sound}
-use Rattle.state.proofs.BlockLaws.{log-sound, held-list-sound, node-parts-sound, lane-parts-sound}
+use Rattle.state.proofs.BlockLaws.{queue-sound, log-sound, held-list-sound, node-parts-sound, lane-parts-sound}
 
 -- ---- parts of parts
 
@@ -140,14 +140,16 @@ pub lane-read : (b : List ℕ)
       taken = spelled 0 (take 4 (drop takenAt b));
       heard = readFields heardWidths (drop heardAt b);
       queue = queueLayout .read (drop queueAt b);
+      low = readFields lowWidths (drop lowAt b);
     }
-unfolding laneLayout
+unfolding laneLayout lowFields
 lane-read b =
     ap laneFrom (lane-parts-sound .front b)
-    ∙ ap (λ ns. laneFrom (ns, queueLayout .read (drop 24 b))) (fields-front laneWidths b)
+    ∙ ap (λ ns. laneFrom (ns, (queueLayout .read (take 164 (drop 24 b)), readFields lowWidths (drop 164 (drop 24 b))))) (fields-front laneWidths b)
     ∙ (λ i. record {
       mark = spelled 0 (take 4 b);
       taken = spelled 0 (take 4 (drop 4 b));
       heard = readFields heardWidths (drop-drop 4 4 b i);
-      queue = queueLayout .read (drop 24 b);
+      queue = queue-sound .front (drop 24 b) i;
+      low = readFields lowWidths (drop-drop 164 24 b i);
     })

@@ -12,9 +12,9 @@ use Rattle.plan.specs.Check.{planRefusal}
 use Rattle.plan.proofs.CheckLaws.{accepted}
 use Rattle.plan.proofs.PlanLaws.{plan-written, node-count, channel-count}
 use Rattle.rules.specs.Line.{Lane, freshNode, freshLane, initialLine, parents, onlyCount}
-use Rattle.state.specs.Sizes.{stateSize, pageSize, blockSize, stepsWidths, stepsSize, planArea, stepsRest, nodePages, laneBlocks, tailSize, parentLimit}
+use Rattle.state.specs.Sizes.{stateSize, pageSize, blockSize, stepsWidths, stepsSize, planArea, stepsRest, nodePages, laneBlocks, tailSize, parentLimit, lowLimit}
 use Rattle.state.specs.Node.{nodeLayout}
-use Rattle.state.specs.Lane.{laneLayout, withHeard, padHeard}
+use Rattle.state.specs.Lane.{laneLayout, withHeard, withLow, padHeard}
 use Rattle.state.specs.State.{stepsPart, nodesPart, lanesPart, lineBytes}
 use Rattle.state.proofs.ListLaws.{zeros-many, zeros-append, all-zero, take-replicate}
 use Rattle.state.proofs.LineLaws.{line-long}
@@ -54,8 +54,11 @@ nodes-zero (suc n) = zeros-append (nodeLayout .write freshNode) (writeSlots node
 padded-zero : (n : ℕ) → take {A = ℕ} parentLimit (replicate n 0 ++ replicate parentLimit 0) ≡ replicate parentLimit 0
 padded-zero n = ap (take parentLimit) (replicate-append-replicate n parentLimit 0) ∙ take-replicate parentLimit (n + parentLimit) 0 (omega arith)
 
+low-zero : (n : ℕ) → take {A = ℕ} lowLimit (replicate n 0 ++ replicate lowLimit 0) ≡ replicate lowLimit 0
+low-zero n = ap (take lowLimit) (replicate-append-replicate n lowLimit 0) ∙ take-replicate lowLimit (n + lowLimit) 0 (omega arith)
+
 abbrev emptyLane : Lane
-emptyLane = record { mark = 0; taken = 0; heard = replicate parentLimit 0; queue = [] }
+emptyLane = record { mark = 0; taken = 0; heard = replicate parentLimit 0; queue = []; low = replicate lowLimit 0 }
 
 empty-written : laneLayout .write emptyLane ≡ replicate blockSize 0
 unfolding laneLayout
@@ -63,7 +66,7 @@ empty-written = refl
 
 fresh-padded : (p : Plan) (c : Channel) → padHeard (freshLane p c 0) ≡ emptyLane
 unfolding padHeard freshLane
-fresh-padded p c = ap (λ (hs : List ℕ). withHeard hs emptyLane) (padded-zero (length (parents p (c .sender))))
+fresh-padded p c = let n = length (parents p (c .sender)) in λ i. withLow (low-zero (suc n) i) (withHeard (padded-zero n i) emptyLane)
 
 pub fresh-lane : (p : Plan) (c : Channel) → laneLayout .write (padHeard (freshLane p c 0)) ≡ replicate blockSize 0
 fresh-lane p c = ap (laneLayout .write) (fresh-padded p c) ∙ empty-written

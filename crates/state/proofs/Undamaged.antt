@@ -20,7 +20,7 @@ use Rattle.plan.proofs.FitsLaws.{fitting}
 use Rattle.rules.specs.Lists.{anyOf, joined, upTo}
 use Rattle.rules.specs.Line.{logLimit, queueLimit, heldLimit, targetLimit, consoleCount, acceptedSteps, Origin, fed, made, Message, Entry, Held, Target, Node, Lane, Line, nodeAt, laneAt, senderOf, parents, timeLimit}
 use Rattle.rules.specs.Replay.{entryAt}
-use Rattle.rules.specs.Damaged.{someNode, someChannel, planBroken, misshapen, stepsPast, workedOn, recordPastLimits, nodePastLimits, channelPastLimits, isParent, notParent, beforeNotParent, nodeWrongParent, channelWrongParent, originTimes, nodeNamedTimes, nodeOtherTimes, channelNamedTimes, channelOtherTimes, nodeTimePast, channelTimePast, nodeTimeZero, channelTimeZero, originWrong, beforeWrong, nodeMakerWrong, channelMakerWrong, logWrong, pastClock, heldWrong, heldNotPassed, queueWrong, markMissing, markOnEnd, marksJoined, replayWrong, nodeHolds, channelHolds, nodeDamaged, channelDamaged, damaged}
+use Rattle.rules.specs.Damaged.{someNode, someChannel, planBroken, misshapen, stepsPast, workedOn, recordPastLimits, nodePastLimits, channelPastLimits, isParent, notParent, beforeNotParent, nodeWrongParent, channelWrongParent, originTimes, nodeNamedTimes, nodeOtherTimes, channelNamedTimes, channelOtherTimes, nodeTimePast, channelTimePast, nodeTimeZero, channelTimeZero, originWrong, beforeWrong, nodeMakerWrong, channelMakerWrong, logWrong, pastClock, heldWrong, heldNotPassed, queueWrong, markMissing, markOnEnd, marksJoined, replayWrong, nodeHolds, channelHolds, lowPast, lowWrong, nodeDamaged, channelDamaged, damaged}
 use Rattle.rules.proofs.steps.PlanOrder.{ordered-channels}
 use Rattle.state.specs.Lane.{heardCount}
 use Rattle.state.specs.Fits.{TimeFits, OriginFits, MessageFits, EntryFits, HeldFits, TargetFits, NodeFits, LaneFits, LineFits}
@@ -63,6 +63,15 @@ module _ (p : Plan) (e : planFits p ≡ true) where
 
     time-fits : (t : ℕ) → Within t → TimeFits t
     time-fits t h = omega arith
+
+    -- What is not past numbers within the steps is within them.
+    low-each : (ks ts : List ℕ) → length ks ≡ length ts → lowPast ks ts ≡ false → Each Within ts → Each Within ks
+    low-each [] ts q e h = tt
+    low-each (k ∷ ks) [] q e h = let no : ⊥ = omega arith in absurd no
+    low-each (k ∷ ks) (t ∷ ts) q e h =
+        let (a, b) = neither-true (ltb t k) (lowPast ks ts) e in
+        let c = ltb-false t k a in
+        (omega (arith, h .0), low-each ks ts (omega arith) b (h .1))
 
     origin-fits : (n : ℕ) (o : Origin) → notParent p n o ≡ false → Each Within (originTimes o) → OriginFits o
     origin-fits n fed q h = (lit< tt, (lit< tt, tt))
@@ -167,15 +176,16 @@ module _ (p : Plan) (e : planFits p ≡ true) where
           (λ m t h. record { what = record-fits (m .what) (t .0); time = time-fits (m .time) (h .0); origin = origin-fits (channelAt p b .sender) (m .origin) (t .1) (h .1) }) (x .queue) tests
           (each-joined Within (λ (m : Message). m .time ∷ originTimes (m .origin)) (x .queue) d)
 
-      lane-fits : channelPastLimits x ≡ false → channelWrongParent p b x ≡ false → channelTimePast steps x ≡ false → LaneFits x
-      unfolding channelPastLimits channelWrongParent channelTimePast
-      lane-fits limits wrong past =
+      lane-fits : length (x .low) ≡ suc (length (x .heard)) → lowWrong x ≡ false → channelPastLimits x ≡ false → channelWrongParent p b x ≡ false → channelTimePast steps x ≡ false → LaneFits x
+      unfolding channelPastLimits channelWrongParent channelTimePast lowWrong
+      lane-fits long below limits wrong past =
           let a = neither-true (ltb queueLimit (length (x .queue))) (anyOf (λ (m : Message). recordPastLimits (m .what)) (x .queue)) limits in
           let all = each-split Within (channelNamedTimes x) (channelOtherTimes x) (times-within (channelNamedTimes x ++ channelOtherTimes x) past) in
           record {
             mark = time-fits (x .mark) (all .1 .0);
             taken = time-fits (x .taken) (all .1 .1 .0);
             heard = each-imply Within TimeFits time-fits (x .heard) (all .1 .1 .1);
+            low = each-imply Within TimeFits time-fits (x .low) (low-each (x .low) (x .taken ∷ x .heard) long below (all .1 .1));
             queue = (ltb-false queueLimit (length (x .queue)) (a .0), message-fits (a .1) wrong (all .0));
           }
 
@@ -190,11 +200,11 @@ first-five false false false true e f g h i j k m n q = absurd (true≢false q)
 first-five false false false false true f g h i j k m n q = absurd (true≢false q)
 first-five false false false false false f g h i j k m n q = (refl, (refl, (refl, refl)))
 
-first-three : (a b c d e f g h : Bool) → (a || b || c || d || e || f || g || h) ≡ false → (a ≡ false) × ((b ≡ false) × (c ≡ false))
-first-three true b c d e f g h q = absurd (true≢false q)
-first-three false true c d e f g h q = absurd (true≢false q)
-first-three false false true d e f g h q = absurd (true≢false q)
-first-three false false false d e f g h q = (refl, (refl, refl))
+first-three : (a b c d e f g h i : Bool) → (a || b || c || d || e || f || g || h || i) ≡ false → (a ≡ false) × ((b ≡ false) × (c ≡ false))
+first-three true b c d e f g h i q = absurd (true≢false q)
+first-three false true c d e f g h i q = absurd (true≢false q)
+first-three false false true d e f g h i q = absurd (true≢false q)
+first-three false false false d e f g h i q = (refl, (refl, refl))
 
 node-conditions : (l : Line) (n : ℕ) → nodeDamaged l n ≡ false
     → (nodePastLimits (nodeAt l n) ≡ false) × ((nodeWrongParent (l .plan) n (nodeAt l n) ≡ false) × ((nodeTimePast (acceptedSteps l) (nodeAt l n) ≡ false) × (nodeMakerWrong (l .plan) n (nodeAt l n) ≡ false)))
@@ -209,7 +219,7 @@ channel-conditions : (l : Line) (b : ℕ) → channelDamaged l b ≡ false
 unfolding channelDamaged
 channel-conditions l b q =
     let s = laneAt l b in
-    first-three (channelPastLimits s) (channelWrongParent (l .plan) b s) (channelTimePast (acceptedSteps l) s) (channelTimeZero s) (channelMakerWrong (l .plan) b s) (queueWrong l b) (marksJoined l b) (channelHolds l b) q
+    first-three (channelPastLimits s) (channelWrongParent (l .plan) b s) (channelTimePast (acceptedSteps l) s) (channelTimeZero s) (channelMakerWrong (l .plan) b s) (queueWrong l b) (marksJoined l b) (channelHolds l b) (lowWrong s) q
 
 -- What is known of a line that is not damaged.
 record Whole (l : Line) : Type 0 where
@@ -247,20 +257,25 @@ steps-fit {ks} f = four-words-fit ks (f .four) (each-known TimeFits ks 0 (λ c h
 
 -- A node for each rule, a lane for each channel, an entry heard for each parent of its sender.
 shaped : (l : Line) → misshapen l ≡ false
-    → (length (l .nodes) ≡ nodeCount (l .plan)) × ((length (l .lanes) ≡ channelCount (l .plan)) × ((b : ℕ) → b < channelCount (l .plan) → length (laneAt l b .heard) ≡ heardCount (l .plan) (channelAt (l .plan) b)))
+    → (length (l .nodes) ≡ nodeCount (l .plan)) × ((length (l .lanes) ≡ channelCount (l .plan)) × ((b : ℕ) → b < channelCount (l .plan) → (length (laneAt l b .heard) ≡ heardCount (l .plan) (channelAt (l .plan) b)) × (length (laneAt l b .low) ≡ suc (heardCount (l .plan) (channelAt (l .plan) b)))))
 unfolding misshapen heardCount
 shaped l q =
     let steps : Bool = eqb (length (l .steps)) consoleCount in
     let nodes : Bool = eqb (length (l .nodes)) (nodeCount (l .plan)) in
     let lanes : Bool = eqb (length (l .lanes)) (channelCount (l .plan)) in
     let short : ℕ → Bool = λ b. not (eqb (length (laneAt l b .heard)) (length (parents (l .plan) (senderOf l b)))) in
-    let a = neither-true (not steps || not nodes || not lanes) (someChannel l short) q in
+    let low : ℕ → Bool = λ b. not (eqb (length (laneAt l b .low)) (suc (length (parents (l .plan) (senderOf l b))))) in
+    let z = neither-true (not steps || not nodes || not lanes || someChannel l short) (someChannel l low) q in
+    let a = neither-true (not steps || not nodes || not lanes) (someChannel l short) (z .0) in
     let b = neither-true (not steps || not nodes) (not lanes) (a .0) in
     let c = neither-true (not steps) (not nodes) (b .0) in (
       eqb-true (length (l .nodes)) (nodeCount (l .plan)) (not-false nodes (c .1)),
       (
         eqb-true (length (l .lanes)) (channelCount (l .plan)) (not-false lanes (b .1)),
-        λ c h. eqb-true (length (laneAt l c .heard)) (length (parents (l .plan) (senderOf l c))) (not-false _ (by-number short (channelCount (l .plan)) (a .1) c h)),
+        λ c h. (
+          eqb-true (length (laneAt l c .heard)) (length (parents (l .plan) (senderOf l c))) (not-false _ (by-number short (channelCount (l .plan)) (a .1) c h)),
+          eqb-true (length (laneAt l c .low)) (suc (length (parents (l .plan) (senderOf l c)))) (not-false _ (by-number low (channelCount (l .plan)) (z .1) c h)),
+        ),
       ),
     )
 
@@ -277,6 +292,7 @@ undamaged-fits l q =
       nodes = shape .0;
       lanes = shape .1 .0;
       node = λ n h. let c = node-conditions l n (w .node n h) in node-fits (l .plan) fits (acceptedSteps l) few n (nodeAt l n) (c .0) (c .1 .0) (c .1 .1 .0) (c .1 .1 .1);
-      lane = λ b h. let c = channel-conditions l b (w .channel b h) in lane-fits (l .plan) fits (acceptedSteps l) few b (laneAt l b) (c .0) (c .1 .0) (c .1 .1);
-      heard = shape .1 .1;
+      lane = λ b h. let c = channel-conditions l b (w .channel b h) in (let s = undamaged-sound l q .standing .channels b h .fits in lane-fits (l .plan) fits (acceptedSteps l) few b (laneAt l b) (s .low-long ∙ ap suc (sym (s .heard-long))) (s .low-below) (c .0) (c .1 .0) (c .1 .1));
+      heard = λ b h. shape .1 .1 b h .0;
+      low = λ b h. shape .1 .1 b h .1;
     }

@@ -12,14 +12,14 @@ use Rattle.plan.specs.Plan.{nodeCount, channelCount, channelAt, headNumbers}
 use Rattle.plan.proofs.NumberLaws.{length-bytesOf}
 use Rattle.plan.proofs.FitsLaws.{fitting}
 use Rattle.rules.specs.Line.{Entry, Held, Target, Message, Status, Node, Lane, Line, nodeAt, laneAt, freshNode, noLane, withNode, withLane, consoleCount, stepsFrom, withSteps}
-use Rattle.state.specs.Sizes.{stepsAt, stepsRest, pageSize, pageAt, nodePages, blockSize, blockAt, laneBlocks, tailSize, statusAt, crashedAt, timeAt, logAt, heldAt, targetsAt, nodeRest, markAt, takenAt, heardAt, parentLimit, queueAt, laneRest, stepsWidths, stepsOfAt, countSize}
+use Rattle.state.specs.Sizes.{stepsAt, stepsRest, pageSize, pageAt, nodePages, blockSize, lowAt, lowLimit, blockAt, laneBlocks, tailSize, statusAt, crashedAt, timeAt, logAt, heldAt, targetsAt, nodeRest, markAt, takenAt, heardAt, parentLimit, queueAt, laneRest, stepsWidths, stepsOfAt, countSize}
 use Rattle.state.specs.Node.{statusNumber, crashNumber, nodeWidths, nodeHeadNumbers, logLayout, heldListLayout, targetsLayout, nodeLayout}
-use Rattle.state.specs.Lane.{heardWidths, laneWidths, withHeard, padHeard, queueLayout, laneLayout, heardCount}
+use Rattle.state.specs.Lane.{heardWidths, laneWidths, lowWidths, lowFields, withLow, withHeard, padHeard, queueLayout, laneLayout, heardCount}
 use Rattle.state.specs.State.{planPart, stepsPart, nodesPart, lanesPart, lineBytes}
 use Rattle.state.specs.Fits.{TimeFits, NodeFits, LaneFits, LineFits}
-use Rattle.state.specs.Changes.{withStatus, withCrashed, withTime, withLog, withHeld, withTargets, withMark, withTaken, withQueue, nothingHeard}
+use Rattle.state.specs.Changes.{withStatus, withCrashed, withTime, withLog, withHeld, withTargets, withMark, withTaken, withQueue, nothingHeard, nothingLow}
 use Rattle.state.proofs.SoundLaws.{fields-sound}
-use Rattle.state.proofs.BlockLaws.{log-sound, held-list-sound, node-sound, lane-sound, four-words-known}
+use Rattle.state.proofs.BlockLaws.{queue-sound, log-sound, held-list-sound, node-sound, lane-sound, four-words-known}
 use Rattle.state.proofs.LineLaws.{plan-part-sound, steps-part-sound, nodes-part-sound}
 use Rattle.state.proofs.ListLaws.{take-replicate}
 use Rattle.state.proofs.InPlace.{plan-long, nodes-long}
@@ -114,6 +114,34 @@ four-field vs (suc (suc zero)) v e h = field-set heardWidths vs 2 v (lit< tt) (o
 four-field vs (suc (suc (suc zero))) v e h = field-set heardWidths vs 3 v (lit< tt) (omega arith)
 four-field vs (suc (suc (suc (suc i)))) v e h = let no : ⊥ = omega arith in absurd no
 
+-- The low clock's part, as it is written.
+abbrev pub fiveLow : List ℕ → List ℕ
+fiveLow ks = take lowLimit (ks ++ replicate lowLimit 0)
+
+pub five-set : (ks : List ℕ) (i v : ℕ) → i < length ks → i < lowLimit → fiveLow (set ks i v) ≡ set (fiveLow ks) i v
+five-set ks i v h k = ap (take lowLimit) (sym (set-append-left ks (replicate lowLimit 0) i v h)) ∙ take-set-lt lowLimit (ks ++ replicate lowLimit 0) i v k
+
+pub five-at : (ks : List ℕ) (i : ℕ) → i < length ks → i < lowLimit → getD (fiveLow ks) i 0 ≡ getD ks i 0
+five-at ks i h k = getD-take lowLimit (ks ++ replicate lowLimit 0) i 0 k ∙ List·getD-append ks (replicate lowLimit 0) 0 i h
+
+pub five-long : (ks : List ℕ) → length (fiveLow ks) ≡ lowLimit
+five-long ks = simp (length-take, length-append) (omega arith)
+
+pub low-bytes-long : (ks : List ℕ) → length (writeFields lowWidths (fiveLow ks)) ≡ 20
+unfolding fields
+low-bytes-long ks = fields-sound lowWidths .sized (fiveLow ks)
+
+five-none : (ks : List ℕ) → fiveLow (replicate (length ks) 0) ≡ replicate lowLimit 0
+five-none ks = rw replicate-append-replicate (take-replicate lowLimit (length ks + lowLimit) 0 (omega arith))
+
+five-field : (vs : List ℕ) (i v : ℕ) → length vs ≡ lowLimit → i < lowLimit → Swapped (4 * i) (bytesOf 4 (getD vs i 0)) (bytesOf 4 v) (writeFields lowWidths vs) (writeFields lowWidths (set vs i v))
+five-field vs zero v e h = field-set lowWidths vs 0 v (lit< tt) (omega arith)
+five-field vs (suc zero) v e h = field-set lowWidths vs 1 v (lit< tt) (omega arith)
+five-field vs (suc (suc zero)) v e h = field-set lowWidths vs 2 v (lit< tt) (omega arith)
+five-field vs (suc (suc (suc zero))) v e h = field-set lowWidths vs 3 v (lit< tt) (omega arith)
+five-field vs (suc (suc (suc (suc zero)))) v e h = field-set lowWidths vs 4 v (lit< tt) (omega arith)
+five-field vs (suc (suc (suc (suc (suc i))))) v e h = let no : ⊥ = omega arith in absurd no
+
 module _ (x : Lane) where
   abbrev numbers : Lane → List ℕ
   numbers y = y .mark ∷ y .taken ∷ fourHeard (y .heard)
@@ -124,8 +152,11 @@ module _ (x : Lane) where
   abbrev end : List ℕ
   end = replicate laneRest 0
 
+  abbrev lowed : List ℕ
+  lowed = writeFields lowWidths (fiveLow (x .low))
+
   abbrev queued : List ℕ
-  queued = queueLayout .write (x .queue)
+  queued = queueLayout .write (x .queue) ++ writeFields lowWidths (fiveLow (x .low))
 
   pub lane-mark : (v : ℕ) → Swapped markAt (bytesOf 4 (x .mark)) (bytesOf 4 v) (block x) (block (withMark v x))
   unfolding laneLayout padHeard
@@ -160,7 +191,24 @@ module _ (x : Lane) where
   pub lane-queue : (v : List Message) → Swapped queueAt (queueLayout .write (x .queue)) (queueLayout .write v) (block x) (block (withQueue v x))
   unfolding laneLayout padHeard
   lane-queue v =
-      swap-front (swap-behind (swap-whole queued (queueLayout .write v)) (writeFields laneWidths (numbers x)) queueAt (fields-sound laneWidths .sized (numbers x))) end
+      swap-front (swap-behind (swap-front (swap-whole (queueLayout .write (x .queue)) (queueLayout .write v)) lowed) (writeFields laneWidths (numbers x)) queueAt (fields-sound laneWidths .sized (numbers x))) end
+
+  -- All of the low clock's part, one number of it, and none.
+  pub lane-low : (ks : List ℕ) → Swapped lowAt (writeFields lowWidths (fiveLow (x .low))) (writeFields lowWidths (fiveLow ks)) (block x) (block (withLow ks x))
+  unfolding laneLayout padHeard lowFields
+  lane-low ks =
+      swap-front
+      (swap-behind
+      (swap-behind (swap-whole (writeFields lowWidths (fiveLow (x .low))) (writeFields lowWidths (fiveLow ks))) (queueLayout .write (x .queue)) 164 (queue-sound .sized (x .queue)))
+      (writeFields laneWidths (numbers x)) queueAt (fields-sound laneWidths .sized (numbers x)))
+      end
+
+  pub lane-low-at : (i v : ℕ) → i < length (x .low) → i < lowLimit → Swapped (lowAt + 4 * i) (bytesOf 4 (getD (x .low) i 0)) (bytesOf 4 v) (block x) (block (withLow (set (x .low) i v) x))
+  lane-low-at i v h k =
+      swap-in (lane-low (set (x .low) i v)) (rw (five-set (x .low) i v h k, ← five-at (x .low) i h k) (five-field (fiveLow (x .low)) i v (five-long (x .low)) k))
+
+  pub lane-low-none : Swapped lowAt (writeFields lowWidths (fiveLow (x .low))) (replicate 20 0) (block x) (block (nothingLow x))
+  lane-low-none = rw (five-none (x .low)) at (lane-low (replicate (length (x .low)) 0))
 
 -- ---- the line
 
@@ -263,7 +311,7 @@ module _ (l : Line) (fits : LineFits l) where
   -- ---- the changed line fits
 
   pub fits-steps : (ks : List ℕ) → FieldsFit stepsWidths ks → LineFits (withSteps ks l)
-  fits-steps ks h = record { plan = fits .plan; steps = h; nodes = fits .nodes; lanes = fits .lanes; node = fits .node; lane = fits .lane; heard = fits .heard }
+  fits-steps ks h = record { plan = fits .plan; steps = h; nodes = fits .nodes; lanes = fits .lanes; node = fits .node; lane = fits .lane; heard = fits .heard; low = fits .low }
 
   pub fits-count : (c k : ℕ) → c < consoleCount → TimeFits k → LineFits (withSteps (set (l .steps) c k) l)
   fits-count c k h f = fits-steps (set (l .steps) c k) (fields-set stepsWidths (l .steps) c k (rw (count-place c h .1) f) (fits .steps))
@@ -278,11 +326,12 @@ module _ (l : Line) (fits : LineFits l) where
     node = λ i p. set-keeps (λ (j : ℕ). NodeFits) (l .nodes) k x freshNode i h (fits .node i p);
     lane = fits .lane;
     heard = fits .heard;
+    low = fits .low;
   }
 
-  pub fits-lane : (b : ℕ) (x : Lane) → LaneFits x → length (x .heard) ≡ length (laneAt l b .heard) → b < channelCount (l .plan) → LineFits (withLane b x l)
+  pub fits-lane : (b : ℕ) (x : Lane) → LaneFits x → length (x .heard) ≡ length (laneAt l b .heard) → length (x .low) ≡ length (laneAt l b .low) → b < channelCount (l .plan) → LineFits (withLane b x l)
   unfolding withLane
-  fits-lane b x h e below = record {
+  fits-lane b x h e f below = record {
     plan = fits .plan;
     steps = fits .steps;
     nodes = fits .nodes;
@@ -291,4 +340,6 @@ module _ (l : Line) (fits : LineFits l) where
     lane = λ i p. set-keeps (λ (j : ℕ). LaneFits) (l .lanes) b x noLane i h (fits .lane i p);
     heard = λ i p.
         set-keeps (λ (j : ℕ) (y : Lane). length (y .heard) ≡ heardCount (l .plan) (channelAt (l .plan) j)) (l .lanes) b x noLane i (e ∙ fits .heard b below) (fits .heard i p);
+    low = λ i p.
+        set-keeps (λ (j : ℕ) (y : Lane). length (y .low) ≡ suc (heardCount (l .plan) (channelAt (l .plan) j))) (l .lanes) b x noLane i (f ∙ fits .low b below) (fits .low i p);
   }

@@ -4,7 +4,7 @@ use mathlib.Core.Bool.{Bool}
 use mathlib.Core.List.{List, [], _∷_, _++_}
 use lib.ListN.{length, drop, replicate}
 use Rattle.rules.specs.Line.{Message, Entry, Held, Target, Status, Node, Lane}
-use Rattle.state.specs.Lane.{withHeard}
+use Rattle.state.specs.Lane.{withHeard, withLow}
 
 -- ---- a node
 
@@ -38,13 +38,13 @@ moreTargets t x = withTargets (x .targets ++ t ∷ []) x
 -- ---- a lane
 
 abbrev pub withMark : ℕ → Lane → Lane
-withMark v x = record { mark = v; taken = x .taken; heard = x .heard; queue = x .queue }
+withMark v x = record { mark = v; taken = x .taken; heard = x .heard; queue = x .queue; low = x .low }
 
 abbrev pub withTaken : ℕ → Lane → Lane
-withTaken v x = record { mark = x .mark; taken = v; heard = x .heard; queue = x .queue }
+withTaken v x = record { mark = x .mark; taken = v; heard = x .heard; queue = x .queue; low = x .low }
 
 abbrev pub withQueue : List Message → Lane → Lane
-withQueue v x = record { mark = x .mark; taken = x .taken; heard = x .heard; queue = v }
+withQueue v x = record { mark = x .mark; taken = x .taken; heard = x .heard; queue = v; low = x .low }
 
 abbrev pub nothingHeard : Lane → Lane
 nothingHeard x = withHeard (replicate (length (x .heard)) 0) x
@@ -54,3 +54,7 @@ moreQueued m x = withQueue (x .queue ++ m ∷ []) x
 
 abbrev pub firstGone : Lane → Lane
 firstGone x = withQueue (drop 1 (x .queue)) x
+
+-- The low clock's part emptied.
+abbrev pub nothingLow : Lane → Lane
+nothingLow x = withLow (replicate (length (x .low)) 0) x

@@ -79,7 +79,7 @@ sent = record {
   plan = twoNodes .plan;
   steps = onlyCount 2;
   nodes = record { status = up; crashed = false; time = 1; log = record { what = piece; time = 1; origin = fed; before = fed } ∷ []; held = []; targets = [] } ∷ freshNode ∷ [];
-  lanes = record { mark = 1; taken = 0; heard = []; queue = record { what = piece; time = 1; origin = fed } ∷ [] } ∷ [];
+  lanes = record { mark = 1; taken = 0; heard = []; queue = record { what = piece; time = 1; origin = fed } ∷ []; low = 0 ∷ [] } ∷ [];
 }
 
 unfoldable pub replaying : Line
@@ -98,7 +98,7 @@ replaying = record {
         targets = record { time = 5; parent = 0; parentTime = 6 } ∷ [];
       }
       ∷ [];
-  lanes = record { mark = 1; taken = 2; heard = []; queue = record { what = piece; time = 7; origin = made 2 9 } ∷ [] } ∷ [];
+  lanes = record { mark = 1; taken = 2; heard = []; queue = record { what = piece; time = 7; origin = made 2 9 } ∷ []; low = 0 ∷ [] } ∷ [];
 }
 
 pub sent-read : lineOf (lineBytes sent) ≡ sent

@@ -1,5 +1,5 @@
 -- Lines that fit the layout: their numbers are ones that their bytes can spell.
-use Prim.Native.Nat.{ℕ, _^_, _<_}
+use Prim.Native.Nat.{ℕ, suc, _^_, _<_}
 use mathlib.Core.Path.{_≡_}
 use mathlib.Core.Bool.{true}
 use lib.ListN.{length}
@@ -8,7 +8,7 @@ use Rattle.plan.specs.Plan.{nodeCount, channelCount, channelAt}
 use Rattle.plan.specs.Check.{planFits}
 use Rattle.plan.specs.Fits.{RecordFits}
 use Rattle.rules.specs.Line.{logLimit, queueLimit, heldLimit, targetLimit, Origin, Message, Entry, Held, Target, Node, Lane, Line, nodeAt, laneAt}
-use Rattle.state.specs.Sizes.{stepsWidths, parentLimit}
+use Rattle.state.specs.Sizes.{stepsWidths, parentLimit, lowLimit}
 use Rattle.state.specs.Pieces.{originWidths, originNumbers}
 use Rattle.state.specs.Lane.{heardCount}
 
@@ -54,12 +54,14 @@ pub record LaneFits (x : Lane) : Type 0 where
   pub mark : TimeFits (x .mark)
   pub taken : TimeFits (x .taken)
   pub heard : Each TimeFits (x .heard)
+  pub low : Each TimeFits (x .low)
   pub queue : UpToFit queueLimit MessageFits (x .queue)
 
--- A lane as it is written, with four heard.
+-- A lane as it is written, with four heard and five numbers of the low clock.
 pub record PaddedFits (x : Lane) : Type 0 where
   pub lane : LaneFits x
   pub four : length (x .heard) ≡ parentLimit
+  pub five : length (x .low) ≡ lowLimit
 
 -- A node for each rule, a lane for each channel, an entry heard for each parent of its sender.
 pub record LineFits (l : Line) : Type 0 where
@@ -70,3 +72,4 @@ pub record LineFits (l : Line) : Type 0 where
   pub node : (n : ℕ) → n < nodeCount (l .plan) → NodeFits (nodeAt l n)
   pub lane : (b : ℕ) → b < channelCount (l .plan) → LaneFits (laneAt l b)
   pub heard : (b : ℕ) → b < channelCount (l .plan) → length (laneAt l b .heard) ≡ heardCount (l .plan) (channelAt (l .plan) b)
+  pub low : (b : ℕ) → b < channelCount (l .plan) → length (laneAt l b .low) ≡ suc (heardCount (l .plan) (channelAt (l .plan) b))

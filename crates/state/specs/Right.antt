@@ -7,7 +7,7 @@ use Rattle.plan.specs.Layout.{spelled}
 use Rattle.plan.specs.Lawful.{Zeros}
 use Rattle.plan.specs.Plan.{planOf, planBytes, sizeByHead, planNodes, planChannels, channelAt}
 use Rattle.rules.specs.Line.{logLimit, queueLimit, heldLimit, targetLimit}
-use Rattle.state.specs.Sizes.{pageSize, planArea, stepsAt, countSize, stepsSize, stepsRest, nodePages, pageAt, laneBlocks, blockSize, blockAt, tailAt, tailSize, statusAt, crashedAt, logAt, entrySize, heldAt, heldSize, targetsAt, targetSize, nodeRestAt, nodeRest, heardAt, parentLimit, queueAt, messageSize, laneRestAt, laneRest}
+use Rattle.state.specs.Sizes.{pageSize, planArea, stepsAt, countSize, stepsSize, stepsRest, nodePages, pageAt, laneBlocks, blockSize, blockAt, tailAt, tailSize, statusAt, crashedAt, logAt, entrySize, heldAt, heldSize, targetsAt, targetSize, nodeRestAt, nodeRest, heardAt, parentLimit, queueAt, messageSize, lowAt, lowLimit, laneRestAt, laneRest}
 use Rattle.state.specs.Lane.{heardCount}
 
 -- So many bytes at an offset are 0.
@@ -64,6 +64,7 @@ pub record NodeRight (a : ℕ) (s : List ℕ) : Type 0 where
 pub record LaneRight (count a : ℕ) (s : List ℕ) : Type 0 where
   pub heard : (i : ℕ) → count ≤ i → i < parentLimit → wordAt (a + heardAt + 4 * i) s ≡ 0
   pub queue : ListRight MessageRight queueLimit messageSize (a + queueAt) s
+  pub low : (i : ℕ) → count < i → i < lowLimit → wordAt (a + lowAt + 4 * i) s ≡ 0
   pub rest : ZerosAt (a + laneRestAt) laneRest s
 
 pub record StateRight (s : List ℕ) : Type 0 where

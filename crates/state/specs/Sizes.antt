@@ -114,11 +114,18 @@ queueAt = 24
 abbrev pub messageSize : ℕ
 messageSize = 20
 
+-- 2026-04: what the receiver's low clock holds for the sender and then for its parents, five numbers.
+abbrev pub lowAt : ℕ
+lowAt = 188
+
+abbrev pub lowLimit : ℕ
+lowLimit = 5
+
 abbrev pub laneRestAt : ℕ
-laneRestAt = 188
+laneRestAt = 208
 
 abbrev pub laneRest : ℕ
-laneRest = 132
+laneRest = 112
 
 -- They add up.
 pub steps-size : sumOf stepsWidths ≡ stepsSize

@@ -1,18 +1,20 @@
 -- What a line refuses and what it does go by its rules, its channels and its nodes, and never by its counts or by the plan's version.
 use Prim.Native.Nat.{ℕ, suc}
-use mathlib.Core.Path.{_≡_, refl, ap, _∙_}
-use mathlib.Core.Bool.{Bool, true, false}
+use mathlib.Core.Path.{_≡_, refl, ap, fun-ext, _∙_}
+use mathlib.Core.Bool.{Bool, true, false, _&&_}
+use lib.Dec.{leb}
 use mathlib.Core.List.{List, [], _∷_, _++_, map}
 use mathlib.Core.Option.{Option, none, some, Option·map}
 use Rattle.plan.specs.declared.Record.{Record}
 use Rattle.plan.specs.Plan.{entering, leaving}
 use Rattle.placing.specs.Item.{Item}
 use Rattle.rules.specs.Lists.{allOf, joined, isEmpty}
-use Rattle.rules.specs.Line.{Message, Entry, Held, Lane, Line, nodeAt, laneAt, receiverOf, withNode, withLane, withLanes}
-use Rattle.rules.specs.Frame.{Frame, feed, send, take, crash, recover}
+use Rattle.rules.specs.Line.{Origin, fed, made, Message, Entry, Held, Lane, Line, nodeAt, laneAt, senderOf, receiverOf, parents, withNode, withLane, withLanes}
+use Rattle.rules.specs.Frame.{Frame, feed, send, take, crash, recover, trim}
 use Rattle.rules.specs.Recover.{targetsOf, conflict, rowsComplete, highOf, recovered}
 use Rattle.rules.specs.Replay.{passedOn, isHeld, heldByRow, itemOf, itemsByRow, placing, nodePlaced, replayEnd, endedIfComplete}
-use Rattle.rules.specs.Step.{isNothing, noSuch, wrongNode, wrongStatus, besideCrashed, badRecord, sendable, nothingThere, queueFull, rowDone, firstRecord, toHold, takeLacks, noSpace, replaying, madeBy, sentLine, takenUp, takenReplaying, takenLane, takenFirst, crashedLine, recoveredLine, effect, noPlacing, lineRefusal}
+use Rattle.rules.specs.Trim.{floorTime, senderBelow, droppable, leading, behind, lowered, withLog, trimmedLine}
+use Rattle.rules.specs.Step.{someStopped, isNothing, noSuch, wrongNode, wrongStatus, besideCrashed, badRecord, sendable, nothingThere, queueFull, rowDone, firstRecord, toHold, takeLacks, noSpace, replaying, madeBy, sentLine, takenUp, takenReplaying, takenLane, takenFirst, crashedLine, recoveredLine, effect, noPlacing, lineRefusal}
 use Rattle.rules.proofs.theorem.Accepted.{firstOf}
 
 -- A choice between two things, taken before a function is applied or after.
@@ -89,6 +91,26 @@ module _ (newer : ℕ → ℕ) (counts : List ℕ) where
   unfolding crashedLine
   crashed-recounted n l = lanes-twice _ _ (entering (l .plan) n) (leaving (l .plan) n) _
 
+  -- What a Trim drops goes by the clocks alone.
+  sender-recounted : (l : Line) (o : Origin) → senderBelow (reheaded newer counts l) o ≡ senderBelow l o
+  unfolding floorTime
+  sender-recounted l fed = refl
+  sender-recounted l (made s t) = refl
+
+  drops-recounted : (l : Line) (n : ℕ) → droppable (reheaded newer counts l) n ≡ droppable l n
+  unfolding droppable
+  drops-recounted l n = fun-ext (λ e. ap (λ (t : Bool). leb (e .time) (floorTime l n) && t) (sender-recounted l (e .origin)))
+
+  trimmed-recounted : (n : ℕ) (l : Line) → trimmedLine n (reheaded newer counts l) ≡ reheaded newer counts (trimmedLine n l)
+  unfolding trimmedLine
+  trimmed-recounted n l = ap (λ (f : Entry → Bool). by f (reheaded newer counts l)) (drops-recounted l n) ∙ lanes-recounted (lower (droppable l n)) (entering (l .plan) n) (withNode n (withLog (behind (droppable l n) (nodeAt l n .log)) (nodeAt l n)) l)
+    where
+      lower : (Entry → Bool) → ℕ → Lane → Lane
+      lower f b = lowered (parents (l .plan) (senderOf l b)) (senderOf l b) (leading f (nodeAt l n .log))
+
+      by : (Entry → Bool) → Line → Line
+      by f k = withLanes (lower f) (entering (l .plan) n) (withNode n (withLog (behind f (nodeAt l n .log)) (nodeAt l n)) k)
+
   recovered-recounted : (n : ℕ) (l : Line) → recoveredLine n (reheaded newer counts l) ≡ Option·map (reheaded newer counts) (recoveredLine n l)
   unfolding recoveredLine
   recovered-recounted n l =
@@ -107,6 +129,7 @@ module _ (newer : ℕ → ℕ) (counts : List ℕ) where
   effect-recounted l (take b) = taken-recounted b (laneAt l b .queue) l
   effect-recounted l (crash n) = ap some (crashed-recounted n l)
   effect-recounted l (recover n) = recovered-recounted n l
+  effect-recounted l (trim n) = ap some (trimmed-recounted n l)
 
   placing-recounted : (l : Line) (f : Frame) → noPlacing (reheaded newer counts l) f ≡ noPlacing l f
   unfolding noPlacing
@@ -128,6 +151,7 @@ module _ (newer : ℕ → ℕ) (counts : List ℕ) where
   space-recounted l (take b) = rw (hold-recounted l (receiverOf l b) (firstRecord (laneAt l b .queue)))
   space-recounted l (crash n) = refl
   space-recounted l (recover n) = refl
+  space-recounted l (trim n) = refl
 
   pub refusal-recounted : (l : Line) (f : Frame) → lineRefusal (reheaded newer counts l) f ≡ lineRefusal l f
   unfolding lineRefusal
@@ -135,7 +159,7 @@ module _ (newer : ℕ → ℕ) (counts : List ℕ) where
     where
       refused : Line → Frame → Bool → Bool → ℕ
       refused l f s t =
-          firstOf ((noSuch l f, 12) ∷ (wrongNode l f, 13) ∷ (wrongStatus l f, 14) ∷ (besideCrashed l f, 15) ∷ (badRecord f, 16) ∷ (nothingThere l f, 17) ∷ (queueFull l f, 18) ∷ (rowDone l f, 19) ∷ (s, 20) ∷ (t, 23) ∷ []) 0
+          firstOf ((noSuch l f, 12) ∷ (someStopped l f, 25) ∷ (wrongNode l f, 13) ∷ (wrongStatus l f, 14) ∷ (besideCrashed l f, 15) ∷ (badRecord f, 16) ∷ (nothingThere l f, 17) ∷ (queueFull l f, 18) ∷ (rowDone l f, 19) ∷ (s, 20) ∷ (t, 23) ∷ []) 0
 
       same : (f : Frame) (s t : Bool) → refused (reheaded newer counts l) f s t ≡ refused l f s t
       same (feed n r) s t = refl
@@ -143,3 +167,4 @@ module _ (newer : ℕ → ℕ) (counts : List ℕ) where
       same (take b) s t = refl
       same (crash n) s t = refl
       same (recover n) s t = refl
+      same (trim n) s t = refl

@@ -175,7 +175,7 @@ module _ (l : Line) (g : Ghost) (cut base : ℕ → ℕ) (fed : List Act) (recei
       }
 
   rebuild-grows : Grows l k
-  rebuild-grows = record { marks = unmarked-was; entries = λ c h e. omega arith; entered = λ m e d i. subst (λ (x : Node). In d (x .log)) (sym (other m (other-unmarked m e))) i }
+  rebuild-grows = record { marks = unmarked-was; entries = λ c h e. omega arith; lows = λ c h e. refl; entered = λ m e d i. subst (λ (x : Node). In d (x .log)) (sym (other m (other-unmarked m e))) i }
 
   rebuild-events : (m : ℕ) → Events k ghostAfter m
   rebuild-events m = elim (ℕ-discrete m n) [
@@ -235,7 +235,7 @@ module _ (l : Line) (g : Ghost) (cut base : ℕ → ℕ) (fed : List Act) (recei
         ordered = inv .ordered;
         marks = marks-beside l steps nodes (l .lanes) n still-marked other crashes marked (inv .marks);
         nodes = rebuild-nodes;
-        logs = λ m e. logged-stays l steps nodes (l .lanes) rebuild-grows g ghostAfter m (other m (other-unmarked m e)) (ghost-other m (other-unmarked m e)) (inv .logs m (unmarked-was m e));
+        logs = λ m e. logged-stays l steps nodes (l .lanes) rebuild-grows g ghostAfter m e (other m (other-unmarked m e)) (ghost-other m (other-unmarked m e)) (inv .logs m (unmarked-was m e));
         events = rebuild-events;
         channels = λ c h. channels-beside l steps nodes (l .lanes) g ghostAfter n other (λ x d e. refl) got-other c h cut cutAfter (cut-other c) (put-other c) (channel-enters c) (channel-leaves c) (inv .channels c h);
         ends = λ c h. ends-beside l steps nodes (l .lanes) g ghostAfter n other (λ x d e. refl) got-other c h (ends-enters c) (ends-leaves c) (inv .ends c h);

@@ -71,9 +71,8 @@ module _ (l : Line) (g : Ghost) (cut base : ℕ → ℕ) (fed : List Act) (recei
   child c h q =
       record {
         took = inv .nodes .others (channelAt (l .plan) c .receiver) (no-source (l .plan) c h) .1;
-        logged =
-            (let s = inv .logs (channelAt (l .plan) c .receiver) (child-unmarked inv n marked c (h, q)) in
-            s .log-is ∙ ap (map (entryOf (l .plan) (channelAt (l .plan) c .receiver))) (sym (s .split ∙ ap (λ (x : List Event). x ++ s .kept) (s .none-gone))));
+        unmarked = child-unmarked inv n marked c (h, q);
+        logs = inv .logs (channelAt (l .plan) c .receiver) (child-unmarked inv n marked c (h, q));
         got-is = inv .channels c h .cut-is ∙ ap (λ (t : ℕ). until timeOf t (put (l .plan) g c)) (inv .channels c h .cut-up (child-up inv n marked c (h, q)));
         exact = inv .ends c h .exact (child-unmarked inv n marked c (h, q));
       }
@@ -114,7 +113,7 @@ module _ (l : Line) (g : Ghost) (cut base : ℕ → ℕ) (fed : List Act) (recei
   lane-enters : (c : ℕ) → Enters (l .plan) n c → laneAt (restoredAs replay) c ≡ freshLane (l .plan) (channelAt (l .plan) c) (restored l n (channelAt (l .plan) c .sender))
   lane-enters = restored-enters l n (inv .ordered) (inv .shape)
 
-  lane-leaves : (c : ℕ) → Leaves (l .plan) n c → laneAt (restoredAs replay) c ≡ record { mark = laneAt l c .taken; taken = laneAt l c .taken; heard = laneAt l c .heard; queue = laneAt l c .queue }
+  lane-leaves : (c : ℕ) → Leaves (l .plan) n c → laneAt (restoredAs replay) c ≡ record { mark = laneAt l c .taken; taken = laneAt l c .taken; heard = laneAt l c .heard; queue = laneAt l c .queue; low = laneAt l c .low }
   lane-leaves = restored-leaves l n (inv .ordered) (inv .shape)
 
   lane-other : (c : ℕ) → channelAt (l .plan) c .receiver ≢ n → channelAt (l .plan) c .sender ≢ n → laneAt (restoredAs replay) c ≡ laneAt l c
@@ -227,7 +226,7 @@ module _ (l : Line) (g : Ghost) (cut base : ℕ → ℕ) (fed : List Act) (recei
             (b, m, t, on, is, omega (arith, time-now, late, ap (λ (x : Target). x .time) is), reached-on l (l .steps) (r .nodes) (r .lanes) n taken-leaves reached));
         target-of = λ b m t i late reached.
             subst (λ (x : List Target). In (targetFrom (l .plan) b m t) x) (sym targets-now)
-            (targets-of l n (targetFrom (l .plan) b m t) (triples-of l g n (inv .ordered) took-own child b m t i (reached-back l (l .steps) (r .nodes) (r .lanes) n taken-leaves reached)) (omega (arith, time-now)));
+            (targets-of l n (targetFrom (l .plan) b m t) (triples-of l g n (inv .ordered) took-own child b m t i (reached-back l (l .steps) (r .nodes) (r .lanes) n taken-leaves reached) (omega (arith, time-now))) (omega (arith, time-now)));
         base-cuts = λ b m t i goes.
             (let (on, into) = took-enters (g n) b m t took-own i in
             let is = base-now b into in
@@ -279,11 +278,12 @@ module _ (l : Line) (g : Ghost) (cut base : ℕ → ℕ) (fed : List Act) (recei
             (λ c h. omega (arith, ap (λ (x : Lane). x .taken) (lane-out m d mark c h))) (λ b h. omega (arith, ap (λ (x : Lane). x .taken) (lane-into m d mark b h))) (inv .rooms m mark))
       ]
 
-  restored-grows : Grows l r
+  pub restored-grows : Grows l r
   restored-grows =
       record {
         marks = λ m e. ap (λ (x : Node). x .crashed) (sym (node-other replay m (other-unmarked m e))) ∙ e;
         entries = λ c h e. at-ends (l .plan) n c h (λ z. absurd (other-unmarked (channelAt (l .plan) c .receiver) e (z .1))) (λ z. omega (arith, taken-leaves c z)) (λ d s. omega (arith, ap (λ (x : Lane). x .taken) (lane-other c d s)));
+        lows = λ c h e. at-ends (l .plan) n c h (λ z. absurd (other-unmarked (channelAt (l .plan) c .receiver) e (z .1))) (λ z. ap (λ (x : Lane). x .low) (lane-leaves c z)) (λ d s. ap (λ (x : Lane). x .low) (lane-other c d s));
         entered = λ m e d i. subst (λ (x : Node). In d (x .log)) (sym (node-other replay m (other-unmarked m e))) i;
       }
 
@@ -294,7 +294,7 @@ module _ (l : Line) (g : Ghost) (cut base : ℕ → ℕ) (fed : List Act) (recei
         ordered = inv .ordered;
         marks = marks-beside l (l .steps) (r .nodes) (r .lanes) n still-marked (node-other replay) crashes marked (inv .marks);
         nodes = nodes-stay l (l .steps) (r .nodes) (r .lanes) (λ m e. node-other replay m (other-unmarked m e)) (λ m e. refl) (inv .nodes);
-        logs = λ m e. logged-stays l (l .steps) (r .nodes) (r .lanes) restored-grows g g m (node-other replay m (other-unmarked m e)) refl (inv .logs m (ap (λ (x : Node). x .crashed) (sym (node-other replay m (other-unmarked m e))) ∙ e));
+        logs = λ m e. logged-stays l (l .steps) (r .nodes) (r .lanes) restored-grows g g m e (node-other replay m (other-unmarked m e)) refl (inv .logs m (ap (λ (x : Node). x .crashed) (sym (node-other replay m (other-unmarked m e))) ∙ e));
         events = λ m. events-stay l (l .steps) (r .nodes) (r .lanes) g g m (λ e. node-other replay m (λ q. up-not-replay (sym e ∙ ap (λ (x : ℕ). nodeAt r x .status) q ∙ now-replays))) refl (inv .events m);
         channels = λ c h. channels-beside l (l .steps) (r .nodes) (r .lanes) g g n (node-other replay) lane-other (λ x d. refl) c h cut cut (λ d. refl) (λ d. refl) (channel-enters c) (channel-leaves c) (inv .channels c h);
         ends = λ c h. ends-beside l (l .steps) (r .nodes) (r .lanes) g g n (node-other replay) lane-other (λ x d. refl) c h (ends-enters c) (ends-leaves c) (inv .ends c h);

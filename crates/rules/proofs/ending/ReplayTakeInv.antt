@@ -29,7 +29,7 @@ module _ (l : Line) (g : Ghost) (cut base : ℕ → ℕ) (fed : List Act) (recei
   heard = raiseHeard (parents (l .plan) (senderOf l b)) (laneAt l b .heard) (m .origin)
 
   abbrev cleared : Line
-  cleared = withLane b (record { mark = laneAt l b .mark; taken = max (laneAt l b .taken) (m .time); heard = heard; queue = rest }) l
+  cleared = withLane b (record { mark = laneAt l b .mark; taken = max (laneAt l b .taken) (m .time); heard = heard; queue = rest; low = laneAt l b .low }) l
 
   abbrev held : Line
   held = withNode n (holding (heldOf (l .plan) n b m) (nodeAt cleared n)) cleared
@@ -58,7 +58,7 @@ module _ (l : Line) (g : Ghost) (cut base : ℕ → ℕ) (fed : List Act) (recei
     pub status : nodeAt k (channelAt (l .plan) b .receiver) .status ≡ replay
     pub targets : nodeAt k (channelAt (l .plan) b .receiver) .targets ≡ nodeAt l (channelAt (l .plan) b .receiver) .targets
     pub others : (j : ℕ) → j ≢ channelAt (l .plan) b .receiver → nodeAt k j ≡ nodeAt l j
-    pub lanes : k .lanes ≡ withLane b (record { mark = laneAt l b .mark; taken = max (laneAt l b .taken) (m .time); heard = raiseHeard (parents (l .plan) (senderOf l b)) (laneAt l b .heard) (m .origin); queue = rest }) l .lanes
+    pub lanes : k .lanes ≡ withLane b (record { mark = laneAt l b .mark; taken = max (laneAt l b .taken) (m .time); heard = raiseHeard (parents (l .plan) (senderOf l b)) (laneAt l b .heard) (m .origin); queue = rest; low = laneAt l b .low }) l .lanes
     pub plan : k .plan ≡ l .plan
     pub steps : k .steps ≡ l .steps
 

@@ -4,14 +4,16 @@ use mathlib.Core.Path.{_≡_, refl, sym, ap, subst, _∙_}
 use mathlib.Core.Logic.{_⊎_, inl, inr}
 use mathlib.Core.Bool.{Bool, true, false, cond, _&&_}
 use mathlib.Core.List.{List, [], _∷_, _++_, map}
+use lib.ListN.{drop}
 use lib.Dec.{ltb, leb, eqb}
-use borrow.Author.Tests.{eq-eqb, eqb-true, lt-ltb, ltb-true}
+use borrow.Author.Tests.{eq-eqb, eqb-true, lt-ltb, ltb-true, le-leb, leb-true}
 use Rattle.basics.specs.Bools.{both-true}
 use Rattle.plan.specs.Plan.{Plan, channelAt, channelCount, leaving, isSink}
 use Rattle.rules.specs.Lists.{keep, joined, greatestOf, leastOf}
-use Rattle.rules.specs.Line.{Origin, fed, made, Entry, Target, Line, nodeAt, laneAt}
-use Rattle.rules.specs.Recover.{childTimes, lowOf, highOf, triple, triples, childTriples, sameTarget, targetBefore, addTarget, sortTargets, targetsOf, restored}
-use Rattle.rules.proofs.lists.Members.{In, here, there, in-none, in-first, in-some, in-keep, keep-in, in-map, map-in, in-left, in-right, append-in, in-joined, joined-in, map-same, in-greatest, in-least, least-above, least-greatest}
+use Rattle.rules.specs.Line.{Origin, fed, made, Entry, Target, Line, nodeAt, laneAt, parents}
+use Rattle.rules.specs.Clock.{entryFor}
+use Rattle.rules.specs.Recover.{childTimes, lowOf, highOf, triple, triples, childTriples, childLows, sameTarget, targetBefore, addTarget, sortTargets, targetsOf, restored}
+use Rattle.rules.proofs.lists.Members.{In, here, there, in-none, in-first, in-some, in-keep, keep-in, in-map, map-in, in-left, in-right, append-in, in-joined, joined-in, map-same, in-greatest, greatest-in, in-least, least-above, least-greatest}
 use Rattle.rules.proofs.lists.ListLaws.{nil-right}
 use Rattle.rules.proofs.line.Joins.{in-leaving, leaving-in, some-leaves}
 
@@ -46,6 +48,9 @@ triples-in n (e ∷ log) i =
       | inl j ↦ (e, here, j)
       | inr j ↦ (let (d, k, h) = triples-in n log j in (d, there k, h))
     ]
+
+pub triples-entry : (n : ℕ) (log : List Entry) {u : Target} → In u (triples n log) → (e : Entry) × In e log × (e .origin ≡ made n (u .time)) × (e .before ≡ made (u .parent) (u .parentTime))
+triples-entry n log i = let (e, j, k) = triples-in n log i in let (o, before) = triple-in n (e .origin) (e .before) k in (e, j, o, before)
 
 -- A triple is an entry in a child's log, made from the node's message at its time, which was made from its parent's message.
 pub record TripleAt (l : Line) (n : ℕ) (u : Target) : Type 0 where
@@ -88,6 +93,12 @@ module _ (l : Line) (n : ℕ) where
   low-above {k} e f =
       least-above (childTimes l n) (let (c, out) = some-leaves (l .plan) n e in in-some (in-map (λ (d : ℕ). laneAt l d .taken) (in-leaving (l .plan) n c (out .0) (out .1))))
       (λ t i. (let (c, j, q) = map-in (λ (d : ℕ). laneAt l d .taken) (leaving (l .plan) n) i in let (h, s) = leaving-in (l .plan) n c j in subst (λ (x : ℕ). k ≤ x) (sym q) (f c h s)))
+
+  pub low-least : {k c : ℕ} → ((d : ℕ) → d < channelCount (l .plan) → channelAt (l .plan) d .sender ≡ n → k ≤ laneAt l d .taken) → c < channelCount (l .plan) → channelAt (l .plan) c .sender ≡ n → k ≤ lowOf l n
+  unfolding lowOf childTimes
+  low-least {k} {c} f h e =
+      least-above (childTimes l n) (in-some (in-map (λ (d : ℕ). laneAt l d .taken) (in-leaving (l .plan) n c h e)))
+      (λ t i. (let (d, j, q) = map-in (λ (d : ℕ). laneAt l d .taken) (leaving (l .plan) n) i in let (o, s) = leaving-in (l .plan) n d j in subst (λ (x : ℕ). k ≤ x) (sym q) (f d o s)))
 
   pub low-high : lowOf l n ≤ highOf l n
   unfolding lowOf highOf
@@ -167,6 +178,42 @@ pub triples-snoc : (n : ℕ) (log : List Entry) (e : Entry) → triple n (e .ori
 triples-snoc n [] e q = nil-right (triple n (e .origin) (e .before)) ∙ q
 triples-snoc n (d ∷ log) e q = ap (λ (ts : List Target). triple n (d .origin) (d .before) ++ ts) (triples-snoc n log e q)
 
+-- A restored entry: what the children's low clocks hold, and the triples up to low; the greatest of them.
+abbrev pub lowThrough : Line → ℕ → ℕ → ℕ → ℕ
+lowThrough l n a c = entryFor a (parents (l .plan) n) (drop 1 (laneAt l c .low))
+
+module _ (l : Line) (n a : ℕ) where
+  abbrev restoring : Target → Bool
+  restoring u = eqb (u .parent) a && leb (u .time) (lowOf l n)
+
+  abbrev rows : List ℕ
+  rows = map (λ (u : Target). u .parentTime) (keep restoring (childTriples l n))
+
+  pub low-restored : (c : ℕ) → c < channelCount (l .plan) → channelAt (l .plan) c .sender ≡ n → entryFor a (parents (l .plan) n) (drop 1 (laneAt l c .low)) ≤ restored l n a
+  unfolding restored childLows
+  low-restored c h q = in-greatest (in-left rows (in-map (lowThrough l n a) (in-leaving (l .plan) n c h q)))
+
+  pub triple-restored : (u : Target) → In u (childTriples l n) → u .parent ≡ a → u .time ≤ lowOf l n → u .parentTime ≤ restored l n a
+  unfolding restored
+  triple-restored u i q h = in-greatest (in-right (childLows l n a) (in-map (λ (v : Target). v .parentTime) (in-keep restoring i (rw (eq-eqb (u .parent) a q, le-leb (u .time) (lowOf l n) h)))))
+
+  pub restored-cases : (restored l n a ≡ 0)
+      ⊎ (((c : ℕ) × (c < channelCount (l .plan)) × (channelAt (l .plan) c .sender ≡ n) × (restored l n a ≡ entryFor a (parents (l .plan) n) (drop 1 (laneAt l c .low))))
+      ⊎ ((u : Target) × In u (childTriples l n) × (u .parent ≡ a) × (u .time ≤ lowOf l n) × (u .parentTime ≡ restored l n a)))
+  unfolding restored childLows
+  restored-cases =
+      elim (greatest-in (map (lowThrough l n a) (leaving (l .plan) n) ++ rows)) [
+        | inl z ↦ inl z
+        | inr i ↦ elim (append-in (map (lowThrough l n a) (leaving (l .plan) n)) i) [
+          | inl j ↦ (let (c, k, q) = map-in (lowThrough l n a) (leaving (l .plan) n) j in let (h, s) = leaving-in (l .plan) n c k in inr (inl (c, h, s, q)))
+          | inr j ↦
+              (let (u, k, q) = map-in (λ (v : Target). v .parentTime) (keep restoring (childTriples l n)) j in
+              let (found, e) = keep-in restoring (childTriples l n) k in
+              let (parent, upto) = both-true (eqb (u .parent) a) (leb (u .time) (lowOf l n)) e in
+              inr (inr (u, found, eqb-true (u .parent) a parent, leb-true (u .time) (lowOf l n) upto, sym q)))
+        ]
+      ]
+
 -- Another line with the same children's entries, and one with the same triples in the children's logs.
 module _ (l k : Line) (n : ℕ) (plans : k .plan ≡ l .plan) where
   module _ (entries : (c : ℕ) → c < channelCount (l .plan) → channelAt (l .plan) c .sender ≡ n → laneAt k c .taken ≡ laneAt l c .taken) where
@@ -192,12 +239,21 @@ module _ (l k : Line) (n : ℕ) (plans : k .plan ≡ l .plan) where
         (ap (λ (p : Plan). map (λ (c : ℕ). triples n (nodeAt k (channelAt p c .receiver) .log)) (leaving p n)) plans
         ∙ map-same (λ (c : ℕ). triples n (nodeAt k (channelAt (l .plan) c .receiver) .log)) (λ (c : ℕ). triples n (nodeAt l (channelAt (l .plan) c .receiver) .log)) (leaving (l .plan) n) (λ c i. let (h, e) = leaving-in (l .plan) n c i in logs c h e))
 
--- Low and the triples decide the targets and the restored entries.
+  -- And with the same low clocks.
+  module _ (lows : (c : ℕ) → c < channelCount (l .plan) → channelAt (l .plan) c .sender ≡ n → laneAt k c .low ≡ laneAt l c .low) where
+    pub lows-same : (a : ℕ) → childLows k n a ≡ childLows l n a
+    unfolding childLows
+    lows-same a =
+        ap (λ (p : Plan). map (λ (c : ℕ). entryFor a (parents p n) (drop 1 (laneAt k c .low))) (leaving p n)) plans
+        ∙ map-same (λ (c : ℕ). entryFor a (parents (l .plan) n) (drop 1 (laneAt k c .low))) (λ (c : ℕ). entryFor a (parents (l .plan) n) (drop 1 (laneAt l c .low))) (leaving (l .plan) n)
+        (λ c i. let (h, e) = leaving-in (l .plan) n c i in ap (λ (x : List ℕ). entryFor a (parents (l .plan) n) (drop 1 x)) (lows c h e))
+
+-- Low and the triples decide the targets, and with the low clocks the restored entries.
 module _ (l k : Line) (n : ℕ) (lows : lowOf k n ≡ lowOf l n) (found : childTriples k n ≡ childTriples l n) where
   pub targets-same : targetsOf k n ≡ targetsOf l n
   unfolding targetsOf
   targets-same = λ i. sortTargets [] (keep (λ (t : Target). ltb (lows i) (t .time)) (found i))
 
-  pub restored-same : (a : ℕ) → restored k n a ≡ restored l n a
+  pub restored-same : (a : ℕ) → childLows k n a ≡ childLows l n a → restored k n a ≡ restored l n a
   unfolding restored
-  restored-same a = λ i. greatestOf (map (λ (t : Target). t .parentTime) (keep (λ (t : Target). eqb (t .parent) a && leb (t .time) (lows i)) (found i)))
+  restored-same a kept = λ i. greatestOf (kept i ++ map (λ (t : Target). t .parentTime) (keep (λ (t : Target). eqb (t .parent) a && leb (t .time) (lows i)) (found i)))

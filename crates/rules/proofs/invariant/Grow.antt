@@ -55,7 +55,7 @@ sender-grows t m {time} {lane} {log} {puts} late s =
 -- The receiver takes the queue's first message, which is the next to come.
 pub sender-taken : {time : ℕ} {lane : Lane} {log puts : List Message} {cut : ℕ} {receiving : Type 0} (m : Message) (rest : List Message) (heard : List ℕ)
     → receiving → Rises timeOf 0 puts → lane .queue ≡ m ∷ rest → cut ≡ lane .taken → SenderUp time lane log puts cut receiving
-    → SenderUp time (record { mark = lane .mark; taken = m .time; heard = heard; queue = rest }) log puts (m .time) receiving × (until timeOf (m .time) puts ≡ until timeOf cut puts ++ m ∷ []) × (lane .taken < m .time)
+    → SenderUp time (record { mark = lane .mark; taken = m .time; heard = heard; queue = rest; low = lane .low }) log puts (m .time) receiving × (until timeOf (m .time) puts ≡ until timeOf cut puts ++ m ∷ []) × (lane .taken < m .time)
 sender-taken {time} {lane} {log} {puts} {cut} m rest heard r rises q at s =
     let t : ℕ = lane .taken in
     let k : ℕ = lane .mark in
@@ -89,7 +89,7 @@ sender-taken {time} {lane} {log} {puts} {cut} m rest heard r rises q at s =
 -- The sender sends the next message past the mark.
 pub sender-sends : {time : ℕ} {lane : Lane} {log puts : List Message} {cut : ℕ} {receiving : Type 0} (m : Message) (rest : List Message)
     → receiving → Rises timeOf 0 puts → past timeOf (lane .mark) log ≡ m ∷ rest → SenderUp time lane log puts cut receiving
-    → SenderUp time (record { mark = m .time; taken = lane .taken; heard = lane .heard; queue = lane .queue ++ m ∷ [] }) log puts cut receiving
+    → SenderUp time (record { mark = m .time; taken = lane .taken; heard = lane .heard; queue = lane .queue ++ m ∷ []; low = lane .low }) log puts cut receiving
 sender-sends {time} {lane} {log} {puts} {cut} m rest r rises e s =
     let t : ℕ = lane .taken in
     let k : ℕ = lane .mark in

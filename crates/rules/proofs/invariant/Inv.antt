@@ -1,10 +1,10 @@
 -- What holds of a line, its ghost history and what was done, after every list of frames.
-use Prim.Native.Nat.{ℕ, max, _+_, _<_, _≤_}
+use Prim.Native.Nat.{ℕ, suc, max, _+_, _<_, _≤_}
 use mathlib.Core.Path.{_≡_}
 use mathlib.Core.Logic.{_≢_, _⊎_}
 use mathlib.Core.Bool.{Bool, true, false, _&&_}
 use mathlib.Core.List.{List, [], _++_, map}
-use lib.ListN.{length}
+use lib.ListN.{length, drop}
 use lib.Dec.{eqb, ltb}
 use Rattle.plan.specs.Plan.{Plan, ruleAt, channelAt, nodeCount, channelCount, isSource, isSink}
 use Rattle.plan.specs.Rule.{applied}
@@ -134,6 +134,10 @@ UnmarkedEnd l b = nodeAt l (channelAt (l .plan) b .receiver) .crashed ≡ false
 abbrev pub UnmarkedChildren : Line → ℕ → Type 0
 UnmarkedChildren l n = (c : ℕ) → Leaves (l .plan) n c → UnmarkedEnd l c
 
+-- What the low clock of channel b's receiver holds for node a, through the sender.
+abbrev pub lowOn : Line → ℕ → ℕ → ℕ
+lowOn l b a = entryFor a (parents (l .plan) (channelAt (l .plan) b .sender)) (drop 1 (laneAt l b .low))
+
 -- The log of a node that never crashed: the entries of its events without the first ones, which are gone.
 -- A gone event has reached every child that never crashed; were a child to crash, it would be restored past the event; and its input has reached every child of its sender that never crashed.
 pub record Logged (l : Line) (g : Ghost) (n : ℕ) : Type 0 where
@@ -144,8 +148,10 @@ pub record Logged (l : Line) (g : Ghost) (n : ℕ) : Type 0 where
   pub reached : (e : Event) → In e gone → (c : ℕ) → Leaves (l .plan) n c → UnmarkedEnd l c → eventTime e ≤ laneAt l c .taken
   pub restored-past : (e : Event) → In e gone → (c : ℕ) → Leaves (l .plan) n c → isSink (l .plan) (channelAt (l .plan) c .receiver) ≡ false → UnmarkedChildren l (channelAt (l .plan) c .receiver) → eventTime e ≤ restored l (channelAt (l .plan) c .receiver) n
   pub input-reached : (b : ℕ) (m : Message) (t : ℕ) → In (tookAt b m t) gone → (c : ℕ) → Leaves (l .plan) (channelAt (l .plan) b .sender) c → UnmarkedEnd l c → m .time ≤ laneAt l c .taken
-  -- Nothing trims a log yet.
-  pub none-gone : gone ≡ []
+  -- The low clock, through each parent: 0, or what a gone event's message was made from; and no gone event's message was made from anything later.
+  pub low-long : (b : ℕ) → Enters (l .plan) n b → length (laneAt l b .low) ≡ suc (length (parents (l .plan) (channelAt (l .plan) b .sender)))
+  pub low-from : (b : ℕ) → Enters (l .plan) n b → (a : ℕ) → (lowOn l b a ≡ 0) ⊎ ((m : Message) × (t : ℕ) × In (tookAt b m t) gone × (m .origin ≡ made a (lowOn l b a)))
+  pub low-of : (b : ℕ) → Enters (l .plan) n b → (m : Message) (t : ℕ) → In (tookAt b m t) gone → (a u : ℕ) → In a (parents (l .plan) (channelAt (l .plan) b .sender)) → m .origin ≡ made a u → u ≤ lowOn l b a
 
 -- What of a log is passed on.
 abbrev pub logPassing : Plan → ℕ → List Entry → List Message

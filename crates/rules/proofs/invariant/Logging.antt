@@ -73,6 +73,7 @@ module _ (l : Line) (n : ℕ) (e : Event) (there : n < length (l .nodes)) where
         record {
           marks = λ m s. sym (mark-kept m) ∙ s;
           entries = λ c h s. omega arith;
+          lows = λ c h s. refl;
           entered = λ m s d i. elim (ℕ-discrete m n) [
             | yes q ↦ subst (λ (x : ℕ). In d (nodeAt after x .log)) (sym q) (subst (λ (x : List Entry). In d x) (sym log-there) (in-left (entryOf (l .plan) n e ∷ []) (subst (λ (x : ℕ). In d (nodeAt l x .log)) q i)))
             | no c ↦ subst (λ (x : Node). In d (x .log)) (sym (node-else n (nodeLogs l n e) l m c)) i
@@ -80,12 +81,12 @@ module _ (l : Line) (n : ℕ) (e : Event) (there : n < length (l .nodes)) where
         }
 
     -- The logs of nodes that never crashed.
-    pub logging-logs : (g : Ghost) (m : ℕ) → Logged l g m → Logged (withNode n (nodeLogs l n e) l) (later g n e) m
+    pub logging-logs : (g : Ghost) (m : ℕ) → nodeAt (withNode n (nodeLogs l n e) l) m .crashed ≡ false → Logged l g m → Logged (withNode n (nodeLogs l n e) l) (later g n e) m
     unfolding withNode
-    logging-logs g m was =
+    logging-logs g m s was =
         elim (ℕ-discrete m n) [
-          | yes q ↦ logged-by l (l .steps) (after .nodes) (l .lanes) logging-grows g (later g n e) m (e ∷ []) (subst (λ (x : ℕ). nodeAt after x .log ≡ nodeAt l x .log ++ entryOf (l .plan) x e ∷ []) (sym q) log-there) (later-there g n m e q) was
-          | no d ↦ logged-stays l (l .steps) (after .nodes) (l .lanes) logging-grows g (later g n e) m (node-else n (nodeLogs l n e) l m d) (later-else g n m e d) was
+          | yes q ↦ logged-by l (l .steps) (after .nodes) (l .lanes) logging-grows g (later g n e) m s (e ∷ []) (subst (λ (x : ℕ). nodeAt after x .log ≡ nodeAt l x .log ++ entryOf (l .plan) x e ∷ []) (sym q) log-there) (later-there g n m e q) was
+          | no d ↦ logged-stays l (l .steps) (after .nodes) (l .lanes) logging-grows g (later g n e) m s (node-else n (nodeLogs l n e) l m d) (later-else g n m e d) was
         ]
 
     time-there : nodeAt after n .time ≡ eventTime e

@@ -1,65 +1,70 @@
 -- The logs of nodes that never crashed: what keeps them at a step, and what they still hold.
 use Prim.Native.Nat.{ℕ, _<_, _≤_}
 use mathlib.Core.Path.{_≡_, refl, sym, ap, subst, _∙_}
-use mathlib.Core.Logic.{inl, inr}
-use mathlib.Core.Bool.{Bool, true, false, _&&_}
+use mathlib.Core.Logic.{_⊎_, inl, inr}
+use mathlib.Core.Bool.{Bool, false}
 use mathlib.Core.List.{List, [], _∷_, _++_, map, map-map, append-assoc}
 use native.Mathlib.Omega.{arith}
-use lib.Dec.{leb, ltb, eqb}
-use borrow.Author.Tests.{le-leb, leb-true}
-use Rattle.basics.specs.Bools.{both-true}
+use lib.ListN.{length, drop}
+use lib.Dec.{ltb}
 use Rattle.plan.specs.Plan.{channelAt, channelCount, isSink}
 use Rattle.rules.specs.Lists.{keep}
-use Rattle.rules.specs.Line.{Message, Entry, Target, Node, Lane, Line, nodeAt, laneAt}
-use Rattle.rules.specs.Clock.{messageOf}
+use Rattle.rules.specs.Line.{Message, Entry, Target, Node, Lane, Line, nodeAt, laneAt, parents}
+use Rattle.rules.specs.Clock.{messageOf, entryFor}
 use Rattle.rules.specs.Recover.{lowOf, childTriples, restored}
 use Rattle.rules.proofs.lists.ListLaws.{keep-append, map-append, nil-right}
 use Rattle.rules.proofs.lists.Rising.{past, Within, past-none}
-use Rattle.rules.proofs.lists.Members.{In, in-keep, keep-in, in-map, map-in, in-greatest, greatest-in, within-by}
+use Rattle.rules.proofs.lists.Members.{In, keep-in, map-in, within-by}
 use Rattle.rules.proofs.histories.Ghost.{Event, Ghost, eventTime, entryOf, sentOf, takesMessage, put, logPut}
-use Rattle.rules.proofs.ending.Targets.{in-triples-at, triples-at-in, low-below, low-above}
-use Rattle.rules.proofs.invariant.Inv.{timeOf, Leaves, UnmarkedEnd, UnmarkedChildren, Logged}
+use Rattle.rules.proofs.ending.Targets.{in-triples-at, triples-at-in, low-below, low-above, lowThrough, low-restored, triple-restored, restored-cases}
+use Rattle.rules.proofs.invariant.Inv.{timeOf, Enters, Leaves, UnmarkedChildren, Logged}
 use Rattle.rules.proofs.invariant.Stays.{moved}
 
 -- What never falls at a step: the entries of nodes that never crashed, and what stands in their logs.
 pub record Grows (l k : Line) : Type 0 where
   pub marks : (m : ℕ) → nodeAt k m .crashed ≡ false → nodeAt l m .crashed ≡ false
   pub entries : (c : ℕ) → c < channelCount (l .plan) → nodeAt k (channelAt (l .plan) c .receiver) .crashed ≡ false → laneAt l c .taken ≤ laneAt k c .taken
+  pub lows : (c : ℕ) → c < channelCount (l .plan) → nodeAt k (channelAt (l .plan) c .receiver) .crashed ≡ false → laneAt k c .low ≡ laneAt l c .low
   pub entered : (m : ℕ) → nodeAt k m .crashed ≡ false → (d : Entry) → In d (nodeAt l m .log) → In d (nodeAt k m .log)
 
 module _ (l : Line) (steps : List ℕ) (nodes : List Node) (lanes : List Lane) where
   abbrev k : Line
   k = moved l steps nodes lanes
 
-  -- A restored entry does not fall where the children's entries do not and their logs lose nothing.
-  pub restored-rises : (n a : ℕ) → isSink (l .plan) n ≡ false → ((c : ℕ) → Leaves (l .plan) n c → laneAt l c .taken ≤ laneAt k c .taken)
-      → ((c : ℕ) → Leaves (l .plan) n c → (d : Entry) → In d (nodeAt l (channelAt (l .plan) c .receiver) .log) → In d (nodeAt k (channelAt (l .plan) c .receiver) .log)) → restored l n a ≤ restored k n a
-  unfolding restored
-  restored-rises n a some entries entered =
-      let low : lowOf l n ≤ lowOf k n = low-above k n some (λ c h q. (let e = entries c (h, q) in omega (arith, low-below l n c h q))) in
-      let old : Target → Bool = λ u. eqb (u .parent) a && leb (u .time) (lowOf l n) in
-      let new : Target → Bool = λ u. eqb (u .parent) a && leb (u .time) (lowOf k n) in
-      elim (greatest-in (map (λ (u : Target). u .parentTime) (keep old (childTriples l n)))) [
+  -- A restored entry does not fall where low does not, and what it is made of stays in a log or in a low clock.
+  pub restored-rises : (n a : ℕ) → lowOf l n ≤ lowOf k n → ((c : ℕ) → Leaves (l .plan) n c → lowThrough l n a c ≤ lowThrough k n a c)
+      → ((u : Target) → In u (childTriples l n) → u .parent ≡ a → u .time ≤ lowOf l n → In u (childTriples k n) ⊎ (u .parentTime ≤ restored k n a)) → restored l n a ≤ restored k n a
+  restored-rises n a low lows found =
+      elim (restored-cases l n a) [
         | inl z ↦ omega (arith, z)
-        | inr i ↦
-            (let (u, j, q) = map-in (λ (u : Target). u .parentTime) (keep old (childTriples l n)) i in
-            let (t, e) = keep-in old (childTriples l n) j in
-            let (parent, upto) = both-true (eqb (u .parent) a) (leb (u .time) (lowOf l n)) e in
-            let at = triples-at-in l n u t in
-            let again : In u (childTriples k n) = in-triples-at k n u (record {
-              channel = at .channel;
-              on-plan = at .on-plan;
-              leaves = at .leaves;
-              entry = at .entry;
-              is-logged = entered (at .channel) (at .on-plan, at .leaves) (at .entry) (at .is-logged);
-              origin-is = at .origin-is;
-              before-is = at .before-is;
-            }) in
-            let still : new u ≡ true = rw (parent, le-leb (u .time) (lowOf k n) (omega (arith, low, leb-true (u .time) (lowOf l n) upto))) in
-            omega (arith, q, in-greatest (in-map (λ (v : Target). v .parentTime) (in-keep new again still))))
+        | inr (inl (c, h, s, q)) ↦ omega (arith, q, lows c (h, s), low-restored k n a c h s)
+        | inr (inr (u, i, parent, upto, q)) ↦ elim (found u i parent upto) [
+          | inl j ↦ (let there = triple-restored k n a u j parent (omega (arith, low, upto)) in omega (arith, q, there))
+          | inr h ↦ omega (arith, q, h)
+        ]
       ]
 
-  module _ (grows : Grows l k) (g g′ : Ghost) (n : ℕ) where
+  -- So where the children's entries do not fall, their logs lose nothing and their low clocks are as they were.
+  pub restored-grows : (n a : ℕ) → isSink (l .plan) n ≡ false → ((c : ℕ) → Leaves (l .plan) n c → laneAt l c .taken ≤ laneAt k c .taken) → ((c : ℕ) → Leaves (l .plan) n c → laneAt k c .low ≡ laneAt l c .low)
+      → ((c : ℕ) → Leaves (l .plan) n c → (d : Entry) → In d (nodeAt l (channelAt (l .plan) c .receiver) .log) → In d (nodeAt k (channelAt (l .plan) c .receiver) .log)) → restored l n a ≤ restored k n a
+  restored-grows n a some entries lows entered =
+      restored-rises n a (low-above k n some (λ c h q. (let e = entries c (h, q) in omega (arith, low-below l n c h q)))) (λ c h. omega (arith, ap (λ (x : List ℕ). entryFor a (parents (l .plan) n) (drop 1 x)) (lows c h)))
+      (λ u i parent upto.
+      (let at = triples-at-in l n u i in
+      inl (in-triples-at k n u (record {
+        channel = at .channel;
+        on-plan = at .on-plan;
+        leaves = at .leaves;
+        entry = at .entry;
+        is-logged = entered (at .channel) (at .on-plan, at .leaves) (at .entry) (at .is-logged);
+        origin-is = at .origin-is;
+        before-is = at .before-is;
+      }))))
+
+  module _ (grows : Grows l k) (g g′ : Ghost) (n : ℕ) (unmarked-now : nodeAt k n .crashed ≡ false) where
+    low-same : (b : ℕ) → Enters (l .plan) n b → laneAt k b .low ≡ laneAt l b .low
+    low-same b h = grows .lows b (h .0) (ap (λ (x : ℕ). nodeAt k x .crashed) (h .1) ∙ unmarked-now)
+
     children-were : (c : ℕ) → UnmarkedChildren k c → UnmarkedChildren l c
     children-were c f d h = grows .marks (channelAt (l .plan) d .receiver) (f d h)
 
@@ -74,9 +79,11 @@ module _ (l : Line) (steps : List ℕ) (nodes : List Node) (lanes : List Lane) w
           reached = λ e i c h m. (let up = grows .entries c (h .0) m in omega (arith, was .reached e i c h (grows .marks (channelAt (l .plan) c .receiver) m)));
           restored-past = λ e i c h some unmarked.
               (let old = was .restored-past e i c h some (children-were (channelAt (l .plan) c .receiver) unmarked) in
-              omega (arith, old, restored-rises (channelAt (l .plan) c .receiver) n some (λ d j. grows .entries d (j .0) (unmarked d j)) (λ d j x z. grows .entered (channelAt (l .plan) d .receiver) (unmarked d j) x z)));
+              omega (arith, old, restored-grows (channelAt (l .plan) c .receiver) n some (λ d j. grows .entries d (j .0) (unmarked d j)) (λ d j. grows .lows d (j .0) (unmarked d j)) (λ d j x z. grows .entered (channelAt (l .plan) d .receiver) (unmarked d j) x z)));
           input-reached = λ b m t i c h x. (let up = grows .entries c (h .0) x in omega (arith, was .input-reached b m t i c h (grows .marks (channelAt (l .plan) c .receiver) x)));
-          none-gone = was .none-gone;
+          low-long = λ b h. ap length (low-same b h) ∙ was .low-long b h;
+          low-from = λ b h a. rw (low-same b h) (was .low-from b h a);
+          low-of = λ b h m t i a u j q. rw (low-same b h) (was .low-of b h m t i a u j q);
         }
 
     pub logged-stays : nodeAt k n ≡ nodeAt l n → g′ n ≡ g n → Logged l g n → Logged k g′ n

@@ -143,7 +143,7 @@ module _ (l : Line) (known : Known l) (b : ℕ) (inside : b < channelCount (l .p
       on-is = λ i. record { plan = a .plan i; steps = oneMore (consoleOf w) (r .steps); nodes = r .nodes; lanes = r .lanes }
 
       abbrev lane : Lane
-      lane = record { mark = laneAt l b .mark; taken = max (laneAt l b .taken) (m .time); heard = raiseHeard (parents (l .plan) (senderOf l b)) (laneAt l b .heard) (m .origin); queue = c .rest }
+      lane = record { mark = laneAt l b .mark; taken = max (laneAt l b .taken) (m .time); heard = raiseHeard (parents (l .plan) (senderOf l b)) (laneAt l b .heard) (m .origin); queue = c .rest; low = laneAt l b .low }
 
       lane-now : laneAt on b ≡ lane
       lane-now = ap (λ (ls : List Lane). getD ls b noLane) (a .lanes) ∙ lane-there b lane l (rw (inv .shape .lanes-long) inside)
@@ -215,6 +215,7 @@ module _ (l : Line) (known : Known l) (b : ℕ) (inside : b < channelCount (l .p
           answered l w (send-formed w listed b)
           (record {
             is-there = lt-leb (channelCount (l .plan)) b inside;
+            none-stopped = refl;
             right-node = refl;
             right-status = ends-there l known b inside again;
             apart = refl;

@@ -15,7 +15,7 @@ use Rattle.rules.specs.Lists.{isEmpty}
 use Rattle.rules.specs.Line.{stepLimit, consoleCount, stepsFrom, heldLimit, targetLimit, Status, down, replay, Line, noLane, nodeAt, laneAt, receiverOf, isDown}
 use Rattle.rules.specs.Frame.{Frame, take, recover, Caller, consoleOf}
 use Rattle.rules.specs.Recover.{targetsOf, rowComplete}
-use Rattle.rules.specs.Step.{noStepsLeft, noSuch, wrongNode, wrongStatus, besideCrashed, badRecord, nothingThere, queueFull, rowDone, takeLacks, noSpace, effect, noPlacing, lineRefusal, refusal}
+use Rattle.rules.specs.Step.{noStepsLeft, noSuch, someStopped, wrongNode, wrongStatus, besideCrashed, badRecord, nothingThere, queueFull, rowDone, takeLacks, noSpace, effect, noPlacing, lineRefusal, refusal}
 use Rattle.rules.specs.Restart.{takeFrame, recoverFrame, unlessUsedUp}
 use Rattle.rules.proofs.lists.Members.{in-keep}
 use Rattle.rules.proofs.lists.Counts.{in-long}
@@ -31,9 +31,10 @@ use Rattle.rules.proofs.restart.Frames.{Formed, formed-refusal, recover
 use Rattle.rules.proofs.restart.RecoverGoes.{targets-few}
 use Rattle.rules.proofs.restart.NeverUnplaced.{recover-goes, take-goes}
 
--- The refusals 13 to 21 of a frame, none of which applies.
+-- The refusals 13 to 21 and 26 of a frame, none of which applies.
 pub record Unrefused (l : Line) (f : Frame) : Type 0 where
   pub is-there : noSuch l f ≡ false
+  pub none-stopped : someStopped l f ≡ false
   pub right-node : wrongNode l f ≡ false
   pub right-status : wrongStatus l f ≡ false
   pub apart : besideCrashed l f ≡ false
@@ -57,6 +58,8 @@ answered l w {frame} {f} formed u goes = formed-refusal l formed ∙ go (noSteps
           unlessUsedUp,
           lineRefusal,
           u .is-there,
+          lineRefusal,
+          u .none-stopped,
           lineRefusal,
           u .right-node,
           lineRefusal,
@@ -95,6 +98,7 @@ module _ (l : Line) (known : Known l) where
       let (source, sink) = inv .marks .between n marked in
       record {
         is-there = lt-leb (nodeCount (l .plan)) n inside;
+        none-stopped = refl;
         right-node = rw (source, sink);
         right-status = ap (λ (s : Status). not (isDown s)) e;
         apart = refl;
@@ -149,6 +153,7 @@ module _ (l : Line) (known : Known l) where
     take-unrefused =
         record {
           is-there = lt-leb (channelCount (l .plan)) b inside;
+          none-stopped = refl;
           right-node = refl;
           right-status = ends-there b inside again;
           apart = refl;

@@ -6,7 +6,7 @@ use mathlib.Core.List.{List}
 use mathlib.Core.Option.{some}
 use Rattle.plan.specs.Plan.{channelAt}
 use Rattle.rules.specs.Line.{acceptedSteps, replay, Line, nodeAt, timeLimit}
-use Rattle.rules.specs.Frame.{Frame, feed, send, take, crash, recover, frameOf}
+use Rattle.rules.specs.Frame.{Frame, feed, send, take, crash, recover, trim, frameOf}
 use Rattle.rules.specs.Recover.{recovered}
 use Rattle.rules.specs.Step.{takenLane, takenReplaying, effect, refusal}
 use Rattle.rules.proofs.lists.Options.{none-some}
@@ -55,6 +55,7 @@ module _ (l : Line) (known : Known l) where
   never-unplaced (send b) u = none-some (sym (u .nowhere))
   never-unplaced (take b) u = none-some (sym (u .nowhere) ∙ take-goes b (may-take l b (u .is-there) (u .right-status) (u .something) (u .row-open)) (counts-left (steady .limits .counts) (u .console) (u .steps-left)) .1)
   never-unplaced (crash n) u = none-some (sym (u .nowhere))
+  never-unplaced (trim n) u = none-some (sym (u .nowhere))
   never-unplaced (recover n) u = none-some (sym (u .nowhere) ∙ recover-goes n (may-recover l n (u .is-there) (u .right-node) (u .right-status)))
 
   pub placed : (f : List ℕ) → refusal l f ≢ 24

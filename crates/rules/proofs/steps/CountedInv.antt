@@ -23,7 +23,7 @@ counted-inv c {l} {g} {cut} {base} {fed} {receipts} {crashes} inv =
       ordered = inv .ordered;
       marks = marks-stay l steps nodes lanes crashes (λ m. refl) (λ m. refl) (inv .marks);
       nodes = nodes-stay l steps nodes lanes (λ m e. refl) (λ m e. refl) (inv .nodes);
-      logs = λ m e. logged-stays l steps nodes lanes (record { marks = λ x s. s; entries = λ b h s. omega arith; entered = λ x s d i. i }) g g m refl refl (inv .logs m e);
+      logs = λ m e. logged-stays l steps nodes lanes (record { marks = λ x s. s; entries = λ b h s. omega arith; lows = λ b h s. refl; entered = λ x s d i. i }) g g m e refl refl (inv .logs m e);
       events = λ m. events-stay l steps nodes lanes g g m (λ _. refl) refl (inv .events m);
       channels = λ b h. channel-stays l steps nodes lanes g g b refl refl refl refl (λ _. refl) cut cut refl refl (inv .channels b h);
       ends = λ b h. ends-stay l steps nodes lanes g g b refl refl refl refl refl (inv .ends b h);

@@ -105,11 +105,12 @@ module _ (l : Line) (g : Ghost) (cut base : ℕ → ℕ) (fed : List Act) (recei
   ends-enters : (c : ℕ) → Enters (l .plan) n c → Ends (crashedAfter l n) g c
   ends-enters c (h, q) = ends-up (ap (λ (x : Node). x .status) ((crashed-else l n (inv .ordered) (inv .shape)) (channelAt (l .plan) c .sender) (sender-other inv n c (h, q))) ∙ parent-up c (h, q)) (λ e. absurd (other-unmarked (channelAt (l .plan) c .receiver) e q)) (λ e. absurd (other-unmarked (channelAt (l .plan) c .receiver) e q))
 
-  crash-grows : Grows l (crashedAfter l n)
+  pub crash-grows : Grows l (crashedAfter l n)
   crash-grows =
       record {
         marks = λ m e. ap (λ (x : Node). x .crashed) (sym (unmarked-old m e)) ∙ e;
         entries = λ c h e. at-ends (l .plan) n c h (λ z. absurd (other-unmarked (channelAt (l .plan) c .receiver) e (z .1))) (λ z. omega (arith, ap (λ (x : Lane). x .taken) (crashed-leaves l n (inv .ordered) (inv .shape) c z))) (λ d s. omega (arith, ap (λ (x : Lane). x .taken) (crashed-beside l n (inv .ordered) (inv .shape) c d s)));
+        lows = λ c h e. at-ends (l .plan) n c h (λ z. absurd (other-unmarked (channelAt (l .plan) c .receiver) e (z .1))) (λ z. ap (λ (x : Lane). x .low) (crashed-leaves l n (inv .ordered) (inv .shape) c z)) (λ d s. ap (λ (x : Lane). x .low) (crashed-beside l n (inv .ordered) (inv .shape) c d s));
         entered = λ m e d i. subst (λ (x : Node). In d (x .log)) (sym (unmarked-old m e)) i;
       }
 
@@ -196,7 +197,7 @@ module _ (l : Line) (g : Ghost) (cut base : ℕ → ℕ) (fed : List Act) (recei
         ordered = inv .ordered;
         marks = crash-marks;
         nodes = nodes-stay l (l .steps) (crashedAfter l n .nodes) (crashedAfter l n .lanes) unmarked-old (λ m e. refl) (inv .nodes);
-        logs = λ m e. logged-stays l (l .steps) (crashedAfter l n .nodes) (crashedAfter l n .lanes) crash-grows g g m (unmarked-old m e) refl (inv .logs m (ap (λ (x : Node). x .crashed) (sym (unmarked-old m e)) ∙ e));
+        logs = λ m e. logged-stays l (l .steps) (crashedAfter l n .nodes) (crashedAfter l n .lanes) crash-grows g g m e (unmarked-old m e) refl (inv .logs m (ap (λ (x : Node). x .crashed) (sym (unmarked-old m e)) ∙ e));
         events = λ m. events-stay l (l .steps) (crashedAfter l n .nodes) (crashedAfter l n .lanes) g g m (λ e. (crashed-else l n (inv .ordered) (inv .shape)) m (λ q. down-not-up (ap (λ (x : ℕ). nodeAt (crashedAfter l n) x .status) (sym q) ∙ e))) refl (inv .events m);
         channels = λ c h. channels-beside l (l .steps) (crashedAfter l n .nodes) (crashedAfter l n .lanes) g g n (crashed-else l n (inv .ordered) (inv .shape)) (crashed-beside l n (inv .ordered) (inv .shape)) (λ x d. refl) c h cut cut (λ d. refl) (λ d. refl) (channel-enters c) (channel-leaves c) (inv .channels c h);
         ends = λ c h. ends-beside l (l .steps) (crashedAfter l n .nodes) (crashedAfter l n .lanes) g g n (crashed-else l n (inv .ordered) (inv .shape)) (crashed-beside l n (inv .ordered) (inv .shape)) (λ x d. refl) c h (ends-enters c) (ends-leaves c) (inv .ends c h);

@@ -79,7 +79,7 @@ module _ (l : Line) (g : Ghost) (cut base : ℕ → ℕ) (fed : List Act) (recei
         ordered = inv .ordered;
         marks = logging-marks l n e there crashes (inv .marks);
         nodes = feed-nodes;
-        logs = λ m s. logging-logs l n e there refl g m (inv .logs m (sym (mark-kept l n e there m) ∙ s));
+        logs = λ m s. logging-logs l n e there refl g m s (inv .logs m (sym (mark-kept l n e there m) ∙ s));
         events = λ m. logging-events l n e there refl alive g m (inv .events m);
         channels = λ b h. logging-channels l n e there refl alive g cut b refl (inv .channels b h);
         ends = λ b h. logging-ends l n e there g b refl (inv .ends b h);

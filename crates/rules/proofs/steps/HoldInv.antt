@@ -31,13 +31,13 @@ use Rattle.rules.proofs.invariant.Grow.{sender-taken, sender-cut, sende
 use Rattle.rules.proofs.invariant.Stays.{moved, everywhere, marks-stay, unmarked-other, nodes-stay, channel-stays, ends-stay, events-stay, replays-stay, replays-keep}
 use Rattle.rules.proofs.invariant.Logs.{Grows, logged-stays}
 use Rattle.rules.proofs.invariant.Rooms.{still-waits, waits-no-more, waits-less, room-stays}
-use Rattle.rules.proofs.steps.TakeInv.{lane-raised, not-lower, replay-beside}
+use Rattle.rules.proofs.steps.TakeInv.{lane-raised, not-lower, low-same, replay-beside}
 
 module _ (l : Line) (g : Ghost) (cut base : ℕ → ℕ) (fed : List Act) (receipts : List Receipt) (crashes : List ℕ) (inv : Inv l g cut base fed receipts crashes)
     (b : ℕ) (here : b < channelCount (l .plan)) (m : Message) (rest : List Message) (heardOf : List ℕ) (first : laneAt l b .queue ≡ m ∷ rest) (sender : isUp l (channelAt (l .plan) b .sender))
     (replaying : nodeAt l (channelAt (l .plan) b .receiver) .status ≡ replay) (open-row : laneAt l b .taken < rowGoal (nodeAt l (channelAt (l .plan) b .receiver) .targets) (channelAt (l .plan) b .sender)) where
   abbrev pub taken : Lane
-  taken = record { mark = laneAt l b .mark; taken = max (laneAt l b .taken) (m .time); heard = heardOf; queue = rest }
+  taken = record { mark = laneAt l b .mark; taken = max (laneAt l b .taken) (m .time); heard = heardOf; queue = rest; low = laneAt l b .low }
 
   abbrev pub beside : Line
   beside = withLane b taken l
@@ -67,11 +67,11 @@ module _ (l : Line) (g : Ghost) (cut base : ℕ → ℕ) (fed : List Act) (recei
   sent = inv .channels b here .sender-up sender
 
   -- The message is the next to come.
-  pub next : SenderUp (nodeAt l (channelAt (l .plan) b .sender) .time) (record { mark = laneAt l b .mark; taken = m .time; heard = heardOf; queue = rest }) (logPut l b) puts (m .time) (nodeAt l n .status ≢ down)
+  pub next : SenderUp (nodeAt l (channelAt (l .plan) b .sender) .time) (record { mark = laneAt l b .mark; taken = m .time; heard = heardOf; queue = rest; low = laneAt l b .low }) (logPut l b) puts (m .time) (nodeAt l n .status ≢ down)
       × (until timeOf (m .time) puts ≡ until timeOf (laneAt l b .taken) puts ++ m ∷ []) × (laneAt l b .taken < m .time)
   next = sender-taken m rest heardOf (λ q. replay-not-down (sym replaying ∙ q)) (inv .channels b here .rises) first refl (sender-cut (sent .taken-within) sent)
 
-  lane-now : laneAt beside b ≡ record { mark = laneAt l b .mark; taken = m .time; heard = heardOf; queue = rest }
+  lane-now : laneAt beside b ≡ record { mark = laneAt l b .mark; taken = m .time; heard = heardOf; queue = rest; low = laneAt l b .low }
   lane-now = lane-raised l g cut base fed receipts crashes inv b here m rest heardOf first sender (next .2)
 
   entry-now : laneAt beside b .taken ≡ m .time
@@ -201,7 +201,7 @@ module _ (l : Line) (g : Ghost) (cut base : ℕ → ℕ) (fed : List Act) (recei
     raised = not-lower l g cut base fed receipts crashes inv b here m rest heardOf first sender
 
     hold-grows : Grows l after
-    hold-grows = record { marks = λ k e. sym (marks k) ∙ e; entries = λ c h e. raised c; entered = λ k e d i. subst (λ (x : Node). In d (x .log)) (sym (others k (other-unmarked k e))) i }
+    hold-grows = record { marks = λ k e. sym (marks k) ∙ e; entries = λ c h e. raised c; lows = λ c h e. low-same l g cut base fed receipts crashes inv b here m rest heardOf first sender c; entered = λ k e d i. subst (λ (x : Node). In d (x .log)) (sym (others k (other-unmarked k e))) i }
 
     room-own : Room l g n → Room after g n
     room-own r =
@@ -235,7 +235,7 @@ module _ (l : Line) (g : Ghost) (cut base : ℕ → ℕ) (fed : List Act) (recei
           ordered = inv .ordered;
           marks = marks-stay l (l .steps) nodes (beside .lanes) crashes statuses marks (inv .marks);
           nodes = nodes-stay l (l .steps) nodes (beside .lanes) (λ k e. others k (other-unmarked k e)) (λ k e. receipt-else receipts receipt k (other-unmarked k e)) (inv .nodes);
-          logs = λ k e. logged-stays l (l .steps) nodes (beside .lanes) hold-grows g g k (others k (other-unmarked k e)) refl (inv .logs k (sym (marks k) ∙ e));
+          logs = λ k e. logged-stays l (l .steps) nodes (beside .lanes) hold-grows g g k e (others k (other-unmarked k e)) refl (inv .logs k (sym (marks k) ∙ e));
           events = λ k. events-stay l (l .steps) nodes (beside .lanes) g g k (up-other k) refl (inv .events k);
           channels = λ c h. elim (ℕ-discrete c b) [
             | yes q ↦ subst (Channels after g cut) (sym q) channel-own

@@ -1,37 +1,38 @@
 -- The invariant holds of a loaded line: nothing was done, and every node and channel is fresh.
-use Prim.Native.Nat.{ℕ, zero, suc}
+use Prim.Native.Nat.{ℕ, zero, suc, _<_}
 use mathlib.Core.Path.{_≡_, refl, sym, ap, _∙_}
 use mathlib.Core.Bool.{Bool, true, false, cond, true≢false}
 use mathlib.Core.Logic.{inl}
 use mathlib.Core.List.{List, [], _∷_, map}
 use native.Mathlib.Omega.{arith}
 use lib.Dec.{eqb}
-use lib.ListN.{length, getD, replicate, length-replicate, length-map}
+use lib.ListN.{length, drop, getD, replicate, length-replicate, length-map}
 use Rattle.plan.specs.declared.Channel.{Channel}
-use Rattle.plan.specs.Plan.{Plan, planOf, channelAt, nodeCount}
+use Rattle.plan.specs.Plan.{Plan, planOf, channelAt, noChannel, nodeCount, channelCount}
 use Rattle.plan.specs.Check.{planRefusal}
 use Rattle.rules.specs.Lists.{keep}
 use Rattle.rules.specs.Line.{up, Node, Lane, Line, freshNode, noLane, freshLane, initialLine, nodeAt, laneAt, parents}
 use Rattle.rules.specs.Clock.{messageOf, entryFor}
 use Rattle.basics.specs.Replicate.{replicate-default}
+use Rattle.rules.proofs.lists.ListLaws.{map-at}
 use Rattle.rules.proofs.lists.Rising.{none, none-in, past}
 use Rattle.rules.proofs.lists.Members.{in-none}
 use Rattle.rules.proofs.histories.Witness.{no-more, none}
 use Rattle.rules.proofs.histories.Ghost.{Ghost, takesMessage, put, got, logPut}
-use Rattle.rules.proofs.invariant.Inv.{Logged, heardOn, Inv, Ordered, Shape, Marks, Nodes, timeOf, Channels, Ends}
+use Rattle.rules.proofs.invariant.Inv.{Logged, lowOn, heardOn, Inv, Ordered, Shape, Marks, Nodes, timeOf, Channels, Ends}
 use Rattle.rules.proofs.invariant.InvLaws.{up-not-replay}
 use Rattle.rules.proofs.line.Consoles.{start-counts}
 use Rattle.rules.proofs.invariant.Limits.{Steady}
 use Rattle.rules.proofs.steps.PlanOrder.{ordered-plan}
 
 -- Nothing on a channel, marked and taken up to 0.
-abbrev emptyLane : ℕ → Lane
-emptyLane heard = record { mark = 0; taken = 0; heard = replicate heard 0; queue = [] }
+abbrev emptyLane : ℕ → List ℕ → Lane
+emptyLane heard lows = record { mark = 0; taken = 0; heard = replicate heard 0; queue = []; low = lows }
 
-fresh-lane : (p : Plan) (cs : List Channel) (b : ℕ) → (heard : ℕ) × (getD (map (λ (c : Channel). freshLane p c 0) cs) b noLane ≡ emptyLane heard)
+fresh-lane : (p : Plan) (cs : List Channel) (b : ℕ) → (heard : ℕ) × (lows : List ℕ) × (getD (map (λ (c : Channel). freshLane p c 0) cs) b noLane ≡ emptyLane heard lows)
 unfolding freshLane
-fresh-lane p [] b = (0, refl)
-fresh-lane p (c ∷ cs) zero = (length (parents p (c .sender)), refl)
+fresh-lane p [] b = (0, [], refl)
+fresh-lane p (c ∷ cs) zero = (length (parents p (c .sender)), replicate (suc (length (parents p (c .sender)))) 0, refl)
 fresh-lane p (c ∷ cs) (suc b) = fresh-lane p cs b
 
 -- Of nodes of which nothing was heard.
@@ -55,7 +56,7 @@ module _ (p : Plan) where
   unfolding initialLine
   node-fresh n = replicate-default (nodeCount p) n freshNode
 
-  lane-fresh : (b : ℕ) → (heard : ℕ) × (laneAt l b ≡ emptyLane heard)
+  lane-fresh : (b : ℕ) → (heard : ℕ) × (lows : List ℕ) × (laneAt l b ≡ emptyLane heard lows)
   unfolding initialLine
   lane-fresh b = fresh-lane p (p .channels) b
 
@@ -90,9 +91,17 @@ module _ (p : Plan) where
 
   none-heard : (a b : ℕ) → heardOn l b a ≡ 0
   unfolding initialLine
-  none-heard a b = ap (λ (x : Lane). entryFor a (parents p (channelAt p b .sender)) (x .heard)) (lane-fresh b .1) ∙ none-for a (parents p (channelAt p b .sender)) (lane-fresh b .0)
+  none-heard a b = ap (λ (x : Lane). entryFor a (parents p (channelAt p b .sender)) (x .heard)) (lane-fresh b .2) ∙ none-for a (parents p (channelAt p b .sender)) (lane-fresh b .0)
+
+  lane-low : (b : ℕ) → b < channelCount p → (length (laneAt l b .low) ≡ suc (length (parents p (channelAt p b .sender)))) × ((a : ℕ) → lowOn l b a ≡ 0)
+  unfolding initialLine freshLane
+  lane-low b h =
+      let k = length (parents p (channelAt p b .sender)) in
+      let is : laneAt l b .low ≡ replicate (suc k) 0 = ap (λ (x : Lane). x .low) (map-at (λ (c : Channel). freshLane p c 0) (p .channels) b noChannel noLane h) in
+      (ap length is ∙ length-replicate (suc k) 0, λ a. ap (λ (x : List ℕ). entryFor a (parents p (channelAt p b .sender)) (drop 1 x)) is ∙ none-for a (parents p (channelAt p b .sender)) k)
 
   start-logged : (n : ℕ) → Logged l nothing n
+  unfolding initialLine
   start-logged n =
       record {
         gone = [];
@@ -102,13 +111,15 @@ module _ (p : Plan) where
         reached = λ e i. absurd (in-none i);
         restored-past = λ e i. absurd (in-none i);
         input-reached = λ b m t i. absurd (in-none i);
-        none-gone = refl;
+        low-long = λ b h. lane-low b (h .0) .0;
+        low-from = λ b h a. inl (lane-low b (h .0) .1 a);
+        low-of = λ b h m t i. absurd (in-none i);
       }
 
   start-channels : (b : ℕ) → Channels l nothing (λ c. 0) b
   unfolding put got logPut
   start-channels b =
-      let (heard, lane) = lane-fresh b in
+      let (heard, lows, lane) = lane-fresh b in
       let taken = ap (λ (x : Lane). x .taken) lane in
       let logs : logPut l b ≡ [] = ap (λ (x : Node). keep (takesMessage (l .plan) b) (map messageOf (x .log))) (node-fresh (channelAt (l .plan) b .sender)) in
       record {
@@ -128,7 +139,7 @@ module _ (p : Plan) where
   start-ends : (b : ℕ) → Ends l nothing b
   unfolding got
   start-ends b =
-      let (heard, lane) = lane-fresh b in
+      let (heard, lows, lane) = lane-fresh b in
       record {
         exact = λ e. ap (λ (x : Lane). x .taken) lane;
         through = λ e a. inl (none-heard a b);
@@ -160,7 +171,7 @@ module _ (p : Plan) where
           counts = start-counts;
           logs = λ n. rw (node-fresh n) (omega arith);
           times = λ n. omega (arith, ap (λ (x : Node). x .time) (node-fresh n));
-          entries = λ b h. (let (heard, lane) = lane-fresh b in omega (arith, ap (λ (x : Lane). x .taken) lane));
+          entries = λ b h. (let (heard, lows, lane) = lane-fresh b in omega (arith, ap (λ (x : Lane). x .taken) lane));
         };
         open-rows = λ n e. absurd (up-not-replay (sym (all-up n) ∙ e));
       }

@@ -85,9 +85,17 @@ module _ (l : Line) (g : Ghost) (cut base : ℕ → ℕ) (fed : List Act) (recei
   unfolding withLane sentOn
   own-ends = ends-up sender (λ m. taken-same b ∙ inv .ends b here .exact m) (λ m a. heard-same (inv .ends b here .through m a) (ap (λ (x : Lane). entryFor a (parents (l .plan) (channelAt (l .plan) b .sender)) (x .heard)) (sym lane-now)) refl)
 
+  low-same : (c : ℕ) → laneAt after c .low ≡ laneAt l c .low
+  unfolding sentOn
+  low-same c =
+      elim (ℕ-discrete c b) [
+        | yes q ↦ ap (λ (x : ℕ). laneAt after x .low) q ∙ ap (λ (x : Lane). x .low) lane-now ∙ ap (λ (x : ℕ). laneAt l x .low) (sym q)
+        | no d ↦ ap (λ (x : Lane). x .low) (lane-else b sent l c d)
+      ]
+
   send-grows : Grows l (withLane b (sentOn e (laneAt l b)) l)
   unfolding withLane
-  send-grows = record { marks = λ m s. s; entries = λ c h s. omega (arith, taken-same c); entered = λ m s d i. i }
+  send-grows = record { marks = λ m s. s; entries = λ c h s. omega (arith, taken-same c); lows = λ c h s. low-same c; entered = λ m s d i. i }
 
   pub send-inv : Inv (withLane b (sentOn e (laneAt l b)) l) g cut base fed receipts crashes
   unfolding withLane
@@ -97,7 +105,7 @@ module _ (l : Line) (g : Ghost) (cut base : ℕ → ℕ) (fed : List Act) (recei
         ordered = inv .ordered;
         marks = marks-stay l (l .steps) (l .nodes) (after .lanes) crashes (λ n. refl) (λ n. refl) (inv .marks);
         nodes = nodes-stay l (l .steps) (l .nodes) (after .lanes) (λ n e. refl) (λ n e. refl) (inv .nodes);
-        logs = λ n s. logged-stays l (l .steps) (l .nodes) (after .lanes) send-grows g g n refl refl (inv .logs n s);
+        logs = λ n s. logged-stays l (l .steps) (l .nodes) (after .lanes) send-grows g g n s refl refl (inv .logs n s);
         events = λ n. events-stay l (l .steps) (l .nodes) (after .lanes) g g n (λ _. refl) refl (inv .events n);
         channels = λ c h. elim (ℕ-discrete c b) [ yes q ↦ subst (Channels after g cut) (sym q) own-channel | no d ↦ channel-beside l g cut b c sent d (inv .channels c h) ];
         ends = λ c h. elim (ℕ-discrete c b) [ yes q ↦ subst (Ends after g) (sym q) own-ends | no d ↦ ends-stay l (l .steps) (l .nodes) (after .lanes) g g c refl refl (lane-else b sent l c d) refl refl (inv .ends c h) ];

@@ -34,7 +34,7 @@ use Rattle.rules.proofs.invariant.Rooms.{room-stays, room-logs}
 module _ (l : Line) (g : Ghost) (cut base : ℕ → ℕ) (fed : List Act) (receipts : List Receipt) (crashes : List ℕ) (inv : Inv l g cut base fed receipts crashes)
     (b : ℕ) (here : b < channelCount (l .plan)) (m : Message) (rest : List Message) (heardOf : List ℕ) (first : laneAt l b .queue ≡ m ∷ rest) (sender : isUp l (channelAt (l .plan) b .sender)) where
   abbrev pub taken : Lane
-  taken = record { mark = laneAt l b .mark; taken = max (laneAt l b .taken) (m .time); heard = heardOf; queue = rest }
+  taken = record { mark = laneAt l b .mark; taken = max (laneAt l b .taken) (m .time); heard = heardOf; queue = rest; low = laneAt l b .low }
 
   abbrev pub beside : Line
   beside = withLane b taken l
@@ -46,8 +46,8 @@ module _ (l : Line) (g : Ghost) (cut base : ℕ → ℕ) (fed : List Act) (recei
   lane-now = lane-there b taken l (rw (inv .shape .lanes-long) here)
 
   -- The entry of a message that is the next to come.
-  pub lane-raised : laneAt l b .taken < m .time → laneAt beside b ≡ record { mark = laneAt l b .mark; taken = m .time; heard = heardOf; queue = rest }
-  lane-raised above = lane-now ∙ (λ i. record { mark = laneAt l b .mark; taken = greater above i; heard = heardOf; queue = rest })
+  pub lane-raised : laneAt l b .taken < m .time → laneAt beside b ≡ record { mark = laneAt l b .mark; taken = m .time; heard = heardOf; queue = rest; low = laneAt l b .low }
+  lane-raised above = lane-now ∙ (λ i. record { mark = laneAt l b .mark; taken = greater above i; heard = heardOf; queue = rest; low = laneAt l b .low })
     where
       greater : laneAt l b .taken < m .time → max (laneAt l b .taken) (m .time) ≡ m .time
       greater h = omega arith
@@ -74,9 +74,16 @@ module _ (l : Line) (g : Ghost) (cut base : ℕ → ℕ) (fed : List Act) (recei
         replays-stay l (l .steps) (l .nodes) (beside .lanes) g g k refl refl cut cut base base (λ c h. ap (λ (x : Lane). x .taken) (leaving-other c h)) (λ c y t i. refl)
         (λ c h. (ap (λ (x : Lane). x .taken) (entering-other c h), omega arith, refl, refl)) (inv .replays k replaying)
 
+  pub low-same : (c : ℕ) → laneAt beside c .low ≡ laneAt l c .low
+  low-same c =
+      elim (ℕ-discrete c b) [
+        | yes q ↦ ap (λ (x : ℕ). laneAt beside x .low) q ∙ ap (λ (x : Lane). x .low) lane-now ∙ ap (λ (x : ℕ). laneAt l x .low) (sym q)
+        | no d ↦ ap (λ (x : Lane). x .low) (lane-else b taken l c d)
+      ]
+
   beside-grows : Grows l (withLane b taken l)
   unfolding withLane
-  beside-grows = record { marks = λ k s. s; entries = λ c h s. not-lower c; entered = λ k s d i. i }
+  beside-grows = record { marks = λ k s. s; entries = λ c h s. not-lower c; lows = λ c h s. low-same c; entered = λ k s d i. i }
 
   module _ (receiver : isUp l n) (hears : (a : ℕ) → HeardMore a (parents (l .plan) (channelAt (l .plan) b .sender)) (laneAt l b .heard) heardOf (m .origin)) where
     abbrev pub event : Event
@@ -185,7 +192,7 @@ module _ (l : Line) (g : Ghost) (cut base : ℕ → ℕ) (fed : List Act) (recei
           ordered = inv .ordered;
           marks = logging-marks beside n event there crashes (marks-stay l (l .steps) (l .nodes) (beside .lanes) crashes (λ k. refl) (λ k. refl) (inv .marks));
           nodes = take-nodes;
-          logs = λ k s. logging-logs beside n event there refl g k (logged-stays l (l .steps) (l .nodes) (beside .lanes) beside-grows g g k refl refl (inv .logs k (sym (mark-kept beside n event there k) ∙ s)));
+          logs = λ k s. logging-logs beside n event there refl g k s (logged-stays l (l .steps) (l .nodes) (beside .lanes) beside-grows g g k (sym (mark-kept beside n event there k) ∙ s) refl refl (inv .logs k (sym (mark-kept beside n event there k) ∙ s)));
           events = λ k. logging-events beside n event there refl receiver g k (events-stay l (l .steps) (l .nodes) (beside .lanes) g g k (λ _. refl) refl (inv .events k));
           channels = λ c h. elim (ℕ-discrete c b) [ yes q ↦ subst (Channels after (later g n event) cutAfter) (sym q) own-channel | no d ↦ other-channel c d (inv .channels c h) ];
           ends = λ c h. elim (ℕ-discrete c b) [

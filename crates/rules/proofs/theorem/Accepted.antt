@@ -2,7 +2,7 @@
 use Prim.Native.Nat.{ℕ, suc, _<_}
 use mathlib.Core.Path.{_≡_, refl, sym, ap, _∙_}
 use mathlib.Core.Logic.{_≢_}
-use mathlib.Core.Bool.{Bool, true, false, _&&_, true≢false}
+use mathlib.Core.Bool.{Bool, true, false, not, _&&_, true≢false}
 use mathlib.Core.List.{List, [], _∷_}
 use mathlib.Core.Option.{none, some}
 use native.Mathlib.Omega.{arith}
@@ -11,12 +11,12 @@ use borrow.Author.Tests.{leb-false, eq-eqb, ne-eqb, not-false}
 use Rattle.basics.specs.Bools.{neither-true}
 use Rattle.plan.specs.Plan.{nodeCount, channelCount, channelAt, isSource, isSink, entering, leaving}
 use Rattle.rules.specs.Lists.{anyOf}
-use Rattle.rules.specs.Line.{stepLimit, consoleCount, stepsFrom, Message, Entry, Status, up, down, replay, Line, nodeAt, laneAt, isDown, isReplay}
-use Rattle.rules.specs.Frame.{Frame, feed, send, take, crash, recover, frameConsole, frameOf, badFrameLength, badFrameVersion, badKind, badConsole}
+use Rattle.rules.specs.Line.{stepLimit, consoleCount, stepsFrom, Message, Entry, Status, up, down, replay, Line, nodeAt, laneAt, isUp, isDown, isReplay}
+use Rattle.rules.specs.Frame.{Frame, feed, send, take, crash, recover, trim, frameConsole, frameOf, badFrameLength, badFrameVersion, badKind, badConsole}
 use Rattle.rules.specs.Recover.{rowGoal, rowComplete}
-use Rattle.rules.specs.Step.{isNothing, noStepsLeft, noSuch, wrongNode, nodeDown, endDown, wrongStatus, neighbourCrashed, besideCrashed, badRecord, sendable, nothingThere, queueFull, rowDone, noSpace, effect, noPlacing, lineRefusal, refusal, accepted, step}
+use Rattle.rules.specs.Step.{isNothing, noStepsLeft, noSuch, notAllUp, someStopped, wrongNode, nodeDown, endDown, wrongStatus, neighbourCrashed, besideCrashed, badRecord, sendable, nothingThere, queueFull, rowDone, noSpace, effect, noPlacing, lineRefusal, refusal, accepted, step}
 use Rattle.rules.proofs.lists.ListLaws.{some-first}
-use Rattle.rules.proofs.lists.Members.{none-any}
+use Rattle.rules.proofs.lists.Members.{none-any, in-up-to}
 use Rattle.rules.proofs.lists.Options.{nothing-none, something-there}
 use Rattle.rules.proofs.invariant.Inv.{Enters, Leaves}
 use Rattle.rules.proofs.line.Joins.{in-entering, in-leaving}
@@ -77,11 +77,12 @@ admitted l f number apart e =
     let ((_, (_, (_, (console, (steps, _))))), last) = only-last number (firstTests l f) (lineRefusal l (frameOf f)) apart (sym (refusal-first l f) ∙ e) in
     record { console = leb-false consoleCount (frameConsole f) console; steps-left = leb-false stepLimit (stepsFrom l (frameConsole f)) steps; answer = last }
 
--- A frame of console c that is not refused: steps are left, no number from 13 on applies, and it leads to a line.
+-- A frame of console c that is not refused: steps are left, no number from 13 on and not 26 applies, and it leads to a line.
 pub record Passed (l : Line) (c : ℕ) (f : Frame) : Type 0 where
   pub console : c < consoleCount
   pub steps-left : stepsFrom l c < stepLimit
   pub is-there : noSuch l f ≡ false
+  pub none-stopped : someStopped l f ≡ false
   pub right-node : wrongNode l f ≡ false
   pub right-status : wrongStatus l f ≡ false
   pub apart : besideCrashed l f ≡ false
@@ -99,14 +100,15 @@ passed l frame e =
     let f = frameOf frame in
     let h = admitted l frame 0 (λ z. omega arith, (λ z. omega arith, (λ z. omega arith, (λ z. omega arith, (λ z. omega arith, tt))))) e in
     let tests : List (Bool × ℕ) =
-    (noSuch l f, 12) ∷ (wrongNode l f, 13) ∷ (wrongStatus l f, 14) ∷ (besideCrashed l f, 15) ∷ (badRecord f, 16) ∷ (nothingThere l f, 17) ∷ (queueFull l f, 18) ∷ (rowDone l f, 19) ∷ (noSpace l f, 20)
+    (noSuch l f, 12) ∷ (someStopped l f, 25) ∷ (wrongNode l f, 13) ∷ (wrongStatus l f, 14) ∷ (besideCrashed l f, 15) ∷ (badRecord f, 16) ∷ (nothingThere l f, 17) ∷ (queueFull l f, 18) ∷ (rowDone l f, 19) ∷ (noSpace l f, 20)
     ∷ (noPlacing l f, 23) ∷ [] in
-    let (number, (node, (status, (beside, (good, (offer, (room, (row, (space, (placed, last)))))))))) = none-of tests 0 (h .answer) .0 in
+    let (number, (stopped, (node, (status, (beside, (good, (offer, (room, (row, (space, (placed, last))))))))))) = none-of tests 0 (h .answer) .0 in
     let (k, q) = something-there (effect l f) placed in
     record {
       console = h .console;
       steps-left = h .steps-left;
       is-there = number;
+      none-stopped = stopped;
       right-node = node;
       right-status = status;
       apart = beside;
@@ -136,10 +138,10 @@ unplaced l frame e =
     let f = frameOf frame in
     let h = admitted l frame 24 (λ z. omega arith, (λ z. omega arith, (λ z. omega arith, (λ z. omega arith, (λ z. omega arith, tt))))) e in
     let tests : List (Bool × ℕ) =
-    (noSuch l f, 12) ∷ (wrongNode l f, 13) ∷ (wrongStatus l f, 14) ∷ (besideCrashed l f, 15) ∷ (badRecord f, 16) ∷ (nothingThere l f, 17) ∷ (queueFull l f, 18) ∷ (rowDone l f, 19) ∷ (noSpace l f, 20) ∷ [] in
+    (noSuch l f, 12) ∷ (someStopped l f, 25) ∷ (wrongNode l f, 13) ∷ (wrongStatus l f, 14) ∷ (besideCrashed l f, 15) ∷ (badRecord f, 16) ∷ (nothingThere l f, 17) ∷ (queueFull l f, 18) ∷ (rowDone l f, 19) ∷ (noSpace l f, 20) ∷ [] in
     let apart : NoneIs 24 tests =
-    (λ z. omega arith, (λ z. omega arith, (λ z. omega arith, (λ z. omega arith, (λ z. omega arith, (λ z. omega arith, (λ z. omega arith, (λ z. omega arith, (λ z. omega arith, tt))))))))) in
-    let ((number, (node, (status, (beside, (good, (offer, (room, (row, (space, _))))))))), last) = only-last 24 tests (elim (noPlacing l f) [ true ↦ 24 | false ↦ 0 ]) apart (h .answer) in
+    (λ z. omega arith, (λ z. omega arith, (λ z. omega arith, (λ z. omega arith, (λ z. omega arith, (λ z. omega arith, (λ z. omega arith, (λ z. omega arith, (λ z. omega arith, (λ z. omega arith, tt)))))))))) in
+    let ((number, (_, (node, (status, (beside, (good, (offer, (room, (row, (space, _)))))))))), last) = only-last 24 tests (elim (noPlacing l f) [ true ↦ 24 | false ↦ 0 ]) apart (h .answer) in
     record {
       console = h .console;
       steps-left = h .steps-left;
@@ -258,6 +260,22 @@ may-recover l n is-there right-node right-status =
 
 pub can-recover : {l : Line} {c n : ℕ} → Passed l c (recover n) → CanRecover l n
 can-recover {l} {c} {n} p = may-recover l n (p .is-there) (p .right-node) (p .right-status)
+
+pub record CanTrim (l : Line) (n : ℕ) : Type 0 where
+  pub here : n < nodeCount (l .plan)
+  pub all-up : (m : ℕ) → m < nodeCount (l .plan) → nodeAt l m .status ≡ up
+
+status-up : (s : Status) → not (isUp s) ≡ false → s ≡ up
+status-up up e = refl
+status-up down e = absurd (true≢false e)
+status-up replay e = absurd (true≢false e)
+
+pub can-trim : {l : Line} {c n : ℕ} → Passed l c (trim n) → CanTrim l n
+can-trim {l} {c} {n} p =
+    record {
+      here = leb-false (nodeCount (l .plan)) n (p .is-there);
+      all-up = λ m h. status-up (nodeAt l m .status) (none-any (λ (k : ℕ). not (isUp (nodeAt l k .status))) (p .none-stopped) (in-up-to 0 (nodeCount (l .plan)) m (omega arith) (omega arith)));
+    }
 
 -- A step's answer: with number 0 the effect and one more step, else the line as it was.
 module _ (l : Line) (f : List ℕ) where

@@ -7,7 +7,7 @@ use mathlib.Core.List.{List, []}
 use mathlib.Core.Option.{Option, none, some}
 use native.Mathlib.Omega.{arith}
 use native.Mathlib.Decide.{ℕ-discrete}
-use lib.ListN.{length, length-set}
+use lib.ListN.{length-append, length, length-set}
 use lib.Dec.{leb}
 use borrow.Author.Tests.{leb-false}
 use Rattle.plan.specs.declared.Record.{Record}
@@ -15,7 +15,7 @@ use Rattle.plan.specs.Record.{recordLayout}
 use Rattle.plan.specs.Plan.{channelAt, channelCount, entering}
 use Rattle.rules.specs.Lists.{allOf, joined, isEmpty}
 use Rattle.rules.specs.Line.{logLimit, heldLimit, fed, made, Origin, Message, Entry, Held, Status, up, replay, Node, Lane, Line, nodeAt, laneAt, acceptedSteps, withNode, withLane, freshLane, parents, isReplay, senderOf}
-use Rattle.rules.specs.Frame.{Frame, feed, send, take, crash, recover, frameConsole, frameOf}
+use Rattle.rules.specs.Frame.{Frame, feed, send, take, crash, recover, trim, frameConsole, frameOf}
 use Rattle.rules.specs.Clock.{logged, sentOn, takenFrom, raiseHeard}
 use Rattle.rules.specs.Recover.{highOf, targetsOf, conflict, rowsComplete, recovered, statusOf}
 use Rattle.rules.specs.Replay.{passedOn, isHeld, heldByRow, itemsByRow, placing, nodePlaced, holding, replayEnd, endedIfComplete}
@@ -39,7 +39,9 @@ use Rattle.rules.proofs.steps.CrashInv as CrashInv
 use Rattle.rules.proofs.ending.RecoverInv as RecoverInv
 use Rattle.rules.proofs.theorem.StepInv.{up-or-replay, sender-gives, taken-is, again-is}
 use Rattle.rules.proofs.theorem.Unmoved.{effect-steps}
-use Rattle.rules.proofs.theorem.Accepted.{Passed, passed, step-accepted, can-feed, can-send, CanTake, can-take, can-crash, CanRecover, can-recover}
+use Rattle.rules.specs.Trim.{droppable, lowered, withLog}
+use Rattle.rules.proofs.invariant.Trimmed.{leading-behind, run, rest, trimmed, trimmed-is, trimmed-node, trimmed-else, node-same, lane-same}
+use Rattle.rules.proofs.theorem.Accepted.{can-trim, Passed, passed, step-accepted, can-feed, can-send, CanTake, can-take, can-crash, CanRecover, can-recover}
 
 -- The same with a step to spare.
 limits-later : {l : Line} → Limits 0 l → Limits 1 l
@@ -129,7 +131,7 @@ module _ (l : Line) (g : Ghost) (cut base : ℕ → ℕ) (acts : List Act) (rece
     n = channelAt (l .plan) b .receiver
 
     abbrev lane : Lane
-    lane = record { mark = laneAt l b .mark; taken = max (laneAt l b .taken) (m .time); heard = raiseHeard (parents (l .plan) (senderOf l b)) (laneAt l b .heard) (m .origin); queue = can .rest }
+    lane = record { mark = laneAt l b .mark; taken = max (laneAt l b .taken) (m .time); heard = raiseHeard (parents (l .plan) (senderOf l b)) (laneAt l b .heard) (m .origin); queue = can .rest; low = laneAt l b .low }
 
     abbrev beside : Line
     beside = withLane b lane l
@@ -286,12 +288,28 @@ module _ (l : Line) (g : Ghost) (cut base : ℕ → ℕ) (acts : List Act) (rece
           long : n < length (recovered n l .nodes)
           long = rw (recovered-is l n (inv .ordered) (inv .shape), restored-shape l n (inv .ordered) (inv .shape) .nodes-long) (can .here)
 
+  -- A log only gets shorter.
+  trim-steady : (n : ℕ) → {c : ℕ} → Passed l c (trim n) → (k : Line) → effect l (trim n) ≡ some k → Steady 1 k
+  unfolding effect withLog lowered
+  trim-steady n p k e =
+      let can = can-trim p in
+      let x = trimmed l n in
+      let now = trimmed-node l n (rw (inv .shape .nodes-long) (can .here)) in
+      let long = ap length (leading-behind (droppable l n) (nodeAt l n .log)) ∙ length-append (run l n) (rest l n) in
+      let takens = lane-same l n (inv .shape) (can .here) (λ (y : Lane). y .taken) (λ c y. refl) in
+      subst (Steady 1) (sym (trimmed-is l n) ∙ some-same e)
+      (record {
+        limits = limits-by l (x .nodes) (x .lanes) n (trimmed-else l n) (rw now (omega (arith, long, s .limits .logs n))) (rw now (omega (arith, s .limits .times n))) (λ b h. omega (arith, takens b h, s .limits .entries b h)) (omega arith) (s .limits);
+        open-rows = λ m. open-stays l (l .steps) (x .nodes) (x .lanes) m (node-same l n (inv .shape) (can .here) (λ (y : Node). y .status) refl m) (node-same l n (inv .shape) (can .here) (λ (y : Node). y .targets) refl m) (λ b h. takens b (h .0)) (s .open-rows m);
+      })
+
   pub effect-steady : {c : ℕ} (f : Frame) → Passed l c f → (k : Line) → effect l f ≡ some k → Steady 1 k
   effect-steady (feed n r) p k e = feed-steady n r p k e
   effect-steady (send b) p k e = send-steady b p k e
   effect-steady (take b) p k e = take-steady b p k e
   effect-steady (crash n) p k e = crash-steady n p k e
   effect-steady (recover n) p k e = recover-steady n p k e
+  effect-steady (trim n) p k e = trim-steady n p k e
 
   pub step-steady : (f : List ℕ) → refusal l f ≡ 0 → Steady 0 (step l f .line)
   step-steady f e =

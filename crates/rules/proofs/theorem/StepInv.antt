@@ -10,7 +10,7 @@ use Rattle.basics.specs.Update.{changed}
 use Rattle.plan.specs.Record.{recordLayout}
 use Rattle.plan.specs.Plan.{channelAt, channelCount}
 use Rattle.rules.specs.Line.{logLimit, Message, Entry, Status, up, down, replay, Line, nodeAt, laneAt, parents, isReplay, senderOf, receiverOf}
-use Rattle.rules.specs.Frame.{Frame, feed, send, take, crash, recover, frameConsole, frameOf}
+use Rattle.rules.specs.Frame.{Frame, feed, send, take, crash, recover, trim, frameConsole, frameOf}
 use Rattle.rules.specs.Clock.{nextToSend, raiseHeard}
 use Rattle.rules.specs.Replay.{endedIfComplete}
 use Rattle.rules.specs.Step.{sendable, replaying, fedLine, sentLine, takenUp, takenLane, takenReplaying, takenFirst, takenLine, recoveredLine, effect, refusal, accepted, step}
@@ -25,11 +25,12 @@ use Rattle.rules.proofs.invariant.Heard.{raised-more}
 use Rattle.rules.proofs.steps.FeedInv.{feed-inv}
 use Rattle.rules.proofs.steps.SendInv.{send-inv}
 use Rattle.rules.proofs.steps.TakeInv.{take-inv}
+use Rattle.rules.proofs.steps.TrimInv.{trim-inv}
 use Rattle.rules.proofs.steps.CrashInv.{crash-inv}
 use Rattle.rules.proofs.ending.ReplayTakeInv.{replay-take-inv}
 use Rattle.rules.proofs.ending.RecoverInv.{recover-inv}
 use Rattle.rules.proofs.steps.CountedInv.{counted-inv}
-use Rattle.rules.proofs.theorem.Accepted.{Passed, passed, CanFeed, can-feed, CanSend, can-send, CanTake, can-take, CanCrash, can-crash, can-recover, step-accepted}
+use Rattle.rules.proofs.theorem.Accepted.{Passed, passed, CanFeed, can-feed, CanSend, can-send, CanTake, can-take, CanCrash, can-crash, can-recover, CanTrim, can-trim, step-accepted}
 
 -- The invariant holds with some history.
 abbrev pub Kept : Line → List Act → List Receipt → List ℕ → Type 0
@@ -48,7 +49,7 @@ up-or-replay up d = inl refl
 up-or-replay down d = absurd (d refl)
 up-or-replay replay d = inr refl
 
-first-again : (b : ℕ) (m : Message) (rest : List Message) (l : Line) → replaying l (receiverOf l b) ≡ true → takenFirst b (m ∷ rest) l ≡ endedIfComplete (receiverOf l b) (takenReplaying b m (takenLane b m rest l))
+pub first-again : (b : ℕ) (m : Message) (rest : List Message) (l : Line) → replaying l (receiverOf l b) ≡ true → takenFirst b (m ∷ rest) l ≡ endedIfComplete (receiverOf l b) (takenReplaying b m (takenLane b m rest l))
 first-again b m rest l e = rw (e, takenFirst)
 
 pub first-up : (b : ℕ) (m : Message) (rest : List Message) (l : Line) → replaying l (receiverOf l b) ≡ false → takenFirst b (m ∷ rest) l ≡ some (takenUp b m (takenLane b m rest l))
@@ -63,7 +64,7 @@ module _ (l : Line) (g : Ghost) (cut base : ℕ → ℕ) (fed : List Act) (recei
       (feed-inv l g cut base fed receipts crashes inv n (recordLayout .read r) (can .here) (can .source))
 
   -- A replaying sender has nothing to send, its log is empty.
-  sender-sends : (b : ℕ) (e : Entry) → sendable l b ≡ some e → nodeAt l (channelAt (l .plan) b .sender) .status ≢ down → isUp l (channelAt (l .plan) b .sender)
+  pub sender-sends : (b : ℕ) (e : Entry) → sendable l b ≡ some e → nodeAt l (channelAt (l .plan) b .sender) .status ≢ down → isUp l (channelAt (l .plan) b .sender)
   unfolding sendable
   sender-sends b e first d = elim (up-or-replay (nodeAt l (channelAt (l .plan) b .sender) .status) d) [
     | inl q ↦ q
@@ -118,6 +119,10 @@ module _ (l : Line) (g : Ghost) (cut base : ℕ → ℕ) (fed : List Act) (recei
         let (g′, cut′, i) = replay-take-inv l g cut base fed receipts crashes inv b (can .here) (can .message) (can .rest) (can .first) (sender-gives b (can .message) (can .rest) (can .here) (can .first)) again (can .below-goal again) k (sym again-is ∙ e) in
         kept-same refl refl (ap (λ (x : List Receipt). receipts ++ x) one) refl (g′, cut′, base, i)
 
+  trim-step : (n : ℕ) → CanTrim l n → (k : Line) → effect l (trim n) ≡ some k → Inv k g cut base fed receipts crashes
+  unfolding effect
+  trim-step n can k e = subst (λ (x : Line). Inv x g cut base fed receipts crashes) (some-same e) (trim-inv l g cut base fed receipts crashes inv n (can .here) (can .all-up))
+
   recover-is : (n : ℕ) → effect l (recover n) ≡ recoveredLine n l
   unfolding effect
   recover-is n = refl
@@ -140,6 +145,7 @@ module _ (l : Line) (g : Ghost) (cut base : ℕ → ℕ) (fed : List Act) (recei
   effect-inv (send b) p k e = kept-same refl (nil-right fed) (nil-right receipts) (nil-right crashes) (_, _, _, send-step l g cut base fed receipts crashes inv b (can-send p) k e)
   effect-inv (take b) p k e = kept-same refl (nil-right fed) refl (nil-right crashes) (take-step b (can-take p) k e)
   effect-inv (crash n) p k e = kept-same refl (nil-right fed) (nil-right receipts) refl (_, _, _, crash-step l g cut base fed receipts crashes inv n (can-crash p) (logs n) k e)
+  effect-inv (trim n) p k e = kept-same refl (nil-right fed) (nil-right receipts) (nil-right crashes) (_, _, _, trim-step l g cut base fed receipts crashes inv n (can-trim p) k e)
   effect-inv (recover n) p k e =
       let can = can-recover p in
       kept-same refl (nil-right fed) (nil-right receipts) (nil-right crashes) (recover-inv l g cut base fed receipts crashes inv n (can .here) (can .stopped) k (sym (recover-is l g cut base fed receipts crashes inv n) ∙ e))

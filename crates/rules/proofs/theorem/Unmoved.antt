@@ -8,9 +8,10 @@ use native.Mathlib.Decide.{ℕ-discrete}
 use Rattle.plan.specs.Plan.{Plan, entering, leaving}
 use Rattle.rules.specs.Lists.{allOf, joined, isEmpty}
 use Rattle.rules.specs.Line.{Message, Entry, Held, Node, Lane, Line, nodeAt, laneAt, withNode, withLane, withLanes, counted, receiverOf}
-use Rattle.rules.specs.Frame.{Frame, feed, send, take, crash, recover, frameConsole, frameOf}
+use Rattle.rules.specs.Frame.{Frame, feed, send, take, crash, recover, trim, frameConsole, frameOf}
 use Rattle.rules.specs.Recover.{targetsOf, conflict, rowsComplete, highOf, recovered}
 use Rattle.rules.specs.Replay.{passedOn, isHeld, heldByRow, itemsByRow, placing, nodePlaced, replayEnd, endedIfComplete}
+use Rattle.rules.specs.Trim.{trimmedLine}
 use Rattle.rules.specs.Step.{sendable, replaying, madeBy, fedLine, sentLine, takenUp, takenReplaying, takenLane, takenFirst, takenLine, crashedLine, recoveredLine, effect, accepted, refusal, step}
 use Rattle.rules.specs.Clock.{sentOn}
 use Rattle.rules.proofs.theorem.Accepted.{step-accepted, step-refused}
@@ -110,6 +111,10 @@ restored-unmoved : (n : ℕ) (l : Line) → fixed (recovered n l) ≡ fixed l
 unfolding recovered
 restored-unmoved n l = lanes-fixed _ (entering (l .plan) n) _ ∙ lanes-fixed _ (leaving (l .plan) n) _
 
+trimmed-unmoved : (n : ℕ) (l : Line) → fixed (trimmedLine n l) ≡ fixed l
+unfolding trimmedLine
+trimmed-unmoved n l = lanes-fixed _ (entering (l .plan) n) _
+
 recovered-unmoved : (n : ℕ) (l : Line) → Has (fixed l) (recoveredLine n l)
 unfolding recoveredLine
 recovered-unmoved n l = one (conflict (targetsOf l n)) refl (isEmpty (targetsOf l n)) refl
@@ -126,6 +131,7 @@ effect-unmoved l (send b) = sent-unmoved b (sendable l b) l
 effect-unmoved l (take b) = taken-unmoved b l
 effect-unmoved l (crash n) = crashed-unmoved n l
 effect-unmoved l (recover n) = recovered-unmoved n l
+effect-unmoved l (trim n) = trimmed-unmoved n l
 
 accepted-plan : (c : ℕ) (l : Line) (o : Option Line) → Has (fixed l) o → accepted c l o .plan ≡ l .plan
 unfolding counted

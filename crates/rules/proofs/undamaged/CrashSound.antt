@@ -21,6 +21,7 @@ use Rattle.rules.proofs.invariant.InvLaws.{up-not-down, up-not-replay, 
 use Rattle.rules.proofs.invariant.MarkedLaws.{at-ends}
 use Rattle.rules.proofs.theorem.Accepted.{Passed, CanCrash, can-crash}
 use Rattle.rules.proofs.lists.Options.{some-same}
+use Rattle.rules.specs.Damaged.{lowWrong}
 use Rattle.rules.proofs.undamaged.Standing.{NodeFits, NodeSound, Covers, LaneFits, ChannelSound, Standing, Replays, Sound}
 use Rattle.rules.proofs.undamaged.SoundStays.{node-stays, channel-stays, replays-stay, counted-sound}
 use Rattle.rules.proofs.undamaged.StartSound.{fresh-fits, fresh-flows, fresh-cleared}
@@ -90,7 +91,8 @@ module _ (l : Line) (sound : Sound l) (n : ℕ) (can : CanCrash l n) where
       }
 
   left-fits : (c : ℕ) → LaneFits (l .plan) (acceptedSteps l) c (laneAt l c) → LaneFits (l .plan) (acceptedSteps l) c (cleared (laneAt l c))
-  left-fits c f = record { heard-long = f .heard-long; few = omega arith; messages = λ m i. absurd (in-none i); mark = omega arith; taken = f .taken; heard = f .heard }
+  unfolding lowWrong
+  left-fits c f = record { heard-long = f .heard-long; low-long = f .low-long; low-below = f .low-below; few = omega arith; messages = λ m i. absurd (in-none i); mark = omega arith; taken = f .taken; heard = f .heard }
 
   channel-leaves : (c : ℕ) → Leaves (l .plan) n c → ChannelSound (crashedAfter l n) c
   channel-leaves c h =
@@ -127,7 +129,8 @@ module _ (l : Line) (sound : Sound l) (n : ℕ) (can : CanCrash l n) where
         let same : acceptedSteps l ≤ acceptedSteps l = omega arith in
         let node = (crashed-else l n ordered (s .shape)) m other in
         replays-stay l (l .steps) ((crashedAfter l n) .nodes) ((crashedAfter l n) .lanes) same m (λ c j. ap (λ (x : Lane). x .taken) ((crashed-beside l n ordered (s .shape)) c (child-other c j) (λ q. other (sym (j .1) ∙ q))))
-        (λ c j. ap (λ (x : Node). triples m (x .log)) ((crashed-else l n ordered (s .shape)) (channelAt (l .plan) c .receiver) (child-other c j))) (ap (λ (x : Node). x .time) node) (ap (λ (x : Node). x .targets) node) (sound .replays m h was)
+        (λ c j. ap (λ (x : Node). triples m (x .log)) ((crashed-else l n ordered (s .shape)) (channelAt (l .plan) c .receiver) (child-other c j)))
+        (λ c j. ap (λ (x : Lane). x .low) ((crashed-beside l n ordered (s .shape)) c (child-other c j) (λ q. other (sym (j .1) ∙ q)))) (ap (λ (x : Node). x .time) node) (ap (λ (x : Node). x .targets) node) (sound .replays m h was)
 
   crashed-sound : Sound (crashedAfter l n)
   crashed-sound =

@@ -17,7 +17,7 @@ emptied = record { status = down; crashed = true; time = 0; log = []; held = [];
 
 -- A channel that leaves the node: its mark and queue are gone, the child's entries stay.
 abbrev pub cleared : Lane → Lane
-cleared x = record { mark = 0; taken = x .taken; heard = x .heard; queue = [] }
+cleared x = record { mark = 0; taken = x .taken; heard = x .heard; queue = []; low = x .low }
 
 module _ (l : Line) (n : ℕ) where
   abbrev left : ℕ → Lane → Lane

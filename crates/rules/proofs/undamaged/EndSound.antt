@@ -154,7 +154,7 @@ module _ (l : Line) (s : Standing l) (n : ℕ) (inside : n < nodeCount (l .plan)
       replays-on =
           let same : acceptedSteps l ≤ acceptedSteps l = omega arith in
           let node = node-other m other in
-          replays-stay l (l .steps) (after .nodes) (l .lanes) same m (λ c j. refl) (λ c j. ap (λ (y : Node). triples m (y .log)) (node-other (channelAt (l .plan) c .receiver) (child-other c j)))
+          replays-stay l (l .steps) (after .nodes) (l .lanes) same m (λ c j. refl) (λ c j. ap (λ (y : Node). triples m (y .log)) (node-other (channelAt (l .plan) c .receiver) (child-other c j))) (λ c j. refl)
           (ap (λ (y : Node). y .time) node) (ap (λ (y : Node). y .targets) node) (others m h other was)
 
     placed-sound : Sound after

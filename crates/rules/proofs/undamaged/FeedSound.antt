@@ -45,7 +45,7 @@ module _ (l : Line) (sound : Sound l) (n : ℕ) (r : List ℕ) (bytes : Bytes r)
       let mark = mark-same l sound fits rise n (can .here) is-up room what fed fed new (l .lanes) in
       log-sound l sound fits rise n (can .here) is-up room what fed fed new (l .lanes) refl (λ b h o before c. c) (λ b h. tt)
       (λ b h. (let s = channelAt (l .plan) b .sender in let t = channelAt (l .plan) b .receiver in channel-stays l (oneMore who (l .steps)) (now .nodes) (l .lanes) (omega (arith, rise)) b (status s) (status t) (mark s) (mark t) refl (sound .standing .channels b h)))
-      (λ m e c h. refl) (λ m e. refl)
+      (λ m e c h. refl) (λ m e. refl) (λ m e c h. refl)
 
   pub feed-sound : (k : Line) → effect l (feed n r) ≡ some k → Sound (counted who k)
   unfolding effect

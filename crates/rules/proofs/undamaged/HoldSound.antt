@@ -28,7 +28,7 @@ use Rattle.rules.proofs.theorem.Accepted.{Passed, CanTake}
 use Rattle.rules.proofs.undamaged.TestLaws.{unless}
 use Rattle.rules.proofs.undamaged.Standing.{heldTime, heldFrom, EntryFits, Empties, NodeFits, Covers, NodeSound, Standing, Sound}
 use Rattle.rules.proofs.undamaged.SoundStays.{node-stays, replays-stay, counted-sound}
-use Rattle.rules.proofs.undamaged.TakeSound.{now, lanes, inside, next, taken-entry, raised, own, entries, channels}
+use Rattle.rules.proofs.undamaged.TakeSound.{now, lanes, inside, next, taken-entry, raised, own, lows, entries, channels}
 use Rattle.rules.proofs.undamaged.EndSound.{ended-sound}
 use Rattle.rules.proofs.theorem.Unmoved.{ended-steps}
 
@@ -173,7 +173,7 @@ module _ (l : Line) (sound : Sound l) (b : ℕ) {who : ℕ} (p : Passed l who (t
           };
           replays = λ j i q.
               (let was : nodeAt l j .status ≡ replay = sym (status j) ∙ q in
-              replays-stay l (l .steps) nodes (lanes l sound b p can) same j (entries l sound b p can (l .steps) nodes j was) (λ c k. same-part (λ (y : Node). triples j (y .log)) refl (channelAt (l .plan) c .receiver))
+              replays-stay l (l .steps) nodes (lanes l sound b p can) same j (entries l sound b p can (l .steps) nodes j was) (λ c k. same-part (λ (y : Node). triples j (y .log)) refl (channelAt (l .plan) c .receiver)) (lows l sound b p can (l .steps) nodes j was)
               (same-part (λ (y : Node). y .time) refl j) (same-part (λ (y : Node). y .targets) refl j) (sound .replays j i was));
         }
 

@@ -102,7 +102,7 @@ module _ (l : Line) (sound : Sound l) {counts : List ℕ} (counts-fit : CountsFi
   module _ (long : length lanes ≡ length (l .lanes)) (raised : (b : ℕ) → b < channelCount (l .plan) → (o bef : Origin) → Covers (l .plan) b (laneAt l b) o bef → Covers (l .plan) b (laneAt after b) o bef)
       (own : (b : ℕ) → Enters (l .plan) n b → Covers (l .plan) b (laneAt after b) origin before) (channels : (b : ℕ) → b < channelCount (l .plan) → ChannelSound after b)
       (entries : (m : ℕ) → nodeAt l m .status ≡ replay → (c : ℕ) → Leaves (l .plan) m c → laneAt after c .taken ≡ laneAt l c .taken)
-      (others : (m : ℕ) → nodeAt l m .status ≡ replay → triple m origin before ≡ []) where
+      (others : (m : ℕ) → nodeAt l m .status ≡ replay → triple m origin before ≡ []) (lows : (m : ℕ) → nodeAt l m .status ≡ replay → (c : ℕ) → Leaves (l .plan) m c → laneAt after c .low ≡ laneAt l c .low) where
     node-logs : NodeSound after n
     unfolding logged
     node-logs =
@@ -134,6 +134,6 @@ module _ (l : Line) (sound : Sound l) {counts : List ℕ} (counts-fit : CountsFi
           replays = λ m h e.
               (let old : nodeAt l m .status ≡ replay = sym (status-same m) ∙ e in
               let d : m ≢ n = λ q. up-not-replay (sym is-up ∙ ap (λ (z : ℕ). nodeAt l z .status) (sym q) ∙ old) in
-              replays-stay l counts (after .nodes) lanes later m (entries m old) (λ c _. triples-stay m (others m old) (channelAt (l .plan) c .receiver))
+              replays-stay l counts (after .nodes) lanes later m (entries m old) (λ c _. triples-stay m (others m old) (channelAt (l .plan) c .receiver)) (lows m old)
               (ap (λ (x : Node). x .time) (node-other m d)) (ap (λ (x : Node). x .targets) (node-other m d)) (sound .replays m h old));
         }

@@ -7,25 +7,27 @@ use mathlib.Core.List.{List, [], _∷_, map}
 use mathlib.Core.Option.{none, some}
 use native.Mathlib.Omega.{arith}
 use native.Mathlib.Decide.{ℕ-discrete}
-use lib.ListN.{length}
+use lib.ListN.{length, drop}
 use lib.Dec.{leb, eqb}
 use borrow.Author.Tests.{ltb-false}
 use Rattle.plan.specs.Plan.{nodeCount, channelAt}
 use Rattle.rules.specs.Lists.{keep, isEmpty}
-use Rattle.rules.specs.Line.{targetLimit, Origin, made, Target, Status, up, down, replay, Node, Lane, Line, nodeAt, laneAt, freshLane, counted, isDown, acceptedSteps}
+use Rattle.rules.specs.Line.{targetLimit, Origin, made, Target, Status, up, down, replay, Node, Lane, Line, nodeAt, laneAt, freshLane, counted, isDown, acceptedSteps, parents}
 use Rattle.rules.specs.Frame.{recover}
 use Rattle.rules.specs.Recover.{childTriples, lowOf, restored, targetsOf, conflict, rowsComplete, recovered, statusOf, triples}
 use Rattle.rules.specs.Replay.{endedIfComplete}
 use Rattle.rules.specs.Step.{endDown, recoveredLine, effect}
 use Rattle.rules.specs.Damaged.{workedOn}
 use Rattle.rules.proofs.lists.Rising.{Rises, none, none-in}
-use Rattle.rules.proofs.lists.Members.{In, in-none, in-left, keep-in, map-in, greatest-in}
-use Rattle.rules.proofs.ending.Targets.{triples-at-in, low-high, targets-from}
+use Rattle.rules.proofs.lists.Members.{In, in-none, in-first, in-drop, in-left}
+use Rattle.rules.proofs.ending.Targets.{triples-at-in, low-high, restored-cases, targets-from}
 use Rattle.rules.proofs.invariant.Inv.{Ordered, Enters, Leaves}
 use Rattle.rules.proofs.invariant.InvLaws.{up-not-down, up-not-replay, replay-not-down, if-marked}
 use Rattle.rules.proofs.invariant.MarkedLaws.{at-ends}
 use Rattle.rules.proofs.theorem.Accepted.{Passed, CanRecover, can-recover}
 use Rattle.rules.proofs.lists.Options.{some-same, none-some}
+use Rattle.rules.specs.Damaged.{lowWrong}
+use Rattle.rules.proofs.undamaged.LowLaws.{low-within, entry-within}
 use Rattle.rules.proofs.undamaged.Standing.{heldTime, heldFrom, OriginFits, BeforeFits, TargetFits, Empties, NodeFits, Covers, NodeSound, LaneFits, Flows, ChannelSound, Standing, Replays, Sound}
 use Rattle.rules.proofs.undamaged.SoundStays.{node-stays, channel-stays, low-kept, targets-kept, rows-kept, replays-stay, counted-sound}
 use Rattle.rules.proofs.undamaged.StartSound.{fresh-fits, fresh-flows}
@@ -63,15 +65,17 @@ module _ (l : Line) (s : Standing l) (n : ℕ) where
       record { parent = from .0; time = made-from .3; parent-time = from .3 }
 
   pub restored-within : (a : ℕ) → restored l n a ≤ acceptedSteps l
-  unfolding restored
+  unfolding lowWrong
   restored-within a =
-      let chosen : Target → Bool = λ t. eqb (t .parent) a && leb (t .time) (lowOf l n) in
-      elim (greatest-in (map (λ (t : Target). t .parentTime) (keep chosen (childTriples l n)))) [
-        | inl q ↦ omega arith
-        | inr i ↦
-            (let (u, j, q) = map-in (λ (t : Target). t .parentTime) (keep chosen (childTriples l n)) i in
-            let f = triple-fits u (keep-in chosen (childTriples l n) j .0) in
-            omega (arith, f .parent-time))
+      elim (restored-cases l n a) [
+        | inl q ↦ omega (arith, q)
+        | inr (inl (c, h, sender, q)) ↦
+            (let f = s .channels c h .fits in
+            let clock : (t : ℕ) → In t (laneAt l c .taken ∷ laneAt l c .heard) → t ≤ acceptedSteps l = λ t i. elim (in-first i) [ inl e ↦ omega (arith, f .taken) | inr j ↦ f .heard t j ] in
+            let long : length (laneAt l c .low) ≡ length (laneAt l c .taken ∷ laneAt l c .heard) = omega (arith, f .low-long, f .heard-long) in
+            let lows = low-within (acceptedSteps l) (laneAt l c .low) (laneAt l c .taken ∷ laneAt l c .heard) long (f .low-below) clock in
+            omega (arith, q, entry-within (acceptedSteps l) a (parents (l .plan) n) (drop 1 (laneAt l c .low)) (λ u i. lows u (in-drop 1 (laneAt l c .low) i))))
+        | inr (inr (u, i, _, _, q)) ↦ omega (arith, q, triple-fits u i .parent-time)
       ]
 
   restored-empties : (ts : List Target) → Empties (statusOf ts) (record { status = statusOf ts; crashed = true; time = lowOf l n; log = []; held = []; targets = ts })
@@ -175,11 +179,12 @@ module _ (l : Line) (s : Standing l) (n : ℕ) where
       queue-none : laneAt l c .queue ≡ []
       queue-none = s .channels c (h .0) .stopped (rw (h .1, can .stopped)) .1
 
-      lane-is : laneAt r c ≡ record { mark = laneAt l c .taken; taken = laneAt l c .taken; heard = laneAt l c .heard; queue = [] }
-      lane-is = restored-leaves l n ordered (s .shape) c h ∙ (λ i. record { mark = laneAt l c .taken; taken = laneAt l c .taken; heard = laneAt l c .heard; queue = queue-none i })
+      lane-is : laneAt r c ≡ record { mark = laneAt l c .taken; taken = laneAt l c .taken; heard = laneAt l c .heard; queue = []; low = laneAt l c .low }
+      lane-is = restored-leaves l n ordered (s .shape) c h ∙ (λ i. record { mark = laneAt l c .taken; taken = laneAt l c .taken; heard = laneAt l c .heard; queue = queue-none i; low = laneAt l c .low })
 
-      left-fits : LaneFits (l .plan) (acceptedSteps l) c (record { mark = laneAt l c .taken; taken = laneAt l c .taken; heard = laneAt l c .heard; queue = [] })
-      left-fits = let f = s .channels c (h .0) .fits in record { heard-long = f .heard-long; few = omega arith; messages = λ m i. absurd (in-none i); mark = f .taken; taken = f .taken; heard = f .heard }
+      left-fits : LaneFits (l .plan) (acceptedSteps l) c (record { mark = laneAt l c .taken; taken = laneAt l c .taken; heard = laneAt l c .heard; queue = []; low = laneAt l c .low })
+      unfolding lowWrong
+      left-fits = let f = s .channels c (h .0) .fits in record { heard-long = f .heard-long; low-long = f .low-long; low-below = f .low-below; few = omega arith; messages = λ m i. absurd (in-none i); mark = f .taken; taken = f .taken; heard = f .heard }
 
       channel-leaves : ChannelSound r c
       channel-leaves =
@@ -196,6 +201,9 @@ module _ (l : Line) (s : Standing l) (n : ℕ) where
 
       taken-kept : laneAt r c .taken ≡ laneAt l c .taken
       taken-kept = ap (λ (x : Lane). x .taken) lane-is
+
+      low-kept-too : laneAt r c .low ≡ laneAt l c .low
+      low-kept-too = ap (λ (x : Lane). x .low) lane-is
 
       log-kept : triples n (nodeAt r child .log) ≡ triples n (nodeAt l child .log)
       log-kept = ap (λ (x : Node). triples n (x .log)) (node-other child child-other)
@@ -227,20 +235,20 @@ module _ (l : Line) (s : Standing l) (n : ℕ) where
         let was : nodeAt l m .status ≡ replay = sym (ap (λ (x : Node). x .status) node) ∙ e in
         let apart = marked-apart l s m n (stopped-marked l s m h (λ q. up-not-replay (sym q ∙ was))) marked in
         replays-stay l (l .steps) (r .nodes) (r .lanes) same m (λ c j. ap (λ (x : Lane). x .taken) (restored-beside l n ordered (s .shape) c (apart c j) (λ q. d (sym (j .1) ∙ q))))
-        (λ c j. ap (λ (x : Node). triples m (x .log)) (node-other (channelAt (l .plan) c .receiver) (apart c j))) (ap (λ (x : Node). x .time) node) (ap (λ (x : Node). x .targets) node) (replays m h was)
+        (λ c j. ap (λ (x : Node). triples m (x .log)) (node-other (channelAt (l .plan) c .receiver) (apart c j))) (λ c j. ap (λ (x : Lane). x .low) (restored-beside l n ordered (s .shape) c (apart c j) (λ q. d (sym (j .1) ∙ q)))) (ap (λ (x : Node). x .time) node) (ap (λ (x : Node). x .targets) node) (replays m h was)
 
     replays-own : conflict (targetsOf l n) ≡ false → isEmpty (targetsOf l n) ≡ false → rowsComplete r n ≡ false → Replays r n
     replays-own agreed there waiting =
         let same : acceptedSteps l ≤ acceptedSteps l = omega arith in
-        let lows = low-kept l (l .steps) (r .nodes) (r .lanes) same n taken-kept log-kept in
-        let found = targets-kept l (l .steps) (r .nodes) (r .lanes) same n taken-kept log-kept in
+        let lows = low-kept l (l .steps) (r .nodes) (r .lanes) same n taken-kept log-kept low-kept-too in
+        let found = targets-kept l (l .steps) (r .nodes) (r .lanes) same n taken-kept log-kept low-kept-too in
         record {
           time = ap (λ (x : Node). x .time) node-now ∙ sym lows;
           targets = ap (λ (x : Node). x .targets) node-now ∙ sym found;
           few = rw found few;
           agreed = ap conflict found ∙ agreed;
           some = ap isEmpty found ∙ there;
-          open-row = rows-kept l (l .steps) (r .nodes) (r .lanes) same n taken-kept log-kept ∙ sym (restored-complete l n ordered (s .shape) (can .here)) ∙ ap (λ (k : Line). rowsComplete k n) (recovered-is l n ordered (s .shape)) ∙ waiting;
+          open-row = rows-kept l (l .steps) (r .nodes) (r .lanes) same n taken-kept log-kept low-kept-too ∙ sym (restored-complete l n ordered (s .shape) (can .here)) ∙ ap (λ (k : Line). rowsComplete k n) (recovered-is l n ordered (s .shape)) ∙ waiting;
         }
 
     recovered-sound : ((m : ℕ) → m < nodeCount (l .plan) → nodeAt l m .status ≡ replay → Replays l m) → (k : Line) → recoveredLine n l ≡ some k → Sound k

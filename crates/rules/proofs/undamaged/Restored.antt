@@ -30,7 +30,7 @@ module _ (l : Line) (n : ℕ) where
   restoredNode = record { status = statusOf (targetsOf l n); crashed = true; time = lowOf l n; log = []; held = []; targets = targetsOf l n }
 
   abbrev left : ℕ → Lane → Lane
-  left c s = record { mark = s .taken; taken = s .taken; heard = s .heard; queue = s .queue }
+  left c s = record { mark = s .taken; taken = s .taken; heard = s .heard; queue = s .queue; low = s .low }
 
   abbrev entered : ℕ → Lane → Lane
   entered c s = freshLane (l .plan) (channelAt (l .plan) c) (restored l n (channelAt (l .plan) c .sender))
@@ -62,7 +62,7 @@ module _ (l : Line) (n : ℕ) (ordered : Ordered (l .plan)) (shape : Shape l) wh
   unfolding withNode recovered
   restored-enters = swept-enters (entered l n) (left l n) (withNode n (restoredNode l n) l) n ordered (shape .lanes-long)
 
-  pub restored-leaves : (c : ℕ) → Leaves (l .plan) n c → laneAt (restoredLine l n) c ≡ record { mark = laneAt l c .taken; taken = laneAt l c .taken; heard = laneAt l c .heard; queue = laneAt l c .queue }
+  pub restored-leaves : (c : ℕ) → Leaves (l .plan) n c → laneAt (restoredLine l n) c ≡ record { mark = laneAt l c .taken; taken = laneAt l c .taken; heard = laneAt l c .heard; queue = laneAt l c .queue; low = laneAt l c .low }
   unfolding withNode recovered
   restored-leaves = swept-leaves (entered l n) (left l n) (withNode n (restoredNode l n) l) n ordered (shape .lanes-long)
 

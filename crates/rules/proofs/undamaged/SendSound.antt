@@ -24,6 +24,7 @@ use Rattle.rules.proofs.line.LineLaws.{lane-there, lane-else, lanes-lon
 use Rattle.rules.proofs.invariant.Inv.{timeOf, Ordered}
 use Rattle.rules.proofs.theorem.Accepted.{Passed, CanSend, can-send}
 use Rattle.rules.proofs.lists.Options.{some-same, none-some}
+use Rattle.rules.specs.Damaged.{lowWrong}
 use Rattle.rules.proofs.undamaged.Standing.{entryTime, Empties, Covers, LaneFits, MessageFits, Flows, ChannelSound, Standing, Sound}
 use Rattle.rules.proofs.undamaged.SoundStays.{node-stays, channel-stays, replays-stay, counted-sound}
 use Rattle.rules.proofs.undamaged.Undamaged.{ordered-fit}
@@ -80,12 +81,14 @@ module _ (l : Line) (sound : Sound l) (b : ℕ) {who : ℕ} (p : Passed l who (s
       record { limits = g .limits; origin = g .origin; later = omega (arith, is-next .1); within = omega (arith, f .time) }
 
   sent-fits : LaneFits (l .plan) (acceptedSteps l) b (sentOn e was)
-  unfolding sentOn
+  unfolding sentOn lowWrong
   sent-fits =
       let f = old .fits in
       let room = leb-false queueLimit (length (was .queue)) (p .room) in
       record {
         heard-long = f .heard-long;
+        low-long = f .low-long;
+        low-below = f .low-below;
         few = omega (arith, length-append (was .queue) (messageOf e ∷ []));
         messages = λ m i. elim (append-in (was .queue) i) [
           | inl j ↦ f .messages m j
@@ -121,6 +124,13 @@ module _ (l : Line) (sound : Sound l) (b : ℕ) {who : ℕ} (p : Passed l who (s
   taken-same c = elim (ℕ-discrete c b) [
     | yes q ↦ ap (λ (x : ℕ). laneAt after x .taken) q ∙ ap (λ (x : Lane). x .taken) now ∙ ap (λ (x : ℕ). laneAt l x .taken) (sym q)
     | no d ↦ ap (λ (x : Lane). x .taken) (beside c d)
+  ]
+
+  low-same : (c : ℕ) → laneAt after c .low ≡ laneAt l c .low
+  unfolding sentOn
+  low-same c = elim (ℕ-discrete c b) [
+    | yes q ↦ ap (λ (x : ℕ). laneAt after x .low) q ∙ ap (λ (x : Lane). x .low) now ∙ ap (λ (x : ℕ). laneAt l x .low) (sym q)
+    | no d ↦ ap (λ (x : Lane). x .low) (beside c d)
   ]
 
   covers-same : (c : ℕ) (o before : Origin) → Covers (l .plan) c (laneAt l c) o before → Covers (l .plan) c (laneAt after c) o before
@@ -165,7 +175,7 @@ module _ (l : Line) (sound : Sound l) (b : ℕ) {who : ℕ} (p : Passed l who (s
             | no d ↦ channel-stays l (l .steps) (l .nodes) (after .lanes) same c refl refl refl refl (beside c d) (s .channels c h)
           ];
         };
-        replays = λ m h q. replays-stay l (l .steps) (l .nodes) (after .lanes) same m (λ c j. taken-same c) (λ c j. refl) refl refl (sound .replays m h q);
+        replays = λ m h q. replays-stay l (l .steps) (l .nodes) (after .lanes) same m (λ c j. taken-same c) (λ c j. refl) (λ c j. low-same c) refl refl (sound .replays m h q);
       }
 
   pub send-sound : (k : Line) → effect l (send b) ≡ some k → Sound (counted who k)

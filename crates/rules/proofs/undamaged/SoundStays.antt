@@ -17,7 +17,7 @@ use Rattle.rules.proofs.lists.Members.{In}
 use Rattle.rules.proofs.line.Consoles.{more-fit, counts-rise}
 use Rattle.rules.proofs.invariant.Stays.{moved}
 use Rattle.rules.proofs.invariant.Inv.{Enters, Leaves}
-use Rattle.rules.proofs.ending.Targets.{low-same, triples-same, targets-same, restored-same}
+use Rattle.rules.proofs.ending.Targets.{low-same, triples-same, targets-same, restored-same, lows-same}
 use Rattle.rules.proofs.undamaged.Standing.{heldTime, OriginFits, BeforeFits, EntryFits, MessageFits, TargetFits, NodeFits, Covers, heldFrom, NodeSound, LaneFits, Flows, ChannelSound, restoredComplete, Replays, Sound}
 use Rattle.rules.proofs.undamaged.Restored.{all-same}
 
@@ -61,6 +61,8 @@ module _ (p : Plan) {steps more : ℕ} (h : steps ≤ more) where
   lane-later b s f =
       record {
         heard-long = f .heard-long;
+        low-long = f .low-long;
+        low-below = f .low-below;
         few = f .few;
         messages = λ m i. message-later (channelAt p b .sender) m (f .messages m i);
         mark = omega (arith, f .mark);
@@ -106,7 +108,8 @@ module _ (l : Line) (steps : List ℕ) (nodes : List Node) (lanes : List Lane) (
 
   -- What Recover would find of node n is as it was, where its children have the same of it.
   module _ (n : ℕ) (entries : (c : ℕ) → Leaves (l .plan) n c → laneAt k c .taken ≡ laneAt l c .taken)
-      (logs : (c : ℕ) → Leaves (l .plan) n c → triples n (nodeAt k (channelAt (l .plan) c .receiver) .log) ≡ triples n (nodeAt l (channelAt (l .plan) c .receiver) .log)) where
+      (logs : (c : ℕ) → Leaves (l .plan) n c → triples n (nodeAt k (channelAt (l .plan) c .receiver) .log) ≡ triples n (nodeAt l (channelAt (l .plan) c .receiver) .log))
+      (lows : (c : ℕ) → Leaves (l .plan) n c → laneAt k c .low ≡ laneAt l c .low) where
     pub low-kept : lowOf k n ≡ lowOf l n
     low-kept = low-same l k n refl (λ c on leaves. entries c (on, leaves))
 
@@ -120,7 +123,7 @@ module _ (l : Line) (steps : List ℕ) (nodes : List Node) (lanes : List Lane) (
     rows-kept =
         let p = l .plan in
         all-same (λ (c : ℕ). leb (rowGoal (targetsOf k n) (channelAt p c .sender)) (restored k n (channelAt p c .sender))) (λ (c : ℕ). leb (rowGoal (targetsOf l n) (channelAt p c .sender)) (restored l n (channelAt p c .sender))) (entering p n)
-        (λ c i. rw (targets-kept, restored-same l k n low-kept triples-kept (channelAt p c .sender)))
+        (λ c i. rw (targets-kept, restored-same l k n low-kept triples-kept (channelAt p c .sender) (lows-same l k n refl (λ d on leaves. lows d (on, leaves)) (channelAt p c .sender))))
 
     -- A replay whose node is as it was, too.
     pub replays-stay : nodeAt k n .time ≡ nodeAt l n .time → nodeAt k n .targets ≡ nodeAt l n .targets → Replays l n → Replays k n
@@ -149,5 +152,5 @@ counted-sound l {c} inside left f =
         nodes = λ n i. node-stays l steps (l .nodes) (l .lanes) later n refl (λ b j o before c. c) (s .nodes n i);
         channels = λ b i. channel-stays l steps (l .nodes) (l .lanes) later b refl refl refl refl refl (s .channels b i);
       };
-      replays = λ n i e. replays-stay l steps (l .nodes) (l .lanes) later n (λ c j. refl) (λ c j. refl) refl refl (f .replays n i e);
+      replays = λ n i e. replays-stay l steps (l .nodes) (l .lanes) later n (λ c j. refl) (λ c j. refl) (λ c j. refl) refl refl (f .replays n i e);
     }

@@ -1,5 +1,5 @@
 -- What an undamaged line is: of every node, of every channel and of every replay, the facts whose failure is a condition of Damaged.
-use Prim.Native.Nat.{ℕ, _<_, _≤_}
+use Prim.Native.Nat.{ℕ, suc, _<_, _≤_}
 use mathlib.Core.Path.{_≡_}
 use mathlib.Core.Bool.{Bool, true, false}
 use mathlib.Core.List.{List, [], _∷_}
@@ -12,7 +12,7 @@ use Rattle.rules.specs.Line.{logLimit, queueLimit, heldLimit, targetLimi
 use Rattle.rules.specs.Recover.{lowOf, targetsOf, restored, conflict, rowGoal}
 use Rattle.rules.specs.Replay.{passedOn}
 use Rattle.rules.specs.Step.{endDown}
-use Rattle.rules.specs.Damaged.{workedOn, recordPastLimits, isParent, isFed, pastHeard}
+use Rattle.rules.specs.Damaged.{lowWrong, workedOn, recordPastLimits, isParent, isFed, pastHeard}
 use Rattle.rules.proofs.lists.Rising.{Rises, Within}
 use Rattle.rules.proofs.lists.Members.{In}
 use Rattle.rules.proofs.line.Consoles.{CountsFit}
@@ -88,6 +88,8 @@ pub record NodeSound (l : Line) (n : ℕ) : Type 0 where
 -- A channel b by itself.
 pub record LaneFits (p : Plan) (steps b : ℕ) (s : Lane) : Type 0 where
   pub heard-long : length (s .heard) ≡ length (parents p (channelAt p b .sender))
+  pub low-long : length (s .low) ≡ suc (length (parents p (channelAt p b .sender)))
+  pub low-below : lowWrong s ≡ false
   pub few : length (s .queue) ≤ queueLimit
   pub messages : (m : Message) → In m (s .queue) → MessageFits p steps (channelAt p b .sender) m
   pub mark : s .mark ≤ steps

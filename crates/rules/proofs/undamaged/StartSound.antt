@@ -5,7 +5,7 @@ use mathlib.Core.Logic.{inl, inr}
 use mathlib.Core.Bool.{true, false, true≢false}
 use mathlib.Core.List.{List, [], _∷_, map}
 use native.Mathlib.Omega.{arith}
-use lib.ListN.{length, getD, replicate, length-replicate, length-map, getD-replicate}
+use lib.ListN.{replicate, length, getD, replicate, length-replicate, length-map, getD-replicate}
 use Rattle.plan.specs.Lawful.{Bytes}
 use Rattle.plan.specs.declared.Channel.{Channel}
 use Rattle.plan.specs.Plan.{Plan, planOf, nodeCount, channelCount, channelAt, noChannel}
@@ -18,6 +18,8 @@ use Rattle.rules.proofs.lists.Rising.{none, none-in}
 use Rattle.rules.proofs.lists.Members.{In, in-none, in-first}
 use Rattle.rules.proofs.invariant.InvLaws.{up-not-replay}
 use Rattle.rules.proofs.line.Consoles.{start-counts}
+use Rattle.rules.specs.Damaged.{lowWrong}
+use Rattle.rules.proofs.undamaged.LowLaws.{none-past}
 use Rattle.rules.proofs.undamaged.Standing.{NodeFits, NodeSound, LaneFits, Flows, ChannelSound, Sound}
 use Rattle.rules.proofs.undamaged.Undamaged.{ordered-fit, sound-undamaged}
 
@@ -27,11 +29,13 @@ replicate-in (suc n) x i = elim (in-first i) [ inl q ↦ q | inr j ↦ replicate
 
 -- A channel with nothing on it, marked and taken up to a time.
 pub fresh-fits : (p : Plan) (steps b t : ℕ) → t ≤ steps → LaneFits p steps b (freshLane p (channelAt p b) t)
-unfolding freshLane
+unfolding freshLane lowWrong
 fresh-fits p steps b t h =
     let count = length (parents p (channelAt p b .sender)) in
     record {
       heard-long = length-replicate count 0;
+      low-long = length-replicate (suc count) 0;
+      low-below = none-past (suc count) (t ∷ replicate count 0);
       few = omega arith;
       messages = λ m i. absurd (in-none i);
       mark = h;

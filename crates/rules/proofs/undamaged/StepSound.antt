@@ -11,7 +11,7 @@ use Rattle.plan.specs.Lawful.{Bytes}
 use Rattle.plan.proofs.BytesLaws.{bytes-drop}
 use Rattle.plan.specs.Plan.{channelAt}
 use Rattle.rules.specs.Line.{Status, up, down, replay, Line, nodeAt, counted}
-use Rattle.rules.specs.Frame.{Frame, feed, send, take, crash, recover, frameKind, consoleBytes, frameConsole, frameOfKind, frameOf}
+use Rattle.rules.specs.Frame.{Frame, feed, send, take, crash, recover, trim, frameKind, consoleBytes, frameConsole, frameOfKind, frameOf}
 use Rattle.rules.specs.Step.{effect, accepted, refusal, step}
 use Rattle.rules.specs.Damaged.{damaged}
 use Rattle.rules.proofs.theorem.Accepted.{Passed, passed, CanTake, can-take, step-accepted, step-refused}
@@ -23,6 +23,7 @@ use Rattle.rules.proofs.undamaged.TakeSound.{take-up-sound}
 use Rattle.rules.proofs.undamaged.HoldSound.{take-replaying-sound}
 use Rattle.rules.proofs.undamaged.CrashSound.{crash-sound}
 use Rattle.rules.proofs.undamaged.RecoverSound.{recover-sound}
+use Rattle.rules.proofs.undamaged.TrimSound.{trim-sound}
 
 -- The bytes of a Feed's record.
 abbrev FedBytes : Frame → Type 0
@@ -31,16 +32,18 @@ FedBytes (send b) = Unit {0}
 FedBytes (take b) = Unit {0}
 FedBytes (crash n) = Unit {0}
 FedBytes (recover n) = Unit {0}
+FedBytes (trim n) = Unit {0}
 
 kind-bytes : (kind n : ℕ) (rest : List ℕ) → Bytes rest → FedBytes (frameOfKind kind n rest)
-kind-bytes kind n rest bytes = one (eqb kind 1) (eqb kind 2) (eqb kind 3) (eqb kind 4)
+kind-bytes kind n rest bytes = one (eqb kind 1) (eqb kind 2) (eqb kind 3) (eqb kind 4) (eqb kind 5)
   where
-    one : (a b c d : Bool) → FedBytes (cond a (feed n rest) (cond b (send n) (cond c (take n) (cond d (crash n) (recover n)))))
-    one true b c d = bytes
-    one false true c d = tt
-    one false false true d = tt
-    one false false false true = tt
-    one false false false false = tt
+    one : (a b c d e : Bool) → FedBytes (cond a (feed n rest) (cond b (send n) (cond c (take n) (cond d (crash n) (cond e (recover n) (trim n))))))
+    one true b c d e = bytes
+    one false true c d e = tt
+    one false false true d e = tt
+    one false false false true e = tt
+    one false false false false true = tt
+    one false false false false false = tt
 
 frame-bytes : (f : List ℕ) → Bytes f → FedBytes (frameOf f)
 unfolding frameOf
@@ -64,6 +67,7 @@ module _ (l : Line) (sound : Sound l) where
   effect-sound (take b) bytes p = take-sound b p
   effect-sound (crash n) bytes p = crash-sound l sound n p
   effect-sound (recover n) bytes p = recover-sound l sound n p
+  effect-sound (trim n) bytes p = trim-sound l sound n p
 
 pub step-sound : (l : Line) (f : List ℕ) → Bytes f → Sound l → Sound (step l f .line)
 step-sound l f bytes sound =

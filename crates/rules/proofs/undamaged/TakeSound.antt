@@ -29,6 +29,8 @@ use Rattle.rules.proofs.invariant.Inv.{timeOf, Ordered, Enters, Leaves}
 use Rattle.rules.proofs.theorem.Accepted.{Passed, CanTake}
 use Rattle.rules.proofs.lists.Options.{some-same}
 use Rattle.rules.proofs.undamaged.TestLaws.{any-by}
+use Rattle.rules.specs.Damaged.{lowWrong}
+use Rattle.rules.proofs.undamaged.LowLaws.{clock-rises}
 use Rattle.rules.proofs.undamaged.Standing.{EntryFits, MessageFits, Covers, LaneFits, Flows, ChannelSound, Standing, Sound}
 use Rattle.rules.proofs.undamaged.SoundStays.{origin-later, lane-later, ends-same, channel-stays}
 use Rattle.rules.proofs.undamaged.UndamagedNode.{fits-times}
@@ -103,12 +105,14 @@ module _ (l : Line) (sound : Sound l) (b : ℕ) {who : ℕ} (p : Passed l who (t
 
   -- The channel after the Take.
   taken-fits : LaneFits (l .plan) (acceptedSteps l) b now
-  unfolding takenFrom
+  unfolding takenFrom lowWrong
   taken-fits =
       let f = old .fits in
       let ps = parents (l .plan) from in
       record {
         heard-long = raise-long ps (was .heard) (m .origin) ∙ f .heard-long;
+        low-long = f .low-long;
+        low-below = clock-rises (was .low) ps (was .heard) (was .taken) (m .time) (m .origin) (f .low-below);
         few = (let long = ap length (can .first) in omega (arith, f .few));
         messages = λ x i. f .messages x (in-queue x (there i));
         mark = f .mark;
@@ -167,6 +171,9 @@ module _ (l : Line) (sound : Sound l) (b : ℕ) {who : ℕ} (p : Passed l who (t
       | no d ↦ absurd (d (ordered .alone c b h (can .here) z q))
     ]
 
+    pub lows : (j : ℕ) → nodeAt l j .status ≡ replay → (c : ℕ) → Leaves (l .plan) j c → laneAt k c .low ≡ laneAt l c .low
+    lows j q c (h, e) = ap (λ (x : Lane). x .low) (lane-beside c (λ z. not-silent j q (ap (λ (x : ℕ). channelAt (l .plan) x .sender) (sym z) ∙ e)))
+
     pub entries : (j : ℕ) → nodeAt l j .status ≡ replay → (c : ℕ) → Leaves (l .plan) j c → laneAt k c .taken ≡ laneAt l c .taken
     entries j q c (h, e) = ap (λ (x : Lane). x .taken) (lane-beside c (λ z. not-silent j q (ap (λ (x : ℕ). channelAt (l .plan) x .sender) (sym z) ∙ e)))
 
@@ -217,7 +224,7 @@ module _ (l : Line) (sound : Sound l) (b : ℕ) {who : ℕ} (p : Passed l who (t
         let nodes = after l sound fits rise n inside is-up room what origin (m .origin) new lanes .nodes in
         log-sound l sound fits rise n inside is-up room what origin (m .origin) new lanes (length-set (l .lanes) b now) (raised steps nodes) (own steps nodes)
         (channels steps nodes (omega (arith, rise)) (status-same l sound fits rise n inside is-up room what origin (m .origin) new lanes) (mark-same l sound fits rise n inside is-up room what origin (m .origin) new lanes))
-        (entries steps nodes) (λ j q. triple-else j from (m .time) (m .origin) (not-silent j q))
+        (entries steps nodes) (λ j q. triple-else j from (m .time) (m .origin) (not-silent j q)) (lows steps nodes)
 
     taken-is : effect l (take b) ≡ some (takenUp b m (takenLane b m (can .rest) l))
     unfolding effect takenLine

@@ -224,22 +224,28 @@ module _ (l : Line) where
   abbrev wrongLength : ℕ → Bool
   wrongLength b = not (eqb (length (laneAt l b .heard)) (length (parents (l .plan) (senderOf l b))))
 
-  shaped : misshapen l ≡ false → (length (l .steps) ≡ consoleCount) × Shape l × ((b : ℕ) → b < channelCount (l .plan) → length (laneAt l b .heard) ≡ length (parents (l .plan) (senderOf l b)))
+  abbrev wrongLow : ℕ → Bool
+  wrongLow b = not (eqb (length (laneAt l b .low)) (suc (length (parents (l .plan) (senderOf l b)))))
+
+  shaped : misshapen l ≡ false → (length (l .steps) ≡ consoleCount) × Shape l
+      × ((b : ℕ) → b < channelCount (l .plan) → (length (laneAt l b .heard) ≡ length (parents (l .plan) (senderOf l b))) × (length (laneAt l b .low) ≡ suc (length (parents (l .plan) (senderOf l b)))))
   unfolding misshapen
   shaped e =
       let nodes = length (l .nodes) in
       let lanes = length (l .lanes) in
       let steps = length (l .steps) in
-      let (four, (a, (c, (d, _)))) = all-false (not (eqb steps consoleCount)) (not (eqb nodes (nodeCount (l .plan))) ∷ not (eqb lanes (channelCount (l .plan))) ∷ someChannel l wrongLength ∷ []) e in (
+      let (four, (a, (c, (d, (w, _))))) = all-false (not (eqb steps consoleCount)) (not (eqb nodes (nodeCount (l .plan))) ∷ not (eqb lanes (channelCount (l .plan))) ∷ someChannel l wrongLength ∷ someChannel l wrongLow ∷ []) e in (
         eqb-true steps consoleCount (not-false (eqb steps consoleCount) four),
         record { nodes-long = eqb-true nodes (nodeCount (l .plan)) (not-false (eqb nodes (nodeCount (l .plan))) a); lanes-long = eqb-true lanes (channelCount (l .plan)) (not-false (eqb lanes (channelCount (l .plan))) c) },
         λ b h.
             (let heard = length (laneAt l b .heard) in
+            let lows = length (laneAt l b .low) in
             let long = length (parents (l .plan) (senderOf l b)) in
-            eqb-true heard long (not-false (eqb heard long) (none-any wrongLength d (in-up-to 0 (channelCount (l .plan)) b (omega arith) (omega arith))))),
+            let i = in-up-to 0 (channelCount (l .plan)) b (omega arith) (omega arith) in
+            (eqb-true heard long (not-false (eqb heard long) (none-any wrongLength d i)), eqb-true lows (suc long) (not-false (eqb lows (suc long)) (none-any wrongLow w i)))),
       )
 
-  of-shaped : length (l .steps) ≡ consoleCount → Shape l → ((b : ℕ) → b < channelCount (l .plan) → length (laneAt l b .heard) ≡ length (parents (l .plan) (senderOf l b))) → misshapen l ≡ false
+  of-shaped : length (l .steps) ≡ consoleCount → Shape l → ((b : ℕ) → b < channelCount (l .plan) → (length (laneAt l b .heard) ≡ length (parents (l .plan) (senderOf l b))) × (length (laneAt l b .low) ≡ suc (length (parents (l .plan) (senderOf l b))))) → misshapen l ≡ false
   unfolding misshapen
   of-shaped four s f =
       rw (
@@ -248,7 +254,10 @@ module _ (l : Line) where
         eq-eqb (length (l .lanes)) (channelCount (l .plan)) (s .lanes-long),
         none-by wrongLength
             (channelNumbersOf l)
-            (λ b i. ap not (eq-eqb (length (laneAt l b .heard)) (length (parents (l .plan) (senderOf l b))) (f b (omega (arith, up-to-in 0 (channelCount (l .plan)) b i))))),
+            (λ b i. ap not (eq-eqb (length (laneAt l b .heard)) (length (parents (l .plan) (senderOf l b))) (f b (omega (arith, up-to-in 0 (channelCount (l .plan)) b i)) .0))),
+        none-by wrongLow
+            (channelNumbersOf l)
+            (λ b i. ap not (eq-eqb (length (laneAt l b .low)) (suc (length (parents (l .plan) (senderOf l b)))) (f b (omega (arith, up-to-in 0 (channelCount (l .plan)) b i)) .1))),
       )
 
   fits-plan : planBroken l ≡ false → planFits (l .plan) ≡ true
@@ -281,7 +290,7 @@ module _ (l : Line) where
           shape = shape;
           counts = record { four = four; within = steps-within steps };
           nodes = λ n h. node n h .0;
-          channels = λ b h. channel-sound l b (long b h) (none-any (channelDamaged l) channels (in-up-to 0 (channelCount (l .plan)) b (omega arith) (omega arith)));
+          channels = λ b h. channel-sound l b (long b h .0) (long b h .1) (none-any (channelDamaged l) channels (in-up-to 0 (channelCount (l .plan)) b (omega arith) (omega arith)));
         };
         replays = λ n h. node n h .1;
       }
@@ -292,7 +301,7 @@ module _ (l : Line) where
       let s = f .standing in
       rw (
         plan-fits (s .plan-fits),
-        of-shaped (s .counts .four) (s .shape) (λ b h. s .channels b h .fits .heard-long),
+        of-shaped (s .counts .four) (s .shape) (λ b h. (s .channels b h .fits .heard-long, s .channels b h .fits .low-long)),
         within-limit (s .counts .within),
         none-by (nodeDamaged l) (nodeNumbers l)
             (λ n i. (let h : n < nodeCount (l .plan) = omega (arith, up-to-in 0 (nodeCount (l .plan)) n i) in sound-node l n (ordered-fit (l .plan) (s .plan-fits)) (s .shape) h (s .nodes n h) (f .replays n h))),

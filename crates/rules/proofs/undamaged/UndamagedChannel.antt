@@ -1,5 +1,5 @@
 -- The conditions of Damaged that are of a channel, and the facts of which they are the failure.
-use Prim.Native.Nat.{ℕ, _+_, _<_, _≤_}
+use Prim.Native.Nat.{ℕ, suc, _+_, _<_, _≤_}
 use mathlib.Core.Path.{_≡_, ap, subst}
 use mathlib.Core.Logic.{inl, inr}
 use mathlib.Core.Bool.{true, false, not, _&&_, _||_}
@@ -13,7 +13,7 @@ use Rattle.plan.specs.Plan.{Plan, channelAt}
 use Rattle.rules.specs.Lists.{isEmpty, anyOf}
 use Rattle.rules.specs.Line.{queueLimit, Message, down, replay, Lane, Line, nodeAt, laneAt, parents, senderOf, receiverOf, isDown, isReplay, acceptedSteps}
 use Rattle.rules.specs.Step.{endDown, nodeDown, replaying}
-use Rattle.rules.specs.Damaged.{recordPastLimits, channelPastLimits, notParent, channelWrongParent, originTimes, channelNamedTimes, channelOtherTimes, channelTimePast, channelTimeZero, originWrong, channelMakerWrong, rises, risesTo, queueWrong, marksJoined, channelHolds, channelDamaged}
+use Rattle.rules.specs.Damaged.{recordPastLimits, channelPastLimits, notParent, channelWrongParent, originTimes, channelNamedTimes, channelOtherTimes, channelTimePast, channelTimeZero, originWrong, channelMakerWrong, rises, risesTo, queueWrong, marksJoined, channelHolds, lowWrong, channelDamaged}
 use Rattle.rules.proofs.theorem.Accepted.{is-down}
 use Rattle.rules.proofs.lists.Members.{In, here, there, in-first, in-left, in-right, append-in, in-map, map-in, in-joined, joined-in, none-any}
 use Rattle.rules.proofs.invariant.Inv.{timeOf}
@@ -52,14 +52,16 @@ module _ (p : Plan) (steps b : ℕ) (s : Lane) where
   unfolding channelMakerWrong
   message-makers e m i = none-any (λ (m : Message). originWrong p sender (m .origin)) e i
 
-  lane-fits : length (s .heard) ≡ length (parents p sender) → channelPastLimits s ≡ false → channelWrongParent p b s ≡ false → channelTimePast steps s ≡ false → channelTimeZero s ≡ false → channelMakerWrong p b s ≡ false → LaneFits p steps b s
-  lane-fits long few parent past zeros maker =
+  lane-fits : length (s .heard) ≡ length (parents p sender) → length (s .low) ≡ suc (length (parents p sender)) → lowWrong s ≡ false → channelPastLimits s ≡ false → channelWrongParent p b s ≡ false → channelTimePast steps s ≡ false → channelTimeZero s ≡ false → channelMakerWrong p b s ≡ false → LaneFits p steps b s
+  lane-fits long lows-long below few parent past zeros maker =
       let (a, limits) = few-messages few in
       let other : (t : ℕ) → In t (channelOtherTimes s) → t ≤ steps = λ t i. lane-times past t (in-right (channelNamedTimes s) i) in
       let named : (m : Message) → In m (s .queue) → (t : ℕ) → In t (messageTimes m) → (0 < t) × (t ≤ steps) =
       λ m i t j. (let k : In t (channelNamedTimes s) = in-joined j (in-map messageTimes i) in (lane-above zeros t k, lane-times past t (in-left (channelOtherTimes s) k))) in
       record {
         heard-long = long;
+        low-long = lows-long;
+        low-below = below;
         few = a;
         messages = λ m i. record {
           limits = limits m i;
@@ -164,14 +166,14 @@ module _ (l : Line) (b : ℕ) where
         by-unless (replaying l (senderOf l b)) (not (isEmpty (lane .queue))) (λ q. rw (h (is-replay (nodeAt l (senderOf l b) .status) q))),
       )
 
-  pub channel-sound : length (laneAt l b .heard) ≡ length (parents (l .plan) (senderOf l b)) → channelDamaged l b ≡ false → ChannelSound l b
+  pub channel-sound : length (laneAt l b .heard) ≡ length (parents (l .plan) (senderOf l b)) → length (laneAt l b .low) ≡ suc (length (parents (l .plan) (senderOf l b))) → channelDamaged l b ≡ false → ChannelSound l b
   unfolding channelDamaged
-  channel-sound long e =
+  channel-sound long lows-long e =
       let p = l .plan in
-      let (few, (parent, (past, (zeros, (maker, (flow, (joins, (hold, _)))))))) =
-      all-false (channelPastLimits lane) (channelWrongParent p b lane ∷ channelTimePast (acceptedSteps l) lane ∷ channelTimeZero lane ∷ channelMakerWrong p b lane ∷ queueWrong l b ∷ marksJoined l b ∷ channelHolds l b ∷ []) e in
+      let (few, (parent, (past, (zeros, (maker, (flow, (joins, (hold, (below, _))))))))) =
+      all-false (channelPastLimits lane) (channelWrongParent p b lane ∷ channelTimePast (acceptedSteps l) lane ∷ channelTimeZero lane ∷ channelMakerWrong p b lane ∷ queueWrong l b ∷ marksJoined l b ∷ channelHolds l b ∷ lowWrong lane ∷ []) e in
       let (stop, clear, quiet) = rests-of hold in
-      record { fits = lane-fits p (acceptedSteps l) b lane long few parent past zeros maker; flows = flows-of flow; apart = apart-of joins; stopped = stop; cleared = clear; silent = quiet }
+      record { fits = lane-fits p (acceptedSteps l) b lane long lows-long below few parent past zeros maker; flows = flows-of flow; apart = apart-of joins; stopped = stop; cleared = clear; silent = quiet }
 
   pub sound-channel : ChannelSound l b → channelDamaged l b ≡ false
   unfolding channelDamaged
@@ -186,4 +188,5 @@ module _ (l : Line) (b : ℕ) where
         of-flows (f .flows),
         of-apart (f .apart),
         of-rests (f .stopped, f .cleared, f .silent),
+        f .fits .low-below,
       )

@@ -1,0 +1,35 @@
+-- 2026-04: "In demand 3's lists, which later laws on runs mean too, trimming at whatever moment it is accepted changes nothing that anybody receives by a list of steps that are all accepted both with and without it, even where crashes follow."
+use Prim.Native.Nat.{ℕ}
+use mathlib.Core.Path.{_≡_}
+use mathlib.Core.Bool.{Bool, true, false}
+use mathlib.Core.List.{List, [], _∷_}
+use lib.ListN.{length, replicate}
+use Rattle.plan.specs.Plan.{planOf}
+use Rattle.plan.specs.Check.{planRefusal}
+use Rattle.rules.specs.Line.{Line, initialLine}
+use Rattle.rules.specs.Frame.{Frame, feed, send, take, crash, recover, trim, frameOf}
+use Rattle.rules.specs.Claim.{startOf, storyFrom}
+
+abbrev pub isTrim : Frame → Bool
+isTrim (feed n r) = false
+isTrim (send b) = false
+isTrim (take b) = false
+isTrim (crash n) = false
+isTrim (recover n) = false
+isTrim (trim n) = true
+
+-- A list of frames, and the same with Trims put in at any moments.
+pub data WithTrims : List (List ℕ) → List (List ℕ) → Type 0 where
+  no-more : WithTrims [] []
+  alike : (f : List ℕ) {with without : List (List ℕ)} → WithTrims with without → WithTrims (f ∷ with) (f ∷ without)
+  put-in : (f : List ℕ) {with without : List (List ℕ)} → isTrim (frameOf f) ≡ true → WithTrims with without → WithTrims (f ∷ with) without
+
+-- Steps that are all accepted, from a line on.
+abbrev pub AllAccepted : Line → List (List ℕ) → Type 0
+AllAccepted l fs = storyFrom (startOf l) fs .numbers ≡ replicate (length fs) 0
+
+-- Of every accepted plan, after any frames (refused ones and Trims among them): what is received, by whom, from whom and in which order, crashed nodes included.
+abbrev pub TrimsChangeNothing : Type 0
+TrimsChangeNothing =
+    (plan : List ℕ) (before with without : List (List ℕ)) → planRefusal plan ≡ 0 → WithTrims with without
+    → (let l = storyFrom (startOf (initialLine (planOf plan))) before .line in AllAccepted l with → AllAccepted l without → storyFrom (startOf l) with .receipts ≡ storyFrom (startOf l) without .receipts)
