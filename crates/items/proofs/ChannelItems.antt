@@ -11,7 +11,7 @@ use Rattle.basics.specs.Bools.{both-true, neither-true}
 use Rattle.rules.specs.Lists.{isEmpty, allOf, anyOf}
 use Rattle.rules.specs.Line.{queueLimit, Message, Lane, Line, laneAt, senderOf, receiverOf, acceptedSteps}
 use Rattle.rules.specs.Step.{nodeDown, endDown, replaying}
-use Rattle.rules.specs.Damaged.{recordPastLimits, channelPastLimits, notParent, channelWrongParent, originTimes, channelNamedTimes, channelOtherTimes, channelTimePast, channelTimeZero, originWrong, channelMakerWrong, risesTo, queueWrong, marksJoined, channelHolds, channelDamaged}
+use Rattle.rules.specs.Damaged.{recordPastLimits, channelPastLimits, notParent, channelWrongParent, originTimes, channelNamedTimes, channelOtherTimes, channelTimePast, channelTimeZero, originWrong, channelMakerWrong, risesTo, queueWrong, marksJoined, channelHolds, lowWrong, channelDamaged}
 use Rattle.rules.proofs.lists.Members.{In, in-none, none-any, all-in}
 use Rattle.items.specs.Items.{recordRight, namedRight, timesRise, messageRight, clockRight, queueRight, channelRight}
 use Rattle.items.proofs.Tests.{opposite, not-above, above, all-true, all-false, false-all, each-all, each-none, any-opposite, any-append, any-joined}
@@ -93,15 +93,16 @@ module _ (l : Line) (b : ℕ) where
     queue-rises : queueRises ≡ true
     apart : marksJoined l b ≡ false
     holds : channelHolds l b ≡ false
+    low : lowWrong s ≡ false
 
   sound-right : Sound → channelRight l b ≡ true
   unfolding channelRight queueRight
-  sound-right c = rw (c .clock, c .count, each-all (messageRight l b) (s .queue) (λ m i. sent-right m (c .sent m i)), c .queue-rises, c .apart, c .holds)
+  sound-right c = rw (c .clock, c .count, each-all (messageRight l b) (s .queue) (λ m i. sent-right m (c .sent m i)), c .queue-rises, c .apart, c .holds, c .low)
 
   right-sound : channelRight l b ≡ true → Sound
   unfolding channelRight queueRight
   right-sound e =
-      let (clock, (queue, (apart, holds))) = all-true (clockRight (acceptedSteps l) s) (queueRight l b (s .queue) ∷ not (marksJoined l b) ∷ not (channelHolds l b) ∷ []) e in
+      let (clock, (queue, (apart, (holds, low)))) = all-true (clockRight (acceptedSteps l) s) (queueRight l b (s .queue) ∷ not (marksJoined l b) ∷ not (channelHolds l b) ∷ not (lowWrong s) ∷ []) e in
       let (count, (messages, queue-rises)) = all-true (leb (length (s .queue)) queueLimit) (allOf (messageRight l b) (s .queue) ∷ queueRises ∷ []) queue in
       record {
         clock = clock;
@@ -110,6 +111,7 @@ module _ (l : Line) (b : ℕ) where
         queue-rises = queue-rises;
         apart = not-true (marksJoined l b) apart;
         holds = not-true (channelHolds l b) holds;
+        low = not-true (lowWrong s) low;
       }
 
   -- The conditions on a message, and those that stand beside its record's.
@@ -129,12 +131,12 @@ module _ (l : Line) (b : ℕ) where
   pastLimits m = recordPastLimits (m .what)
 
   abbrev others : List Bool
-  others = channelWrongParent (l .plan) b s ∷ channelTimePast (acceptedSteps l) s ∷ channelTimeZero s ∷ channelMakerWrong (l .plan) b s ∷ queueWrong l b ∷ marksJoined l b ∷ channelHolds l b ∷ []
+  others = channelWrongParent (l .plan) b s ∷ channelTimePast (acceptedSteps l) s ∷ channelTimeZero s ∷ channelMakerWrong (l .plan) b s ∷ queueWrong l b ∷ marksJoined l b ∷ channelHolds l b ∷ lowWrong s ∷ []
 
   clean-sound : channelDamaged l b ≡ false → Sound
   unfolding channelDamaged channelPastLimits channelWrongParent channelMakerWrong
   clean-sound e =
-      let (limits, (parents, (past, (noughts, (makers, (queue, (apart, holds))))))) = all-false (channelPastLimits s) others e in
+      let (limits, (parents, (past, (noughts, (makers, (queue, (apart, (holds, low)))))))) = all-false (channelPastLimits s) others e in
       let (count, records) = neither-true (ltb queueLimit (length (s .queue))) (anyOf pastLimits (s .queue)) limits in
       let (lates, clock) = neither-true (anyOf late (s .queue)) (not (clockRight (acceptedSteps l) s)) (sym (past-is (acceptedSteps l) s) ∙ past) in
       record {
@@ -152,6 +154,7 @@ module _ (l : Line) (b : ℕ) where
         queue-rises = not-false queueRises (sym queue-is ∙ queue);
         apart = apart;
         holds = holds;
+        low = low;
       }
 
   mark-within : Sound → s .mark ≤ acceptedSteps l
@@ -184,7 +187,7 @@ module _ (l : Line) (b : ℕ) where
       let noughts = zero-is s ∙ each-none nought (s .queue) (λ m i. rw (ne-eqb 0 (m .time) (λ q. omega (arith, when m i)), c .sent m i .named .nought)) in
       let makers = each-none wrongMaker (s .queue) (λ m i. c .sent m i .named .maker) in
       let queue = queue-is ∙ ap not (c .queue-rises) in
-      false-all (channelPastLimits s) others (limits, (parents, (past, (noughts, (makers, (queue, (c .apart, c .holds)))))))
+      false-all (channelPastLimits s) others (limits, (parents, (past, (noughts, (makers, (queue, (c .apart, (c .holds, c .low))))))))
 
   pub channel-items : channelDamaged l b ≡ not (channelRight l b)
   channel-items = opposite (channelDamaged l b) (channelRight l b) (λ e. sound-right (clean-sound e)) (λ e. sound-clean (right-sound e))

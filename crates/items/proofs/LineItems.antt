@@ -26,8 +26,9 @@ up-to-in k (suc n) i = elim (in-first i) [ inl q ↦ omega arith | inr j ↦ ome
 pub shape-items : (l : Line) → misshapen l ≡ not (shapeRight l)
 unfolding misshapen shapeRight
 shape-items l =
-    ap (λ (t : Bool). not steps || not nodes || not lanes || t) (any-opposite (λ (b : ℕ). not (heard b)) heard (channelNumbersOf l) (λ b i. refl))
-    ∙ one steps nodes lanes (allOf heard (channelNumbersOf l))
+    ap (λ (t : Bool). not steps || not nodes || not lanes || t || anyOf (λ (b : ℕ). not (low b)) (channelNumbersOf l)) (any-opposite (λ (b : ℕ). not (heard b)) heard (channelNumbersOf l) (λ b i. refl))
+    ∙ ap (λ (t : Bool). not steps || not nodes || not lanes || not (allOf heard (channelNumbersOf l)) || t) (any-opposite (λ (b : ℕ). not (low b)) low (channelNumbersOf l) (λ b i. refl))
+    ∙ one steps nodes lanes (allOf heard (channelNumbersOf l)) (allOf low (channelNumbersOf l))
   where
     steps : Bool
     steps = eqb (length (l .steps)) consoleCount
@@ -41,11 +42,15 @@ shape-items l =
     heard : ℕ → Bool
     heard b = eqb (length (laneAt l b .heard)) (length (parents (l .plan) (senderOf l b)))
 
-    one : (s a b c : Bool) → (not s || not a || not b || not c) ≡ not (s && a && b && c)
-    one true true true c = refl
-    one true true false c = refl
-    one true false b c = refl
-    one false a b c = refl
+    low : ℕ → Bool
+    low b = eqb (length (laneAt l b .low)) (suc (length (parents (l .plan) (senderOf l b))))
+
+    one : (s a b c d : Bool) → (not s || not a || not b || not c || not d) ≡ not (s && a && b && c && d)
+    one true true true true d = refl
+    one true true true false d = refl
+    one true true false c d = refl
+    one true false b c d = refl
+    one false a b c d = refl
 
 steps-items : (counts : List ℕ) → anyOf (ltb stepLimit) counts ≡ not (stepsRight counts)
 steps-items counts = any-opposite (ltb stepLimit) (λ (k : ℕ). leb k stepLimit) counts (λ k i. above k stepLimit)

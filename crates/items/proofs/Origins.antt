@@ -1,5 +1,5 @@
 -- What something was made from: the conditions of Damaged on it, taken together, are the item's test.
-use Prim.Native.Nat.{ℕ, _<_, _≤_}
+use Prim.Native.Nat.{ℕ, suc, _<_, _≤_}
 use mathlib.Core.Path.{_≡_, refl, sym, ap, _∙_}
 use mathlib.Core.Bool.{Bool, true, false, not, _&&_, _||_, true≢false, and-true, and-false}
 use mathlib.Core.List.{List, [], _∷_, _++_, map}
@@ -15,7 +15,7 @@ use Rattle.plan.proofs.FitsLaws.{fitting}
 use Rattle.rules.proofs.lists.Members.{none-any, all-in, in-up-to}
 use Rattle.rules.specs.Lists.{allOf, anyOf}
 use Rattle.rules.specs.Line.{Origin, fed, made, Line, laneAt, channelNumbersOf, senderOf, parents, acceptedSteps, consoleCount}
-use Rattle.rules.specs.Damaged.{isParent, notParent, beforeNotParent, originTimes, originWrong, isFed, beforeWrong, pastHeard, pastLane, marksJoined, channelHolds, misshapen}
+use Rattle.rules.specs.Damaged.{isParent, notParent, beforeNotParent, originTimes, originWrong, isFed, beforeWrong, pastHeard, pastLane, marksJoined, channelHolds, lowWrong, misshapen}
 use Rattle.rules.proofs.invariant.Inv.{Ordered}
 use Rattle.rules.proofs.steps.PlanOrder.{ordered-channels}
 use Rattle.rules.proofs.line.Joins.{entering-in}
@@ -39,7 +39,7 @@ unfolding channelRight clockRight
 clock-within l b e =
     let s = laneAt l b in
     let within : ℕ → Bool = λ t. leb t (acceptedSteps l) in
-    let (clock, _) = all-true (clockRight (acceptedSteps l) s) (queueRight l b (s .queue) ∷ not (marksJoined l b) ∷ not (channelHolds l b) ∷ []) e in
+    let (clock, _) = all-true (clockRight (acceptedSteps l) s) (queueRight l b (s .queue) ∷ not (marksJoined l b) ∷ not (channelHolds l b) ∷ not (lowWrong s) ∷ []) e in
     let (_, (taken, heard)) = all-true (within (s .mark)) (within (s .taken) ∷ allOf within (s .heard) ∷ []) clock in
     (leb-true (s .taken) (acceptedSteps l) taken, λ i. leb-true (getD (s .heard) i 0) (acceptedSteps l) (all-at within (s .heard) i 0 (le-leb 0 (acceptedSteps l) (omega arith)) heard))
 
@@ -50,7 +50,7 @@ formed l fits shape right =
     let f = fitting p fits in
     let short : ℕ → Bool = λ b. not (eqb (length (laneAt l b .heard)) (length (parents p (senderOf l b)))) in
     let clock : (b : ℕ) → b < channelCount p → (laneAt l b .taken ≤ acceptedSteps l) × ((i : ℕ) → getD (laneAt l b .heard) i 0 ≤ acceptedSteps l) = λ b h. clock-within l b (all-in (channelRight l) right (in-up-to 0 (channelCount p) b (omega arith) (omega arith))) in
-    let (_, (nodes, (lanes, heard))) = all-false (not (eqb (length (l .steps)) consoleCount)) (not (eqb (length (l .nodes)) (nodeCount p)) ∷ not (eqb (length (l .lanes)) (channelCount p)) ∷ anyOf short (channelNumbersOf l) ∷ []) shape in
+    let (_, (nodes, (lanes, (heard, _)))) = all-false (not (eqb (length (l .steps)) consoleCount)) (not (eqb (length (l .nodes)) (nodeCount p)) ∷ not (eqb (length (l .lanes)) (channelCount p)) ∷ anyOf short (channelNumbersOf l) ∷ anyOf (λ (b : ℕ). not (eqb (length (laneAt l b .low)) (suc (length (parents p (senderOf l b)))))) (channelNumbersOf l) ∷ []) shape in
     record {
       ordered = ordered-channels p (f .channels);
       few = f .nodesMost;

@@ -54,7 +54,7 @@ module _ (l : Line) (line : Formed l) (n : ℕ) (inside : n < nodeCount (l .plan
   restoredNode = record { status = statusOf (targetsOf l n); crashed = true; time = lowOf l n; log = []; held = []; targets = targetsOf l n }
 
   abbrev left : ℕ → Lane → Lane
-  left c s = record { mark = s .taken; taken = s .taken; heard = s .heard; queue = s .queue }
+  left c s = record { mark = s .taken; taken = s .taken; heard = s .heard; queue = s .queue; low = s .low }
 
   abbrev entered : ℕ → Lane → Lane
   entered c s = freshLane (l .plan) (channelAt (l .plan) c) (restored l n (channelAt (l .plan) c .sender))

@@ -14,7 +14,7 @@ use Rattle.rules.specs.Line.{logLimit, queueLimit, heldLimit, targetLimit, step
 use Rattle.rules.specs.Recover.{lowOf, restored, targetsOf, conflict, rowGoal}
 use Rattle.rules.specs.Replay.{passedOn}
 use Rattle.rules.specs.Step.{endDown, replaying}
-use Rattle.rules.specs.Damaged.{isFed, markMissing, markOnEnd, nodeHolds, marksJoined, channelHolds, sameTargets}
+use Rattle.rules.specs.Damaged.{isFed, markMissing, markOnEnd, nodeHolds, marksJoined, channelHolds, lowWrong, sameTargets}
 
 -- The first of some channels that node s sends on, and its place among them, counted from k.
 abbrev pub fromSender : Plan → ℕ → List ℕ → Option ℕ
@@ -134,10 +134,10 @@ unfolding messageRight
 queueRight l b ms = leb (length ms) queueLimit && allOf (messageRight l b) ms && (endDown l b || (leb (laneAt l b .taken) (laneAt l b .mark) && timesRise (λ (m : Message). m .time) (laneAt l b .taken) (laneAt l b .mark) ms))
 
 unfoldable pub channelRight : Line → ℕ → Bool
-unfolding clockRight queueRight marksJoined channelHolds
+unfolding clockRight queueRight marksJoined channelHolds lowWrong
 channelRight l b =
     let s = laneAt l b in
-    clockRight (acceptedSteps l) s && queueRight l b (s .queue) && not (marksJoined l b) && not (channelHolds l b)
+    clockRight (acceptedSteps l) s && queueRight l b (s .queue) && not (marksJoined l b) && not (channelHolds l b) && not (lowWrong s)
 
 -- The line.
 unfoldable pub shapeRight : Line → Bool
@@ -145,6 +145,7 @@ unfolding parents
 shapeRight l =
     eqb (length (l .steps)) consoleCount && eqb (length (l .nodes)) (nodeCount (l .plan)) && eqb (length (l .lanes)) (channelCount (l .plan))
     && allOf (λ (b : ℕ). eqb (length (laneAt l b .heard)) (length (parents (l .plan) (senderOf l b)))) (channelNumbersOf l)
+    && allOf (λ (b : ℕ). eqb (length (laneAt l b .low)) (suc (length (parents (l .plan) (senderOf l b))))) (channelNumbersOf l)
 
 -- The steps of each console.
 abbrev pub stepsRight : List ℕ → Bool

@@ -48,16 +48,16 @@ abbrev pub lowAfter : List ℕ → ℕ → List Entry → List ℕ → List ℕ
 lowAfter ps s [] low = low
 lowAfter ps s (e ∷ es) low = lowAfter ps s es (lowBy ps s (e .origin) (e .before) low)
 
-unfoldable pub lowered : List ℕ → ℕ → List Entry → Lane → Lane
-lowered ps s es x = record { mark = x .mark; taken = x .taken; heard = x .heard; queue = x .queue; low = lowAfter ps s es (x .low) }
+unfoldable pub lowRaised : List ℕ → ℕ → List Entry → Lane → Lane
+lowRaised ps s es x = record { mark = x .mark; taken = x .taken; heard = x .heard; queue = x .queue; low = lowAfter ps s es (x .low) }
 
 unfoldable pub withLog : List Entry → Node → Node
 withLog log x = record { status = x .status; crashed = x .crashed; time = x .time; log = log; held = x .held; targets = x .targets }
 
 -- Trim: the run is dropped from the node's log, and its low clock raised by it. "The freed entries are used by later steps."
 unfoldable pub trimmedLine : ℕ → Line → Line
-unfolding droppable lowered withLog withNode withLane entering parents
+unfolding droppable lowRaised withLog withNode withLane entering parents
 trimmedLine n l =
     let run = leading (droppable l n) (nodeAt l n .log) in
-    withLanes (λ (b : ℕ). lowered (parents (l .plan) (senderOf l b)) (senderOf l b) run) (entering (l .plan) n)
+    withLanes (λ (b : ℕ). lowRaised (parents (l .plan) (senderOf l b)) (senderOf l b) run) (entering (l .plan) n)
     (withNode n (withLog (behind (droppable l n) (nodeAt l n .log)) (nodeAt l n)) l)

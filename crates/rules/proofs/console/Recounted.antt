@@ -13,7 +13,7 @@ use Rattle.rules.specs.Line.{Origin, fed, made, Message, Entry, Held, La
 use Rattle.rules.specs.Frame.{Frame, feed, send, take, crash, recover, trim}
 use Rattle.rules.specs.Recover.{targetsOf, conflict, rowsComplete, highOf, recovered}
 use Rattle.rules.specs.Replay.{passedOn, isHeld, heldByRow, itemOf, itemsByRow, placing, nodePlaced, replayEnd, endedIfComplete}
-use Rattle.rules.specs.Trim.{floorTime, senderBelow, droppable, leading, behind, lowered, withLog, trimmedLine}
+use Rattle.rules.specs.Trim.{floorTime, senderBelow, droppable, leading, behind, lowRaised, withLog, trimmedLine}
 use Rattle.rules.specs.Step.{someStopped, isNothing, noSuch, wrongNode, wrongStatus, besideCrashed, badRecord, sendable, nothingThere, queueFull, rowDone, firstRecord, toHold, takeLacks, noSpace, replaying, madeBy, sentLine, takenUp, takenReplaying, takenLane, takenFirst, crashedLine, recoveredLine, effect, noPlacing, lineRefusal}
 use Rattle.rules.proofs.theorem.Accepted.{firstOf}
 
@@ -106,7 +106,7 @@ module _ (newer : ℕ → ℕ) (counts : List ℕ) where
   trimmed-recounted n l = ap (λ (f : Entry → Bool). by f (reheaded newer counts l)) (drops-recounted l n) ∙ lanes-recounted (lower (droppable l n)) (entering (l .plan) n) (withNode n (withLog (behind (droppable l n) (nodeAt l n .log)) (nodeAt l n)) l)
     where
       lower : (Entry → Bool) → ℕ → Lane → Lane
-      lower f b = lowered (parents (l .plan) (senderOf l b)) (senderOf l b) (leading f (nodeAt l n .log))
+      lower f b = lowRaised (parents (l .plan) (senderOf l b)) (senderOf l b) (leading f (nodeAt l n .log))
 
       by : (Entry → Bool) → Line → Line
       by f k = withLanes (lower f) (entering (l .plan) n) (withNode n (withLog (behind f (nodeAt l n .log)) (nodeAt l n)) k)

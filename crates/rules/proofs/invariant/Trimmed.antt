@@ -8,7 +8,7 @@ use native.Mathlib.Decide.{ℕ-discrete}
 use lib.ListN.{length}
 use Rattle.plan.specs.Plan.{channelAt, nodeCount, channelCount, entering}
 use Rattle.rules.specs.Line.{Entry, Node, Lane, Line, nodeAt, laneAt, senderOf, parents, withNode, withLanes}
-use Rattle.rules.specs.Trim.{droppable, leading, behind, lowAfter, lowered, withLog, trimmedLine}
+use Rattle.rules.specs.Trim.{droppable, leading, behind, lowAfter, lowRaised, withLog, trimmedLine}
 use Rattle.rules.proofs.lists.Members.{In, in-none, in-first}
 use Rattle.rules.proofs.line.LineLaws.{node-there, node-else, nodes-long}
 use Rattle.rules.proofs.line.LanesLaws.{lanes-in, lanes-away, lanes-count}
@@ -59,7 +59,7 @@ module _ (l : Line) (n : ℕ) where
   rest = behind (droppable l n) (nodeAt l n .log)
 
   abbrev pub lower : ℕ → Lane → Lane
-  lower b = lowered (parents (l .plan) (senderOf l b)) (senderOf l b) (leading (droppable l n) (nodeAt l n .log))
+  lower b = lowRaised (parents (l .plan) (senderOf l b)) (senderOf l b) (leading (droppable l n) (nodeAt l n .log))
 
   abbrev pub nodeAfter : Node
   nodeAfter = withLog (behind (droppable l n) (nodeAt l n .log)) (nodeAt l n)

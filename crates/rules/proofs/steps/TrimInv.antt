@@ -16,7 +16,7 @@ use Rattle.rules.specs.Line.{made, Message, Entry, Target, Status, up, d
 use Rattle.rules.specs.Clock.{messageOf, entryFor}
 use Rattle.rules.specs.Recover.{lowOf, childTriples, restored}
 use Rattle.rules.specs.Replay.{passedOn}
-use Rattle.rules.specs.Trim.{floorTime, senderBelow, droppable, leading, behind, lowAfter, lowered, withLog, trimmedLine}
+use Rattle.rules.specs.Trim.{floorTime, senderBelow, droppable, leading, behind, lowAfter, lowRaised, withLog, trimmedLine}
 use Rattle.rules.specs.Plain.{Act, Receipt}
 use Rattle.rules.proofs.lists.ListLaws.{keep-append, map-append}
 use Rattle.rules.proofs.lists.Rising.{until, past, Within, past-none, past-past}
@@ -54,19 +54,19 @@ module _ (l : Line) (g : Ghost) (cut base : ℕ → ℕ) (fed : List Act) (recei
   times = node-same l n (inv .shape) inside (λ (x : Node). x .time) refl
 
   pub takens : (c : ℕ) → c < channelCount (l .plan) → laneAt (trimmed l n) c .taken ≡ laneAt l c .taken
-  unfolding lowered
+  unfolding lowRaised
   takens = lane-same l n (inv .shape) inside (λ (x : Lane). x .taken) (λ c x. refl)
 
   mark-same : (c : ℕ) → c < channelCount (l .plan) → laneAt (trimmed l n) c .mark ≡ laneAt l c .mark
-  unfolding lowered
+  unfolding lowRaised
   mark-same = lane-same l n (inv .shape) inside (λ (x : Lane). x .mark) (λ c x. refl)
 
   heards : (c : ℕ) → c < channelCount (l .plan) → laneAt (trimmed l n) c .heard ≡ laneAt l c .heard
-  unfolding lowered
+  unfolding lowRaised
   heards = lane-same l n (inv .shape) inside (λ (x : Lane). x .heard) (λ c x. refl)
 
   queues : (c : ℕ) → c < channelCount (l .plan) → laneAt (trimmed l n) c .queue ≡ laneAt l c .queue
-  unfolding lowered
+  unfolding lowRaised
   queues = lane-same l n (inv .shape) inside (λ (x : Lane). x .queue) (λ c x. refl)
 
   -- The node's log, and the low clock on a channel that enters it.
@@ -75,7 +75,7 @@ module _ (l : Line) (g : Ghost) (cut base : ℕ → ℕ) (fed : List Act) (recei
   log-now = ap (λ (x : Node). x .log) (trimmed-node l n (rw (inv .shape .nodes-long) inside))
 
   pub low-now : (b : ℕ) → Enters (l .plan) n b → laneAt (trimmed l n) b .low ≡ lowAfter (parents (l .plan) (senderOf l b)) (senderOf l b) (run l n) (laneAt l b .low)
-  unfolding lowered
+  unfolding lowRaised
   low-now b h = ap (λ (x : Lane). x .low) (trimmed-enters l n b h (rw (inv .shape .lanes-long) (h .0)))
 
   pub low-else : (b : ℕ) → channelAt (l .plan) b .receiver ≢ n → laneAt (trimmed l n) b .low ≡ laneAt l b .low

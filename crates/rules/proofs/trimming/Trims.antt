@@ -16,7 +16,7 @@ use Rattle.rules.specs.Lists.{joined, leastOf}
 use Rattle.rules.specs.Line.{Origin, fed, made, Entry, Status, up, down, Node, Lane, Line, freshNode, noLane, nodeAt, laneAt, parents, senderOf, receiverOf, withNode, withLane, withLanes}
 use Rattle.rules.specs.Clock.{entryFor}
 use Rattle.rules.specs.Recover.{restored}
-use Rattle.rules.specs.Trim.{entriesFor, floorTime, senderBelow, droppable, leading, behind, lowBy, lowAfter, lowered, withLog, trimmedLine}
+use Rattle.rules.specs.Trim.{entriesFor, floorTime, senderBelow, droppable, leading, behind, lowBy, lowAfter, lowRaised, withLog, trimmedLine}
 use Rattle.rules.specs.Plain.{Act, Receipt}
 use Rattle.rules.proofs.lists.Members.{In, map-same, in-left, in-right, append-in}
 use Rattle.rules.proofs.histories.Ghost.{Ghost}
@@ -44,7 +44,7 @@ strip-same lower same (b ∷ bs) l =
     ∙ strip-same lower same bs l
 
 pub strip-trimmed : (n : ℕ) (l : Line) → strip (trimmedLine n l) ≡ strip l
-unfolding trimmedLine lowered withLog withNode
+unfolding trimmedLine lowRaised withLog withNode
 strip-trimmed n l =
     strip-lanes (lower l n) (λ b s. refl) (entering (l .plan) n) (withNode n (nodeAfter l n) l) ∙ strip-same (lower l n) (λ b s. refl) (entering (l .plan) n) (withNode n (nodeAfter l n) l)
     ∙ strip-node n (nodeAfter l n) l ∙ ap (λ (x : Node). withNode n x (strip l)) (sym (node-strip l n)) ∙ ap (λ (ns : List Node). record { plan = l .plan; steps = []; nodes = ns; lanes = map thin (l .lanes) }) (set-same (map bare (l .nodes)) n freshNode)
@@ -151,7 +151,7 @@ module _ (u : Line) (steps : List ℕ) (nodes : List Node) (lanes : List Lane) (
 
     -- The Trim in the one line alone.
     pub trim-one : Thinner (trimmedLine n (moved u steps nodes lanes)) u
-    unfolding lowered withLog
+    unfolding lowRaised withLog
     trim-one =
         record {
           alike = strip-trimmed n k ∙ thinner .alike;

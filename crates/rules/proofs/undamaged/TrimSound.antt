@@ -11,7 +11,7 @@ use lib.ListN.{length, length-append}
 use Rattle.plan.specs.Plan.{channelAt, nodeCount, channelCount}
 use Rattle.rules.specs.Line.{Origin, fed, made, Entry, Held, Status, up, down, replay, Node, Lane, Line, nodeAt, laneAt, parents, senderOf, receiverOf, isDown, counted, acceptedSteps}
 use Rattle.rules.specs.Frame.{trim}
-use Rattle.rules.specs.Trim.{droppable, leading, behind, lowAfter, lowered, withLog, trimmedLine}
+use Rattle.rules.specs.Trim.{droppable, leading, behind, lowAfter, lowRaised, withLog, trimmedLine}
 use Rattle.rules.specs.Step.{endDown, effect}
 use Rattle.rules.specs.Replay.{entryAt}
 use Rattle.rules.specs.Damaged.{workedOn, pastHeard, lowWrong}
@@ -87,7 +87,7 @@ module _ (l : Line) (sound : Sound l) (n : ℕ) (can : CanTrim l n) where
 
   -- The clock stays.
   covers : (b : ℕ) → b < channelCount (l .plan) → (o before : Origin) → Covers (l .plan) b (laneAt l b) o before → Covers (l .plan) b (laneAt k b) o before
-  unfolding lowered
+  unfolding lowRaised
   covers b h o before c =
       elim (ℕ-discrete (channelAt (l .plan) b .receiver) n) [
         | yes q ↦ subst (λ (x : Lane). Covers (l .plan) b x o before) (sym (trimmed-enters l n b (h, q) (rw (shape .lanes-long) h))) (same (laneAt l b) o c)
@@ -117,7 +117,7 @@ module _ (l : Line) (sound : Sound l) (n : ℕ) (can : CanTrim l n) where
 
   -- A channel that enters the node.
   low-fits : (b : ℕ) → Enters (l .plan) n b → LaneFits (l .plan) (acceptedSteps l) b (lower l n b (laneAt l b))
-  unfolding lowered lowWrong
+  unfolding lowRaised lowWrong
   low-fits b h =
       let f = sound .standing .channels b (h .0) .fits in
       let ps = parents (l .plan) (senderOf l b) in
@@ -145,7 +145,7 @@ module _ (l : Line) (sound : Sound l) (n : ℕ) (can : CanTrim l n) where
   marks = node-same l n shape (can .here) (λ (x : Node). x .crashed) refl
 
   channel : (b : ℕ) → b < channelCount (l .plan) → ChannelSound k b
-  unfolding lowered
+  unfolding lowRaised
   channel b h =
       let from = channelAt (l .plan) b .sender in
       let to = channelAt (l .plan) b .receiver in
