@@ -189,9 +189,9 @@ module _ {s : List ℕ} {b : ℕ} (at : AtLane s b) where
   pub lane-over : (x : Lane) → Swapped (blockAt b) (laneLayout .write (padHeard (laneAt along b))) (laneLayout .write (padHeard x)) s (lineBytes (withLane b x along))
   lane-over x = swap-from (line-lane-swap along (at .holds .fits) b x lane-below) (at .holds .written)
 
-  module _ {t : List ℕ} (x : Lane) (f : LaneFits x) (heard : length (x .heard) ≡ length (laneAt along b .heard)) where
+  module _ {t : List ℕ} (x : Lane) (f : LaneFits x) (heard : length (x .heard) ≡ length (laneAt along b .heard)) (low : length (x .low) ≡ length (laneAt along b .low)) where
     pub lane-holds : t ≡ lineBytes (withLane b x along) → Holds t (withLane b x along)
-    lane-holds e = holds-of (withLane b x along) e (fits-lane along (at .holds .fits) b x f heard lane-below)
+    lane-holds e = holds-of (withLane b x along) e (fits-lane along (at .holds .fits) b x f heard low lane-below)
 
     pub lane-put : {o : ℕ} {old new : List ℕ} → Swapped o old new (laneLayout .write (padHeard (laneAt along b))) (laneLayout .write (padHeard x)) → length old ≡ length new
         → (place : ℕ) → place ≡ blockAt b + o → t ≡ put s place new → Holds t (withLane b x along)

@@ -5,7 +5,7 @@ use mathlib.Core.List.{List}
 use lib.ListN.{getD, take, drop}
 use lib.Dec.{leb, eqb}
 use Rattle.rules.specs.Line.{logLimit, queueLimit, heldLimit, targetLimit}
-use Rattle.state.specs.Sizes.{countSize, statusAt, crashedAt, logAt, entrySize, heldAt, heldSize, targetsAt, targetSize, nodeRestAt, nodeRest, heardAt, parentLimit, queueAt, messageSize, laneRestAt, laneRest}
+use Rattle.state.specs.Sizes.{countSize, statusAt, crashedAt, logAt, entrySize, heldAt, heldSize, targetsAt, targetSize, nodeRestAt, nodeRest, heardAt, parentLimit, queueAt, messageSize, lowAt, laneRestAt, laneRest}
 use Rattle.state.specs.Right.{wordAt}
 use Rattle.buffer.specs.Zero.{zeroBytes}
 
@@ -53,4 +53,6 @@ pageExact a s =
 -- A channel's block at a, on which so many are heard.
 unfoldable pub blockExact : ℕ → ℕ → List ℕ → Bool
 unfolding messageExact listExact
-blockExact count a s = zeroAt (a + heardAt + 4 * count) (4 * (parentLimit - count)) s && listExact messageExact queueLimit messageSize (a + queueAt) s && zeroAt (a + laneRestAt) laneRest s
+blockExact count a s =
+    zeroAt (a + heardAt + 4 * count) (4 * (parentLimit - count)) s && listExact messageExact queueLimit messageSize (a + queueAt) s && zeroAt (a + lowAt + 4 + 4 * count) (4 * (parentLimit - count)) s
+    && zeroAt (a + laneRestAt) laneRest s

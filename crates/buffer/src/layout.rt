@@ -26,12 +26,16 @@ pub const BLOCKS: usize = 53_248;
 
 pub const BLOCK: usize = 320;
 
-// In it, behind the mark: what is taken, what is heard, the queue.
+// In it, behind the mark: what is taken, what is heard, the queue, the low clock's part, and what is unused.
 pub const TAKEN: usize = 4;
 
 pub const HEARD: usize = 8;
 
 pub const QUEUE: usize = 24;
+
+pub const LOW: usize = 188;
+
+pub const BLOCK_REST: usize = 208;
 
 // Where the slots of each list start, behind its count.
 pub const LOG_SLOTS: usize = LOG + COUNT;

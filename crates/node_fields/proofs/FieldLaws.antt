@@ -15,7 +15,8 @@ use Rattle.state.specs.Pieces.{entryLayout, heldLayout, targetLayout}
 use Rattle.state.specs.Node.{statusNumber, statusOf, crashNumber, logLayout, heldListLayout, targetsLayout}
 use Rattle.state.specs.State.{lineBytes, lineOf}
 use Rattle.state.specs.Fits.{TimeFits, EntryFits, HeldFits, TargetFits, NodeFits}
-use Rattle.state.specs.Changes.{withStatus, withCrashed, withTime, withLog, withHeld, withTargets, moreLogged, moreHeld, moreTargets}
+use Rattle.rules.specs.Trim.{withLog}
+use Rattle.state.specs.Changes.{withStatus, withCrashed, withTime, withHeld, withTargets, moreLogged, moreHeld, moreTargets}
 use Rattle.state.proofs.PieceLaws.{entry-sound, held-sound, target-sound}
 use Rattle.state.proofs.ListLaws.{each-append}
 use Rattle.state.proofs.Swapped.{Swapped, swap-in, counts-long, more-put, cleared-put}

@@ -10,7 +10,8 @@ use Rattle.rules.specs.Line.{logLimit, Message, Entry, Held, up, Node, Line, no
 use Rattle.rules.specs.Recover.{highOf}
 use Rattle.rules.specs.Replay.{entryAt}
 use Rattle.rules.specs.Step.{takenLane}
-use Rattle.state.specs.Changes.{withStatus, withTime, withLog, withHeld, withTargets, moreLogged, moreHeld}
+use Rattle.rules.specs.Trim.{withLog}
+use Rattle.state.specs.Changes.{withStatus, withTime, withHeld, withTargets, moreLogged, moreHeld}
 use Rattle.state.specs.State.{lineOf}
 use Rattle.buffer.specs.Nothing.{noHeld}
 use Rattle.buffer.specs.Holds.{Holds, AtNode, NodeNow}

@@ -11,7 +11,7 @@ ghost use Rattle.rules.specs.Frame as frames;
 ghost use Rattle.rules.specs.Recover.{rowGoal};
 ghost use Rattle.rules.specs.Replay.{passedOn, entryAt};
 ghost use Rattle.rules.specs.Step.{replaying, endDown};
-ghost use Rattle.state.specs.Changes.{withLog};
+ghost use Rattle.rules.specs.Trim.{withLog};
 ghost use Rattle.state.specs.State.{lineOf};
 ghost use Rattle.buffer.specs.Nothing.{noHeld};
 ghost use Rattle.buffer.specs.Holds.{Holds, AtNode, NodeNow, Undamaged, Did};

@@ -48,15 +48,18 @@ abbrev pub lowAfter : List ℕ → ℕ → List Entry → List ℕ → List ℕ
 lowAfter ps s [] low = low
 lowAfter ps s (e ∷ es) low = lowAfter ps s es (lowBy ps s (e .origin) (e .before) low)
 
-unfoldable pub lowRaised : List ℕ → ℕ → List Entry → Lane → Lane
-lowRaised ps s es x = record { mark = x .mark; taken = x .taken; heard = x .heard; queue = x .queue; low = lowAfter ps s es (x .low) }
+abbrev pub withLow : List ℕ → Lane → Lane
+withLow low x = record { mark = x .mark; taken = x .taken; heard = x .heard; queue = x .queue; low = low }
 
-unfoldable pub withLog : List Entry → Node → Node
+unfoldable pub lowRaised : List ℕ → ℕ → List Entry → Lane → Lane
+lowRaised ps s es x = withLow (lowAfter ps s es (x .low)) x
+
+abbrev pub withLog : List Entry → Node → Node
 withLog log x = record { status = x .status; crashed = x .crashed; time = x .time; log = log; held = x .held; targets = x .targets }
 
 -- Trim: the run is dropped from the node's log, and its low clock raised by it. "The freed entries are used by later steps."
 unfoldable pub trimmedLine : ℕ → Line → Line
-unfolding droppable lowRaised withLog withNode withLane entering parents
+unfolding droppable lowRaised withNode withLane entering parents
 trimmedLine n l =
     let run = leading (droppable l n) (nodeAt l n .log) in
     withLanes (λ (b : ℕ). lowRaised (parents (l .plan) (senderOf l b)) (senderOf l b) run) (entering (l .plan) n)

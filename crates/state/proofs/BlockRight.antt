@@ -14,7 +14,8 @@ use Rattle.rules.specs.Line.{logLimit, queueLimit, heldLimit, targetLimit, Lane
 use Rattle.state.specs.Sizes.{countSize, pageSize, blockSize, nodeRest, laneRest, nodeRestAt, laneRestAt, statusAt, crashedAt, entrySize, heldAt, heldSize, targetsAt, targetSize, queueAt, messageSize, parentLimit, lowLimit, heardAt, lowAt}
 use Rattle.state.specs.Pieces.{messageLayout, entryLayout, heldLayout, targetLayout}
 use Rattle.state.specs.Node.{statusNumber, statusOf, crashNumber, crashOf, nodeWidths, NodeParts, nodeSeen, nodeFrom, logLayout, heldListLayout, targetsLayout, nodeParts, nodeLayout}
-use Rattle.state.specs.Lane.{laneWidths, lowWidths, lowFields, queueLayout, laneLayout, withHeard, withLow, padHeard, cutHeard}
+use Rattle.rules.specs.Trim.{withLow}
+use Rattle.state.specs.Lane.{laneWidths, lowWidths, lowFields, queueLayout, laneLayout, withHeard, padHeard, cutHeard}
 use Rattle.state.specs.Right.{ZerosAt, wordAt, ListRight, MessageRight, EntryRight, HeldRight, TargetRight, NodeRight, LaneRight}
 use Rattle.state.proofs.SoundLaws.{fields-sound}
 use Rattle.state.proofs.PieceLaws.{message-sound, entry-sound, held-sound, target-sound}

@@ -16,7 +16,8 @@ use Rattle.plan.proofs.AcceptedLaws.{four-at}
 use Rattle.rules.specs.Line.{Lane, noLane}
 use Rattle.rules.proofs.steps.PlanOrder.{ordered-channels}
 use Rattle.state.specs.Sizes.{parentLimit, lowLimit}
-use Rattle.state.specs.Lane.{withHeard, withLow, padHeard, cutHeard, heardCount, cutLanes}
+use Rattle.rules.specs.Trim.{withLow}
+use Rattle.state.specs.Lane.{withHeard, padHeard, cutHeard, heardCount, cutLanes}
 use Rattle.state.specs.Fits.{TimeFits, LaneFits, PaddedFits}
 use Rattle.state.proofs.ListLaws.{each-append, each-replicate}
 

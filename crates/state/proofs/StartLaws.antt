@@ -14,7 +14,8 @@ use Rattle.plan.proofs.PlanLaws.{plan-written, node-count, channel-count}
 use Rattle.rules.specs.Line.{Lane, freshNode, freshLane, initialLine, parents, onlyCount}
 use Rattle.state.specs.Sizes.{stateSize, pageSize, blockSize, stepsWidths, stepsSize, planArea, stepsRest, nodePages, laneBlocks, tailSize, parentLimit, lowLimit}
 use Rattle.state.specs.Node.{nodeLayout}
-use Rattle.state.specs.Lane.{laneLayout, withHeard, withLow, padHeard}
+use Rattle.rules.specs.Trim.{withLow}
+use Rattle.state.specs.Lane.{laneLayout, withHeard, padHeard}
 use Rattle.state.specs.State.{stepsPart, nodesPart, lanesPart, lineBytes}
 use Rattle.state.proofs.ListLaws.{zeros-many, zeros-append, all-zero, take-replicate}
 use Rattle.state.proofs.LineLaws.{line-long}

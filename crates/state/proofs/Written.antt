@@ -14,10 +14,11 @@ use Rattle.plan.proofs.FitsLaws.{fitting}
 use Rattle.rules.specs.Line.{Entry, Held, Target, Message, Status, Node, Lane, Line, nodeAt, laneAt, freshNode, noLane, withNode, withLane, consoleCount, stepsFrom, withSteps}
 use Rattle.state.specs.Sizes.{stepsAt, stepsRest, pageSize, pageAt, nodePages, blockSize, lowAt, lowLimit, blockAt, laneBlocks, tailSize, statusAt, crashedAt, timeAt, logAt, heldAt, targetsAt, nodeRest, markAt, takenAt, heardAt, parentLimit, queueAt, laneRest, stepsWidths, stepsOfAt, countSize}
 use Rattle.state.specs.Node.{statusNumber, crashNumber, nodeWidths, nodeHeadNumbers, logLayout, heldListLayout, targetsLayout, nodeLayout}
-use Rattle.state.specs.Lane.{heardWidths, laneWidths, lowWidths, lowFields, withLow, withHeard, padHeard, queueLayout, laneLayout, heardCount}
+use Rattle.rules.specs.Trim.{withLow, withLog}
+use Rattle.state.specs.Lane.{heardWidths, laneWidths, lowWidths, lowFields, withHeard, padHeard, queueLayout, laneLayout, heardCount}
 use Rattle.state.specs.State.{planPart, stepsPart, nodesPart, lanesPart, lineBytes}
 use Rattle.state.specs.Fits.{TimeFits, NodeFits, LaneFits, LineFits}
-use Rattle.state.specs.Changes.{withStatus, withCrashed, withTime, withLog, withHeld, withTargets, withMark, withTaken, withQueue, nothingHeard, nothingLow}
+use Rattle.state.specs.Changes.{withStatus, withCrashed, withTime, withHeld, withTargets, withMark, withTaken, withQueue, nothingHeard, nothingLow}
 use Rattle.state.proofs.SoundLaws.{fields-sound}
 use Rattle.state.proofs.BlockLaws.{queue-sound, log-sound, held-list-sound, node-sound, lane-sound, four-words-known}
 use Rattle.state.proofs.LineLaws.{plan-part-sound, steps-part-sound, nodes-part-sound}

@@ -4,7 +4,8 @@ use mathlib.Core.Bool.{Bool}
 use mathlib.Core.List.{List, [], _∷_, _++_}
 use lib.ListN.{length, drop, replicate}
 use Rattle.rules.specs.Line.{Message, Entry, Held, Target, Status, Node, Lane}
-use Rattle.state.specs.Lane.{withHeard, withLow}
+use Rattle.rules.specs.Trim.{withLow, withLog}
+use Rattle.state.specs.Lane.{withHeard}
 
 -- ---- a node
 
@@ -16,9 +17,6 @@ withCrashed v x = record { status = x .status; crashed = v; time = x .time; log 
 
 abbrev pub withTime : ℕ → Node → Node
 withTime v x = record { status = x .status; crashed = x .crashed; time = v; log = x .log; held = x .held; targets = x .targets }
-
-abbrev pub withLog : List Entry → Node → Node
-withLog v x = record { status = x .status; crashed = x .crashed; time = x .time; log = v; held = x .held; targets = x .targets }
 
 abbrev pub withHeld : List Held → Node → Node
 withHeld v x = record { status = x .status; crashed = x .crashed; time = x .time; log = x .log; held = v; targets = x .targets }

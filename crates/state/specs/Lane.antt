@@ -7,6 +7,7 @@ use Rattle.plan.specs.declared.Channel.{Channel}
 use Rattle.plan.specs.Plan.{Plan}
 use Rattle.plan.specs.Layout.{Layout, fields, via, pair, upToSlots, padded}
 use Rattle.rules.specs.Line.{queueLimit, Message, Lane, parents}
+use Rattle.rules.specs.Trim.{withLow}
 use Rattle.state.specs.Sizes.{blockSize, countSize, parentLimit, heardAt, queueAt, messageSize, lowAt, lowLimit, laneRestAt, laneRest}
 use Rattle.state.specs.Pieces.{messageLayout}
 
@@ -53,9 +54,6 @@ laneLayout = padded laneRest (via laneParts laneSeen laneFrom)
 -- A line's lane has one heard for each parent of its sender, and in the low clock one more: the others are written 0, and cut when it is read.
 abbrev pub withHeard : List ℕ → Lane → Lane
 withHeard hs x = record { mark = x .mark; taken = x .taken; heard = hs; queue = x .queue; low = x .low }
-
-abbrev pub withLow : List ℕ → Lane → Lane
-withLow ks x = record { mark = x .mark; taken = x .taken; heard = x .heard; queue = x .queue; low = ks }
 
 unfoldable pub padHeard : Lane → Lane
 padHeard x = withLow (take lowLimit (x .low ++ replicate lowLimit 0)) (withHeard (take parentLimit (x .heard ++ replicate parentLimit 0)) x)

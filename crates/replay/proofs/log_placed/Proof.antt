@@ -5,7 +5,7 @@ use native.Mathlib.Omega.{arith}
 use lib.ListN.{getD}
 use Rattle.rules.specs.Line.{logLimit, Entry, nodeAt}
 use Rattle.rules.specs.Replay.{entryAt}
-use Rattle.state.specs.Changes.{withLog}
+use Rattle.rules.specs.Trim.{withLog}
 use Rattle.state.specs.State.{lineOf}
 use Rattle.buffer.specs.Nothing.{noHeld}
 use Rattle.buffer.specs.Holds.{NodeNow}

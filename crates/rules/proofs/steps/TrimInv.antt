@@ -42,15 +42,12 @@ module _ (l : Line) (g : Ghost) (cut base : ℕ → ℕ) (fed : List Act) (recei
   k = trimmed l n
 
   pub statuses : (m : ℕ) → nodeAt (trimmed l n) m .status ≡ nodeAt l m .status
-  unfolding withLog
   statuses = node-same l n (inv .shape) inside (λ (x : Node). x .status) refl
 
   pub marks : (m : ℕ) → nodeAt (trimmed l n) m .crashed ≡ nodeAt l m .crashed
-  unfolding withLog
   marks = node-same l n (inv .shape) inside (λ (x : Node). x .crashed) refl
 
   times : (m : ℕ) → nodeAt (trimmed l n) m .time ≡ nodeAt l m .time
-  unfolding withLog
   times = node-same l n (inv .shape) inside (λ (x : Node). x .time) refl
 
   pub takens : (c : ℕ) → c < channelCount (l .plan) → laneAt (trimmed l n) c .taken ≡ laneAt l c .taken
@@ -71,7 +68,6 @@ module _ (l : Line) (g : Ghost) (cut base : ℕ → ℕ) (fed : List Act) (recei
 
   -- The node's log, and the low clock on a channel that enters it.
   pub log-now : nodeAt (trimmed l n) n .log ≡ rest l n
-  unfolding withLog
   log-now = ap (λ (x : Node). x .log) (trimmed-node l n (rw (inv .shape .nodes-long) inside))
 
   pub low-now : (b : ℕ) → Enters (l .plan) n b → laneAt (trimmed l n) b .low ≡ lowAfter (parents (l .plan) (senderOf l b)) (senderOf l b) (run l n) (laneAt l b .low)

@@ -290,7 +290,7 @@ module _ (l : Line) (g : Ghost) (cut base : ℕ → ℕ) (acts : List Act) (rece
 
   -- A log only gets shorter.
   trim-steady : (n : ℕ) → {c : ℕ} → Passed l c (trim n) → (k : Line) → effect l (trim n) ≡ some k → Steady 1 k
-  unfolding effect withLog lowRaised
+  unfolding effect lowRaised
   trim-steady n p k e =
       let can = can-trim p in
       let x = trimmed l n in

@@ -44,7 +44,7 @@ strip-same lower same (b ∷ bs) l =
     ∙ strip-same lower same bs l
 
 pub strip-trimmed : (n : ℕ) (l : Line) → strip (trimmedLine n l) ≡ strip l
-unfolding trimmedLine lowRaised withLog withNode
+unfolding trimmedLine lowRaised withNode
 strip-trimmed n l =
     strip-lanes (lower l n) (λ b s. refl) (entering (l .plan) n) (withNode n (nodeAfter l n) l) ∙ strip-same (lower l n) (λ b s. refl) (entering (l .plan) n) (withNode n (nodeAfter l n) l)
     ∙ strip-node n (nodeAfter l n) l ∙ ap (λ (x : Node). withNode n x (strip l)) (sym (node-strip l n)) ∙ ap (λ (ns : List Node). record { plan = l .plan; steps = []; nodes = ns; lanes = map thin (l .lanes) }) (set-same (map bare (l .nodes)) n freshNode)
@@ -151,7 +151,7 @@ module _ (u : Line) (steps : List ℕ) (nodes : List Node) (lanes : List Lane) (
 
     -- The Trim in the one line alone.
     pub trim-one : Thinner (trimmedLine n (moved u steps nodes lanes)) u
-    unfolding lowRaised withLog
+    unfolding lowRaised
     trim-one =
         record {
           alike = strip-trimmed n k ∙ thinner .alike;
@@ -198,7 +198,6 @@ module _ (u : Line) (steps : List ℕ) (nodes : List Node) (lanes : List Lane) (
 
     -- It has been trimmed as far as it goes, by the other line's floor times too.
     pub trimmed-stops : leading (droppable u n) (nodeAt (trimmedLine n (moved u steps nodes lanes)) n .log) ≡ []
-    unfolding withLog
     trimmed-stops =
         sym (leading-same (droppable k n) (droppable u n) (drops-same n) (nodeAt (trimmedLine n k) n .log))
         ∙ ap (leading (droppable k n)) (ap (λ (x : Line). nodeAt x n .log) (trimmed-is k n) ∙ ap (λ (x : Node). x .log) (trimmed-node k n (rw (shape .nodes-long) inside))) ∙ lead-behind (droppable k n) (nodeAt k n .log)

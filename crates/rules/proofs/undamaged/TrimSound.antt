@@ -60,11 +60,9 @@ module _ (l : Line) (sound : Sound l) (n : ℕ) (can : CanTrim l n) where
   in-run {e} i = subst (λ (x : List Entry). In e x) (sym (leading-behind (droppable l n) (nodeAt l n .log))) (in-left (rest l n) i)
 
   worked : (e : Entry) → In e (workedOn (nodeAfter l n)) → In e (workedOn (nodeAt l n))
-  unfolding withLog
   worked e i = elim (append-in (rest l n) i) [ inl j ↦ in-left (map (entryAt 0) (nodeAt l n .held)) (in-rest j) | inr j ↦ in-right (nodeAt l n .log) j ]
 
   fits : NodeFits (l .plan) (acceptedSteps l) n (nodeAfter l n)
-  unfolding withLog
   fits =
       let f = sound .standing .nodes n (can .here) .fits in
       record {
@@ -99,7 +97,6 @@ module _ (l : Line) (sound : Sound l) (n : ℕ) (can : CanTrim l n) where
       same s (made a t) c = c
 
   held-same : (m : ℕ) → nodeAt k m .held ≡ nodeAt l m .held
-  unfolding withLog
   held-same = node-same l n shape (can .here) (λ (x : Node). x .held) refl
 
   own : NodeSound k n
@@ -137,11 +134,9 @@ module _ (l : Line) (sound : Sound l) (n : ℕ) (can : CanTrim l n) where
       below (made a t) before c = λ q. subst (λ (x : ℕ). (t ≤ laneAt l b .taken) × (pastHeard (parents (l .plan) x) (laneAt l b .heard) before ≡ false)) q (c (sym q))
 
   statuses : (m : ℕ) → nodeAt k m .status ≡ nodeAt l m .status
-  unfolding withLog
   statuses = node-same l n shape (can .here) (λ (x : Node). x .status) refl
 
   marks : (m : ℕ) → nodeAt k m .crashed ≡ nodeAt l m .crashed
-  unfolding withLog
   marks = node-same l n shape (can .here) (λ (x : Node). x .crashed) refl
 
   channel : (b : ℕ) → b < channelCount (l .plan) → ChannelSound k b
