@@ -1,5 +1,5 @@
 -- A channel's fields where they lie in a state.
-use Prim.Native.Nat.{ℕ, _+_, _*_, _≤_, _<_}
+use Prim.Native.Nat.{ℕ, suc, _+_, _*_, _≤_, _<_}
 use mathlib.Core.Path.{_≡_, sym, ap, _∙_}
 use mathlib.Core.List.{List}
 use native.Mathlib.Nat.{add-zero}
@@ -7,12 +7,12 @@ use native.Mathlib.Omega.{arith}
 use lib.ListN.{length, getD, take, drop}
 use Rattle.plan.specs.Plan.{planChannels}
 use Rattle.rules.specs.Line.{queueLimit, Lane, laneAt}
-use Rattle.state.specs.Sizes.{blockAt, takenAt, heardAt, parentLimit, queueAt, countSize, messageSize}
+use Rattle.state.specs.Sizes.{blockAt, takenAt, heardAt, parentLimit, queueAt, countSize, messageSize, lowAt, lowLimit}
 use Rattle.state.specs.Pieces.{messageLayout}
 use Rattle.state.specs.State.{lineOf}
 use Rattle.state.specs.Right.{wordAt}
-use Rattle.state.proofs.OffsetLaws.{line-mark, line-taken, line-heard-at, line-queue-at}
-use Rattle.state.proofs.PlanFitting.{few-heard, heard-long}
+use Rattle.state.proofs.OffsetLaws.{line-mark, line-taken, line-heard-at, line-queue-at, line-low-at}
+use Rattle.state.proofs.PlanFitting.{few-heard, heard-long, low-long}
 use Rattle.buffer.specs.Ready.{Ready}
 use Rattle.buffer.specs.Holds.{AtLane}
 use Rattle.buffer.specs.Nothing.{noMessage}
@@ -33,6 +33,14 @@ module _ (s : List ℕ) (b : ℕ) (ready : Ready s) (below : b < planChannels s)
   heard-word i h =
       let place : blockAt b + heardAt + 4 * i ≡ blockAt b + (heardAt + 4 * i) = omega arith in
       ap (λ (a : ℕ). wordAt a s) place ∙ sym (line-heard-at s (counted ready) b below i (omega (arith, heard-long s (ready .fits) b below)) (omega (arith, heard-four)))
+
+  pub low-five : length (laneAt (lineOf s) b .low) ≤ lowLimit
+  low-five = rw (low-long s (ready .fits) b below) (omega (arith, few-heard s (ready .fits) b below))
+
+  pub low-word : (i : ℕ) → i < length (laneAt (lineOf s) b .low) → wordAt (blockAt b + lowAt + 4 * i) s ≡ getD (laneAt (lineOf s) b .low) i 0
+  low-word i h =
+      let place : blockAt b + lowAt + 4 * i ≡ blockAt b + (lowAt + 4 * i) = omega arith in
+      ap (λ (a : ℕ). wordAt a s) place ∙ sym (line-low-at s (counted ready) b below i (omega (arith, low-long s (ready .fits) b below)) (omega (arith, low-five)))
 
 module _ (s : List ℕ) (b : ℕ) (at : AtLane s b) where
   abbrev on : Lane

@@ -10,19 +10,20 @@ use Rattle.basics.specs.Put.{put, put-replicate}
 use Rattle.plan.specs.Layout.{bytesOf}
 use Rattle.plan.specs.Lawful.{Each}
 use Rattle.rules.specs.Line.{queueLimit, Message, Lane, laneAt, withLane}
-use Rattle.state.specs.Sizes.{blockAt, countSize, takenAt, heardAt, parentLimit, queueAt, messageSize}
+use Rattle.state.specs.Sizes.{blockAt, countSize, takenAt, heardAt, parentLimit, queueAt, messageSize, lowAt, lowLimit, laneRestAt}
+use Rattle.rules.specs.Trim.{withLow}
 use Rattle.state.specs.Pieces.{messageLayout}
 use Rattle.state.specs.Lane.{withHeard, queueLayout}
 use Rattle.state.specs.Fits.{TimeFits, MessageFits, LaneFits}
 use Rattle.state.specs.State.{lineOf}
-use Rattle.state.specs.Changes.{withMark, withTaken, withQueue, nothingHeard, moreQueued, firstGone}
+use Rattle.state.specs.Changes.{withMark, withTaken, withQueue, nothingHeard, nothingLow, moreQueued, firstGone}
 use Rattle.state.proofs.ListLaws.{each-append, each-replicate}
 use Rattle.state.proofs.PieceLaws.{message-sound}
 use Rattle.state.proofs.Swapped.{swap-in, counts-long, more-put, cleared-put, gone-put}
-use Rattle.state.proofs.Written.{lane-mark, lane-taken, lane-heard-at, lane-heard-none, lane-queue, heard-long}
+use Rattle.state.proofs.Written.{lane-mark, lane-taken, lane-heard-at, lane-heard-none, lane-queue, lane-low-at, lane-low-none, low-bytes-long, heard-long}
 use Rattle.buffer.specs.Holds.{Holds, AtLane, LaneNow}
 use Rattle.buffer.proofs.HoldsLaws.{lane-same, lane-fits, lane-over, lane-holds, lane-put, lane-now}
-use Rattle.channel_fields.specs.Raised.{takenTo, heardTo}
+use Rattle.channel_fields.specs.Raised.{takenTo, heardTo, lowTo}
 
 -- Nothing is written.
 pub lane-kept : (s : List ℕ) (b : ℕ) → AtLane s b → (x : Lane) → x ≡ laneAt (lineOf s) b → Holds s (withLane b x (lineOf s))
@@ -40,6 +41,12 @@ module _ (s : List ℕ) (b : ℕ) (at : AtLane s b) where
       let x = laneAt (lineOf s) b in
       let most : max (getD (x .heard) i 0) v ≡ getD (x .heard) i 0 = omega arith in
       lane-now (heardTo i v) at (lane-kept s b at (heardTo i v x) (ap (λ (hs : List ℕ). withHeard hs x) (ap (set (x .heard) i) most ∙ set-getD (x .heard) i 0)))
+
+  pub low-left : (i v : ℕ) → v ≤ getD (laneAt (lineOf s) b .low) i 0 → LaneNow s b (lowTo i v) s
+  low-left i v h =
+      let x = laneAt (lineOf s) b in
+      let most : max (getD (x .low) i 0) v ≡ getD (x .low) i 0 = omega arith in
+      lane-now (lowTo i v) at (lane-kept s b at (lowTo i v x) (ap (λ (ks : List ℕ). withLow ks x) (ap (set (x .low) i) most ∙ set-getD (x .low) i 0)))
 
 each-set : (P : ℕ → Type 0) (xs : List ℕ) (i x : ℕ) → Each P xs → P x → Each P (set xs i x)
 each-set P [] i x h p = tt
@@ -59,16 +66,16 @@ module _ (s t : List ℕ) (b : ℕ) (at : AtLane s b) where
 
   pub mark-put : (v : ℕ) → TimeFits v → t ≡ put s (blockAt b) (bytesOf 4 v) → LaneNow s b (withMark v) t
   mark-put v h r =
-      lane-now (withMark v) at (lane-put at (withMark v on) (record { mark = h; taken = fit .taken; heard = fit .heard; queue = fit .queue }) refl (lane-mark on v) (counts-long 4 (on .mark) v) (blockAt b) (sym (add-zero (blockAt b))) r)
+      lane-now (withMark v) at (lane-put at (withMark v on) (record { mark = h; taken = fit .taken; heard = fit .heard; queue = fit .queue; low = fit .low }) refl refl (lane-mark on v) (counts-long 4 (on .mark) v) (blockAt b) (sym (add-zero (blockAt b))) r)
 
   pub taken-put : (v : ℕ) → TimeFits v → t ≡ put s (blockAt b + takenAt) (bytesOf 4 v) → LaneNow s b (withTaken v) t
   taken-put v h r =
-      lane-now (withTaken v) at (lane-put at (withTaken v on) (record { mark = fit .mark; taken = h; heard = fit .heard; queue = fit .queue }) refl (lane-taken on v) (counts-long 4 (on .taken) v) (blockAt b + takenAt) refl r)
+      lane-now (withTaken v) at (lane-put at (withTaken v on) (record { mark = fit .mark; taken = h; heard = fit .heard; queue = fit .queue; low = fit .low }) refl refl (lane-taken on v) (counts-long 4 (on .taken) v) (blockAt b + takenAt) refl r)
 
   pub heard-put : (i v : ℕ) → i < length (on .heard) → i < parentLimit → TimeFits v → t ≡ put s (blockAt b + heardAt + 4 * i) (bytesOf 4 v) → LaneNow s b (λ x. withHeard (set (x .heard) i v) x) t
   heard-put i v inside few h r =
-      lane-now (λ x. withHeard (set (x .heard) i v) x) at (lane-put at (withHeard (set (on .heard) i v) on) (record { mark = fit .mark; taken = fit .taken; heard = each-set TimeFits (on .heard) i v (fit .heard) h; queue = fit .queue })
-      (length-set (on .heard) i v) (lane-heard-at on i v inside few) (counts-long 4 (getD (on .heard) i 0) v) (blockAt b + heardAt + 4 * i) (omega arith) r)
+      lane-now (λ x. withHeard (set (x .heard) i v) x) at (lane-put at (withHeard (set (on .heard) i v) on) (record { mark = fit .mark; taken = fit .taken; heard = each-set TimeFits (on .heard) i v (fit .heard) h; queue = fit .queue; low = fit .low })
+      (length-set (on .heard) i v) refl (lane-heard-at on i v inside few) (counts-long 4 (getD (on .heard) i 0) v) (blockAt b + heardAt + 4 * i) (omega arith) r)
 
   -- Raised, or left where it is as late already.
   pub taken-raised : (v : ℕ) → on .taken < v → LaneNow s b (withTaken v) t → LaneNow s b (takenTo v) t
@@ -84,19 +91,36 @@ module _ (s t : List ℕ) (b : ℕ) (at : AtLane s b) where
 
   pub heard-cleared : t ≡ take (blockAt b + heardAt) s ++ replicate (blockAt b + queueAt - (blockAt b + heardAt)) 0 ++ drop (blockAt b + queueAt) s → LaneNow s b nothingHeard t
   heard-cleared r =
-      lane-now nothingHeard at (lane-put at (nothingHeard on) (record { mark = fit .mark; taken = fit .taken; heard = each-replicate TimeFits (length (on .heard)) 0 (omega arith); queue = fit .queue })
-      (length-replicate (length (on .heard)) 0) (lane-heard-none on) (heard-long (on .heard)) (blockAt b + heardAt) refl (r ∙ put-replicate s (blockAt b + heardAt) (blockAt b + queueAt) 16 0 (omega arith)))
+      lane-now nothingHeard at (lane-put at (nothingHeard on) (record { mark = fit .mark; taken = fit .taken; heard = each-replicate TimeFits (length (on .heard)) 0 (omega arith); queue = fit .queue; low = fit .low })
+      (length-replicate (length (on .heard)) 0) refl (lane-heard-none on) (heard-long (on .heard)) (blockAt b + heardAt) refl (r ∙ put-replicate s (blockAt b + heardAt) (blockAt b + queueAt) 16 0 (omega arith)))
+
+  -- ---- the low clock
+
+  low-fits : (ks : List ℕ) → Each TimeFits ks → LaneFits (withLow ks on)
+  low-fits ks each = record { mark = fit .mark; taken = fit .taken; heard = fit .heard; queue = fit .queue; low = each }
+
+  pub low-raised : (i v : ℕ) → i < length (on .low) → i < lowLimit → TimeFits v → getD (on .low) i 0 < v → t ≡ put s (blockAt b + lowAt + 4 * i) (bytesOf 4 v) → LaneNow s b (lowTo i v) t
+  low-raised i v inside few h later r =
+      let most : v ≡ max (getD (on .low) i 0) v = omega arith in
+      lane-now (lowTo i v) at (subst (λ (k : ℕ). Holds t (withLane b (withLow (set (on .low) i k) on) (lineOf s))) most
+      (lane-put at (withLow (set (on .low) i v) on) (low-fits (set (on .low) i v) (each-set TimeFits (on .low) i v (fit .low) h)) refl
+      (length-set (on .low) i v) (lane-low-at on i v inside few) (counts-long 4 (getD (on .low) i 0) v) (blockAt b + lowAt + 4 * i) (omega arith) r))
+
+  pub low-cleared : t ≡ take (blockAt b + lowAt) s ++ replicate (blockAt b + laneRestAt - (blockAt b + lowAt)) 0 ++ drop (blockAt b + laneRestAt) s → LaneNow s b nothingLow t
+  low-cleared r =
+      lane-now nothingLow at (lane-put at (nothingLow on) (low-fits (replicate (length (on .low)) 0) (each-replicate TimeFits (length (on .low)) 0 (omega arith))) refl
+      (length-replicate (length (on .low)) 0) (lane-low-none on) (low-bytes-long (on .low)) (blockAt b + lowAt) refl (r ∙ put-replicate s (blockAt b + lowAt) (blockAt b + laneRestAt) 20 0 (omega arith)))
 
   -- ---- the queue
 
   queued : (ms : List Message) → length ms ≤ queueLimit → Each MessageFits ms → LaneFits (withQueue ms on)
-  queued ms few each = record { mark = fit .mark; taken = fit .taken; heard = fit .heard; queue = (few, each) }
+  queued ms few each = record { mark = fit .mark; taken = fit .taken; heard = fit .heard; queue = (few, each); low = fit .low }
 
   pub queue-cleared : (to : ℕ) → to ≡ blockAt b + queueAt + countSize + messageSize * length (on .queue)
       → t ≡ take (blockAt b + queueAt) s ++ replicate (to - (blockAt b + queueAt)) 0 ++ drop to s → LaneNow s b (withQueue []) t
   unfolding queueLayout
   queue-cleared to e r =
-      lane-now (withQueue []) at (lane-holds at (withQueue [] on) (queued [] (omega arith) tt) refl
+      lane-now (withQueue []) at (lane-holds at (withQueue [] on) (queued [] (omega arith) tt) refl refl
       (r ∙ sym (cleared-put message-sound countSize queueLimit (on .queue) (swap-in (lane-over at (withQueue [] on)) (lane-queue on [])) (fit .queue .0) to e)))
 
   pub queue-more : (m : Message) → MessageFits m → length (on .queue) < queueLimit → (next : ℕ) → next ≡ blockAt b + queueAt + countSize + messageSize * length (on .queue)
@@ -104,7 +128,7 @@ module _ (s t : List ℕ) (b : ℕ) (at : AtLane s b) where
   unfolding queueLayout
   queue-more m h few next e r =
       let ms = on .queue ++ m ∷ [] in
-      lane-now (moreQueued m) at (lane-holds at (withQueue ms on) (queued ms (rw length-append (omega arith)) (each-append MessageFits (on .queue) (m ∷ []) (fit .queue .1) (h, tt))) refl
+      lane-now (moreQueued m) at (lane-holds at (withQueue ms on) (queued ms (rw length-append (omega arith)) (each-append MessageFits (on .queue) (m ∷ []) (fit .queue .1) (h, tt))) refl refl
       (r ∙ sym (more-put message-sound countSize queueLimit (on .queue) m (swap-in (lane-over at (withQueue ms on)) (lane-queue on ms)) few next e)))
 
   pub queue-gone : 0 < length (on .queue) → (u : List ℕ) → u ≡ put s (blockAt b + queueAt) (bytesOf 4 (length (on .queue) - 1))
@@ -113,5 +137,5 @@ module _ (s t : List ℕ) (b : ℕ) (at : AtLane s b) where
   queue-gone some u first r =
       let ms = drop 1 (on .queue) in
       let long : length ms ≡ length (on .queue) - 1 = length-drop 1 (on .queue) in
-      lane-now firstGone at (lane-holds at (withQueue ms on) (queued ms (omega (arith, fit .queue .0)) (each-behind MessageFits (on .queue) (fit .queue .1))) refl
+      lane-now firstGone at (lane-holds at (withQueue ms on) (queued ms (omega (arith, fit .queue .0)) (each-behind MessageFits (on .queue) (fit .queue .1))) refl refl
       (r ∙ sym (rw long at (gone-put message-sound countSize queueLimit (on .queue) (swap-in (lane-over at (withQueue ms on)) (lane-queue on ms)) some (fit .queue .0) u (rw long first)))))

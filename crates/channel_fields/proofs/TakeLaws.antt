@@ -47,5 +47,6 @@ module _ (s t : List ℕ) (b : ℕ) (at : AtLane s b) (m : Message) (first : Lan
           taken = max (on .taken) (m .time);
           heard = raiseHeard (parents (plan-kept i) (channelAt (plan-kept i) b .sender)) (on .heard) (m .origin);
           queue = ap (drop 1) e i;
+          low = on .low;
         } in
         subst (λ (x : Lane). Holds v (withLane b x (lineOf s))) is (three .holds)

@@ -13,10 +13,10 @@ ghost use Rattle.rules.specs.Step.{takenLane};
 ghost use Rattle.state.specs.Lane.{withHeard};
 ghost use Rattle.state.specs.State.{lineOf};
 ghost use Rattle.buffer.specs.Holds.{Holds, AtLane, LaneNow};
-ghost use Rattle.state.specs.Changes.{withMark, withTaken, withQueue, nothingHeard, moreQueued, firstGone};
+ghost use Rattle.state.specs.Changes.{withMark, withTaken, withQueue, nothingHeard, nothingLow, moreQueued, firstGone};
 ghost use Rattle.slots.specs.Slots.{originIs, messageIs};
 ghost use Rattle.buffer.specs.Nothing.{noMessage};
-ghost use Rattle.channel_fields.specs.Raised.{takenTo, heardTo};
+ghost use Rattle.channel_fields.specs.Raised.{takenTo, heardTo, lowTo};
 use buffer::bytes;
 use buffer::layout;
 use buffer::look;
@@ -47,6 +47,17 @@ pub fn heard_of(s: &[u8], b: usize, place: usize) -> u32
     bytes::get32(
         s,
         layout::BLOCKS + layout::BLOCK * b + layout::HEARD + 4 * place,
+    )
+}
+
+// The low clock's entry at a place: the sender's, and then its parents'.
+pub fn low_of(s: &[u8], b: usize, place: usize) -> u32
+    requires { ⌜ Ready (now s) × (b < planChannels (now s)) × (place < length (laneAt (lineOf (now s)) b .low)) ⌝ }
+    ensures { λ r. ⌜ r ≡ getD (laneAt (lineOf (now (s .entry))) b .low) place 0 ⌝ }
+{
+    bytes::get32(
+        s,
+        layout::BLOCKS + layout::BLOCK * b + layout::LOW + 4 * place,
     )
 }
 
@@ -88,6 +99,26 @@ pub fn clear_heard(s: &mut [u8], b: usize)
 {
     let at = layout::BLOCKS + layout::BLOCK * b;
     bytes::fill_zero(s, at + layout::HEARD, at + layout::QUEUE);
+}
+
+// Every entry of the low clock becomes 0.
+pub fn clear_low(s: &mut [u8], b: usize)
+    requires { ⌜ AtLane (now s) b ⌝ }
+    ensures { λ _. ⌜ LaneNow (now (s .entry)) b nothingLow (now (s .exit)) ⌝ }
+{
+    let at = layout::BLOCKS + layout::BLOCK * b;
+    bytes::fill_zero(s, at + layout::LOW, at + layout::BLOCK_REST);
+}
+
+// The low clock's entry at a place, raised to a time.
+pub fn raise_low(s: &mut [u8], b: usize, place: usize, time: u32)
+    requires { ⌜ AtLane (now s) b × (place < length (laneAt (lineOf (now s)) b .low)) ⌝ }
+    ensures { λ _. ⌜ LaneNow (now (s .entry)) b (lowTo place time) (now (s .exit)) ⌝ }
+{
+    let at = layout::BLOCKS + layout::BLOCK * b + layout::LOW + 4 * place;
+    if bytes::get32(s, at) < time {
+        bytes::put32(s, at, time);
+    }
 }
 
 // The queue emptied: its count and the slots used become 0.

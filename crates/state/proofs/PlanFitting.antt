@@ -1,5 +1,5 @@
--- What a stored plan that fits says of the line in the bytes: how many nodes and channels it has, and how many are heard on a channel.
-use Prim.Native.Nat.{ℕ, _≤_, _<_}
+-- What a stored plan that fits says of the line in the bytes: how many nodes and channels it has, and how many are heard on a channel, and one more in the low clock.
+use Prim.Native.Nat.{ℕ, suc, _≤_, _<_}
 use mathlib.Core.Path.{_≡_, ap, _∙_}
 use mathlib.Core.Bool.{true}
 use mathlib.Core.List.{List}
@@ -14,7 +14,7 @@ use Rattle.state.specs.Sizes.{parentLimit}
 use Rattle.state.specs.Lane.{laneLayout, cutHeard, heardCount}
 use Rattle.state.specs.State.{lineOf}
 use Rattle.state.proofs.HeardLaws.{heard-few}
-use Rattle.state.proofs.FieldLaws.{heard-four}
+use Rattle.state.proofs.FieldLaws.{heard-four, low-five}
 use Rattle.state.proofs.InPlace.{Counted, blockOf, lane-in}
 
 module _ (s : List ℕ) (fits : planFits (planOf s) ≡ true) where
@@ -31,3 +31,11 @@ module _ (s : List ℕ) (fits : planFits (planOf s) ≡ true) where
       ap (λ (x : Lane). length (x .heard)) (lane-in s fits-counted b h)
       ∙ length-take count (laneLayout .read (blockOf b s) .heard)
       ∙ omega (arith, heard-four (blockOf b s), few-heard b h)
+
+  pub low-long : (b : ℕ) → b < planChannels s → length (laneAt (lineOf s) b .low) ≡ suc (heardCount (planOf s) (channelAt (planOf s) b))
+  unfolding cutHeard
+  low-long b h =
+      let count : ℕ = heardCount (planOf s) (channelAt (planOf s) b) in
+      ap (λ (x : Lane). length (x .low)) (lane-in s fits-counted b h)
+      ∙ length-take (suc count) (laneLayout .read (blockOf b s) .low)
+      ∙ omega (arith, low-five (blockOf b s), few-heard b h)
