@@ -1,0 +1,1 @@
+-- What Trim rests on.

@@ -1,0 +1,2 @@
+-- What Trim answers, and what it goes by.
+pub mod Trimmed
