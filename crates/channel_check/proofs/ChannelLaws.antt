@@ -16,7 +16,7 @@ use Rattle.plan.specs.Layout.{spelled}
 use Rattle.rules.specs.Line.{queueLimit, Lane, Line, nodeAt, laneAt}
 use Rattle.rules.specs.Step.{nodeDown, endDown, replaying}
 use Rattle.rules.specs.Damaged.{marksJoined, channelHolds}
-use Rattle.state.specs.Sizes.{blockAt, queueAt, laneRestAt, laneRest}
+use Rattle.state.specs.Sizes.{blockAt, queueAt}
 use Rattle.state.specs.Right.{wordAt}
 use Rattle.state.specs.State.{lineOf}
 use Rattle.state.proofs.InPlace.{line-plan}
@@ -67,7 +67,7 @@ zero-join : (s t : List ℕ) → zeroBytes (s ++ t) ≡ (zeroBytes s && zeroByte
 zero-join [] t = refl
 zero-join (b ∷ s) t = ap (λ (x : Bool). eqb 0 b && x) (zero-join s t) ∙ sym (and-assoc (eqb 0 b) (zeroBytes s) (zeroBytes t))
 
-zero-parts : (a n m : ℕ) (s : List ℕ) → zeroAt a (n + m) s ≡ (zeroAt a n s && zeroAt (a + n) m s)
+pub zero-parts : (a n m : ℕ) (s : List ℕ) → zeroAt a (n + m) s ≡ (zeroAt a n s && zeroAt (a + n) m s)
 zero-parts a n m s = ap zeroBytes (take-add n m (drop a s)) ∙ zero-join (take n (drop a s)) (take m (drop n (drop a s))) ∙ ap (λ (t : List ℕ). zeroAt a n s && zeroBytes (take m t)) (drop-drop n a s)
 
 -- A number is 0 where all its bytes are.
@@ -79,20 +79,21 @@ spelled-zero : (n : ℕ) (s : List ℕ) → eqb 0 (spelled n s) ≡ (eqb 0 n && 
 spelled-zero n [] = sym (and-true (eqb 0 n))
 spelled-zero n (b ∷ s) = spelled-zero (n * 256 + b) s ∙ ap (λ (t : Bool). t && zeroBytes s) (digit-zero n b) ∙ and-assoc (eqb 0 n) (eqb 0 b) (zeroBytes s)
 
+pub word-zero : (s : List ℕ) (i : ℕ) → eqb 0 (wordAt i s) ≡ zeroAt i 4 s
+word-zero s i = spelled-zero 0 (take 4 (drop i s))
+
 -- One word more.
 pub word-turn : (s : List ℕ) (from k i seen word : ℕ) → from + 4 * k ≡ i → word ≡ wordAt i s → eqb 0 seen ≡ zeroAt from (4 * k) s → eqb 0 (bitOr seen word) ≡ zeroAt from (4 * (k + 1)) s
 word-turn s from k i seen word e f g =
     let more : 4 * (k + 1) ≡ 4 * k + 4 = omega arith in
-    or-zero seen word ∙ rw (g, f, more, zero-parts from (4 * k) 4 s, e) (ap (λ (t : Bool). zeroAt from (4 * k) s && t) (spelled-zero 0 (take 4 (drop i s))))
+    or-zero seen word ∙ rw (g, f, more, zero-parts from (4 * k) 4 s, e) (ap (λ (t : Bool). zeroAt from (4 * k) s && t) (word-zero s i))
 
--- What a block leaves unused behind the queue: up to the block's end.
-pub behind-at : (s : List ℕ) (a count : ℕ) → count ≤ queueLimit
-    → zeroAt (a + 28 + 20 * count) (a + 320 - (a + 28 + 20 * count)) s ≡ (zeroAt (a + 24 + 4 + 20 * count) (20 * (queueLimit - count)) s && zeroAt (a + laneRestAt) laneRest s)
-behind-at s a count k =
+-- What a block leaves unused behind the queue: up to the low clock.
+pub behind-at : (s : List ℕ) (a count : ℕ) → zeroAt (a + 28 + 20 * count) (a + 188 - (a + 28 + 20 * count)) s ≡ zeroAt (a + 24 + 4 + 20 * count) (20 * (queueLimit - count)) s
+behind-at s a count =
     let same : a + 28 + 20 * count ≡ a + 24 + 4 + 20 * count = omega arith in
-    let wide : a + 320 - (a + 24 + 4 + 20 * count) ≡ 20 * (queueLimit - count) + laneRest = omega arith in
-    let rest : a + 24 + 4 + 20 * count + 20 * (queueLimit - count) ≡ a + laneRestAt = omega arith in
-    rw (same, wide, ← rest) (zero-parts (a + 24 + 4 + 20 * count) (20 * (queueLimit - count)) laneRest s)
+    let wide : a + 188 - (a + 24 + 4 + 20 * count) ≡ 20 * (queueLimit - count) = omega arith in
+    rw (same, wide)
 
 -- ---- empty queues
 

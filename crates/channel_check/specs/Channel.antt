@@ -1,5 +1,5 @@
--- What the check of a channel's block goes by: each message where it lies, and the queue message by message.
-use Prim.Native.Nat.{ℕ, zero, suc, _+_, _≤_, _<_}
+-- What the check of a channel's block goes by: the low clock word by word, each message where it lies, and the queue message by message.
+use Prim.Native.Nat.{ℕ, zero, suc, _+_, _*_, _≤_, _<_}
 use mathlib.Core.Path.{_≡_}
 use mathlib.Core.Bool.{Bool, true, _&&_, _||_}
 use mathlib.Core.List.{List}
@@ -7,7 +7,7 @@ use lib.ListN.{take, drop}
 use lib.Dec.{leb, ltb}
 use Rattle.plan.specs.Plan.{planOf, planNodes, channelAt}
 use Rattle.rules.specs.Line.{queueLimit, Message}
-use Rattle.state.specs.Sizes.{blockAt, queueAt, messageSize}
+use Rattle.state.specs.Sizes.{blockAt, takenAt, queueAt, messageSize, lowAt}
 use Rattle.state.specs.Right.{wordAt}
 use Rattle.state.specs.Pieces.{messageLayout}
 use Rattle.state.specs.State.{lineOf}
@@ -28,6 +28,11 @@ pub record QueueFits (s : List ℕ) (b count : ℕ) : Type 0 where
   pub on : OnChannel s b
   pub same : count ≡ wordAt (blockAt b + queueAt) s
   pub few : count ≤ queueLimit
+
+-- In a block, the first words of the low clock are within those of the clock, which stand side by side from what is taken on.
+abbrev pub lowsWithin : List ℕ → ℕ → ℕ → Bool
+lowsWithin s a zero = true
+lowsWithin s a (suc i) = lowsWithin s a i && leb (wordAt (a + (lowAt + 4 * i)) s) (wordAt (a + (takenAt + 4 * i)) s)
 
 -- The message at a place.
 abbrev pub messageAt : List ℕ → ℕ → Message

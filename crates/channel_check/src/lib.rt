@@ -9,7 +9,7 @@ ghost use Rattle.rules.specs.Lists.{greatestOf};
 ghost use Rattle.rules.specs.Line.{laneAt, queueLimit};
 ghost use Rattle.rules.specs.Step.{nodeDown, endDown};
 ghost use Rattle.rules.specs.Damaged.{marksJoined, channelHolds};
-ghost use Rattle.state.specs.Sizes.{blockAt, heardAt, parentLimit, queueAt, countSize, messageSize, laneRestAt, laneRest};
+ghost use Rattle.state.specs.Sizes.{blockAt, heardAt, parentLimit, queueAt, countSize, messageSize, lowLimit, laneRestAt, laneRest};
 ghost use Rattle.state.specs.Right.{wordAt};
 ghost use Rattle.state.specs.Lane.{heardCount};
 ghost use Rattle.state.specs.State.{lineOf};
@@ -18,7 +18,7 @@ ghost use Rattle.items.specs.Items.{namedRight, queueRight, channelRight};
 ghost use Rattle.buffer.specs.Exact.{zeroAt, timeNamed, messageExact, slotsExact, blockExact};
 ghost use Rattle.buffer.specs.Ready.{Ready, OnChannel};
 ghost use Rattle.buffer.specs.Check.{Tabled};
-ghost use Rattle.channel_check.specs.Channel.{Ends, QueueFits, messageOk};
+ghost use Rattle.channel_check.specs.Channel.{Ends, QueueFits, lowsWithin, messageOk};
 use buffer::Line;
 use buffer::bytes;
 use buffer::layout;
@@ -64,7 +64,7 @@ fn unheard_zero(s: &[u8], b: usize, heard: usize) -> bool
     seen == 0
 }
 
-// The bytes that a channel's block leaves unused are 0: those of further parents, and all behind the queue.
+// The bytes that a channel's block leaves unused are 0: those of further parents, of further messages, and at the end.
 fn zeros_ok(s: &[u8], b: usize, heard: usize, count: u32) -> bool
     requires { ⌜ QueueFits (now s) b count × (heard ≤ 4) ⌝ }
     ensures { λ r. ⌜ r ≡ (zeroAt (blockAt b + heardAt + 4 * heard) (4 * (parentLimit - heard)) (now (s .entry))
@@ -73,12 +73,30 @@ fn zeros_ok(s: &[u8], b: usize, heard: usize, count: u32) -> bool
 {
     let at = layout::BLOCKS + layout::BLOCK * b;
     let unheard = unheard_zero(s, b, heard);
-    let rest = bytes::all_zero(
+    let behind = bytes::all_zero(
         s,
         at + layout::QUEUE_SLOTS + layout::MESSAGE_SIZE * bytes::size(count),
-        at + layout::BLOCK,
+        at + layout::LOW,
     );
-    unheard & rest
+    let rest = bytes::all_zero(s, at + layout::BLOCK_REST, at + layout::BLOCK);
+    unheard & (behind & rest)
+}
+
+// The low clock is nowhere above the clock. Where the clock's words of further parents are 0, so are the low clock's.
+fn low_ok(s: &[u8], b: usize) -> bool
+    requires { ⌜ OnChannel (now s) b ⌝ }
+    ensures { λ r. ⌜ r ≡ lowsWithin (now (s .entry)) (blockAt b) lowLimit ⌝ }
+{
+    let at = layout::BLOCKS + layout::BLOCK * b;
+    let mut ok = true;
+    let mut i: usize = 0;
+    while i < 5 {
+        let low = bytes::get32(s, at + (layout::LOW + 4 * i));
+        let clock = bytes::get32(s, at + (layout::TAKEN + 4 * i));
+        ok = ok & (low <= clock);
+        i += 1;
+    }
+    ok
 }
 
 // No two crash marks are joined, and nothing stands on a channel that its ends' status forbids.
@@ -177,8 +195,9 @@ pub fn channel_ok(s: &[u8], t: &[u8; 156], b: usize, steps: u32) -> bool
     let heard = table::parents_in(s, t, sender);
     let most = most_heard(s, b, heard);
     let zeros = zeros_ok(s, b, heard, count);
+    let low = low_ok(s, b);
     let stopped = end_down(s, sender, receiver);
     let queue = queue_ok(s, t, steps, b, sender, stopped, count);
     let ends = ends_ok(s, b, sender, receiver, stopped, count, most);
-    zeros & ((mark <= steps) & (most <= steps)) & queue & ends
+    zeros & ((mark <= steps) & (most <= steps)) & queue & ends & low
 }

@@ -13,7 +13,7 @@ use borrow.Author.Tests.{eq-eqb, eqb-true, le-leb, leb-true}
 use Rattle.plan.specs.Lawful.{Zeros}
 use Rattle.basics.specs.Bools.{both-true}
 use Rattle.rules.specs.Line.{logLimit, queueLimit, heldLimit, targetLimit}
-use Rattle.state.specs.Sizes.{countSize, entrySize, heldSize, targetSize, messageSize, heardAt, parentLimit}
+use Rattle.state.specs.Sizes.{countSize, entrySize, heldSize, targetSize, messageSize, heardAt, parentLimit, lowAt}
 use Rattle.state.specs.Right.{ZerosAt, wordAt, MessageRight, EntryRight, HeldRight, TargetRight, ListRight, NodeRight, LaneRight}
 use Rattle.state.proofs.BlockRight.{spelled-zero}
 use Rattle.buffer.specs.Zero.{zeroBytes}
@@ -157,18 +157,31 @@ zeros-words (suc n) a s =
     at x f zero h = subst (λ (k : ℕ). wordAt k s ≡ 0) (sym start) x
     at x f (suc i) h = subst (λ (k : ℕ). wordAt k s ≡ 0) (sym (next i)) (f i (omega arith))
 
--- A block on which so many are heard.
+-- The words of further parents.
+unused-stand : (s : List ℕ) (a count : ℕ) → Stands (zeroAt (a + 4 * count) (4 * (parentLimit - count)) s) ((i : ℕ) → count ≤ i → i < parentLimit → wordAt (a + 4 * i) s ≡ 0)
+unused-stand s a count =
+    let words = zeros-words (parentLimit - count) (a + 4 * count) s in
+    stands-as (zero-stands (a + 4 * count) (4 * (parentLimit - count)) s)
+    (λ z i l h. subst (λ (k : ℕ). wordAt k s ≡ 0) (there i l) (words .0 z (i - count) (omega arith)))
+    (λ f. words .1 (λ i h. subst (λ (k : ℕ). wordAt k s ≡ 0) (back i) (f (count + i) (omega arith) (omega arith))))
+  where
+    there : (i : ℕ) → count ≤ i → a + 4 * count + 4 * (i - count) ≡ a + 4 * i
+    there i l = omega arith
+
+    back : (i : ℕ) → a + 4 * (count + i) ≡ a + 4 * count + 4 * i
+    back i = omega arith
+
+-- A block on which so many are heard. The low clock's first word is the sender's.
 pub block-stands : (s : List ℕ) (count a : ℕ) → count ≤ parentLimit → Stands (blockExact count a s) (LaneRight count a s)
 unfolding blockExact
 block-stands s count a few =
-    let words = zeros-words (parentLimit - count) (a + heardAt + 4 * count) s in
-    let heard = stands-as (zero-stands (a + heardAt + 4 * count) (4 * (parentLimit - count)) s) (λ z. words .0 z) (λ f. words .1 f) in
-    stands-as (and-stands (and-stands heard (list-stands s messageExact MessageRight (message-stands s) queueLimit messageSize (a + 24))) (zero-stands (a + 188) 132 s))
-    (λ r. record { heard = λ i l h. subst (λ (k : ℕ). wordAt k s ≡ 0) (there i l) (r .0 .0 (i - count) (omega arith)); queue = r .0 .1; rest = r .1 })
-    (λ r. ((λ i h. subst (λ (k : ℕ). wordAt k s ≡ 0) (back i) (r .heard (count + i) (omega arith) (omega arith)), r .queue), r .rest))
+    let queue = list-stands s messageExact MessageRight (message-stands s) queueLimit messageSize (a + 24) in
+    stands-as (and-stands (and-stands (and-stands (unused-stand s (a + heardAt) count) queue) (unused-stand s (a + lowAt + 4) count)) (zero-stands (a + 208) 112 s))
+    (λ r. record { heard = r .0 .0 .0; queue = r .0 .0 .1; low = λ i l h. subst (λ (k : ℕ). wordAt k s ≡ 0) (there i l) (r .0 .1 (i - 1) (omega arith) (omega arith)); rest = r .1 })
+    (λ r. (((r .heard, r .queue), λ i l h. subst (λ (k : ℕ). wordAt k s ≡ 0) (back i) (r .low (suc i) (omega arith) (omega arith))), r .rest))
   where
-    there : (i : ℕ) → count ≤ i → a + heardAt + 4 * count + 4 * (i - count) ≡ a + heardAt + 4 * i
+    there : (i : ℕ) → count < i → a + lowAt + 4 + 4 * (i - 1) ≡ a + lowAt + 4 * i
     there i l = omega arith
 
-    back : (i : ℕ) → a + heardAt + 4 * (count + i) ≡ a + heardAt + 4 * count + 4 * i
+    back : (i : ℕ) → a + lowAt + 4 * suc i ≡ a + lowAt + 4 + 4 * i
     back i = omega arith

@@ -41,7 +41,7 @@ zeros-ok-requires c κs =
 
 queue-ok-requires : tie.Need-queue-ok-requires
 queue-ok-requires c κs =
-    let receiver = c .before .before .before .before .before in
+    let receiver = c .before .before .before .before .before .before in
     let sender = receiver .before in
     let start = sender .before .before .before .before in
     let a = start .args in
@@ -50,16 +50,17 @@ queue-ok-requires c κs =
 
 ends-ok-requires : tie.Need-ends-ok-requires
 ends-ok-requires c κs =
-    let receiver = c .before .before .before .before .before .before in
+    let receiver = c .before .before .before .before .before .before .before in
     let sender = receiver .before in
     let count = sender .before .before in
     let a = count .before .before .args in
     let ends : Ends (a .s .now) (a .b) (sender .sender-of .result) (receiver .receiver-of .result) = search needs in
-    (ends, c .before .end-down .ensures ∙ down-ends (a .s .now) (a .b) (sender .sender-of .result) (receiver .receiver-of .result) ends, count .get32 .ensures, c .before .before .before .most-heard .ensures)
+    (ends, c .before .end-down .ensures ∙ down-ends (a .s .now) (a .b) (sender .sender-of .result) (receiver .receiver-of .result) ends, count .get32 .ensures, c .before .before .before .before .most-heard .ensures)
 
 returns-2 : tie.Need-returns-2
 returns-2 c =
-    let zeros = c .before .before .before in
+    let low = c .before .before .before in
+    let zeros = low .before in
     let most = zeros .before in
     let heard = most .before in
     let mark = heard .before in
@@ -70,9 +71,10 @@ returns-2 c =
     let a = start .args in
     let on : OnChannel (a .s .now) (a .b) = record { ready = start .pre .0 .ready; below = start .pre .1 } in
     let fits : QueueFits (a .s .now) (a .b) (count .get32 .result) = record { on = on; same = count .get32 .ensures; few = omega (arith, test .if1 .left) } in
-    rw (← parents-heard (a .s .now) (a .b) (sender .sender-of .result) (heard .parents-in .result) on (sender .sender-of .ensures .0) (heard .parents-in .ensures))
-    (block-tested (a .s .now) (a .b) (heard .parents-in .result) (count .get32 .result) (a .steps) (mark .get322 .result) (most .most-heard .result) (zeros .zeros-ok .result) (c .before .queue-ok .result) (c .ends-ok .result)
-    (start .pre .0 .same) fits (mark .get322 .ensures) (most .most-heard .ensures) (zeros .zeros-ok .ensures) (c .before .queue-ok .ensures) (c .ends-ok .ensures))
+    let many = parents-heard (a .s .now) (a .b) (sender .sender-of .result) (heard .parents-in .result) on (sender .sender-of .ensures .0) (heard .parents-in .ensures) in
+    rw (← many)
+    (block-tested (a .s .now) (a .b) (heard .parents-in .result) (count .get32 .result) (a .steps) (mark .get322 .result) (most .most-heard .result) (zeros .zeros-ok .result) (c .before .queue-ok .result) (c .ends-ok .result) (low .low-ok .result)
+    (start .pre .0 .same) fits many (mark .get322 .ensures) (most .most-heard .ensures) (zeros .zeros-ok .ensures) (c .before .queue-ok .ensures) (c .ends-ok .ensures) (low .low-ok .ensures))
 
 pub channel-ok-spec : {M : Type 1} → statement M
 channel-ok-spec =
@@ -89,6 +91,7 @@ channel-ok-spec =
     (λ c κs. search needs)
     most-heard-requires
     zeros-ok-requires
+    (λ c κs. search needs)
     (λ c κs. search needs)
     queue-ok-requires
     ends-ok-requires

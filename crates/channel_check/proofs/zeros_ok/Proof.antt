@@ -1,6 +1,7 @@
+use Prim.Native.Nat.{_+_, _-_}
+use mathlib.Core.Path.{_≡_, refl}
+use native.Mathlib.Omega.{arith}
 use borrow.Author.Needs.{needs}
-use mathlib.Core.Bool.{Bool, _&&_}
-use mathlib.Core.Path.{ap}
 use Rattle.state.specs.Sizes.{blockAt}
 use Rattle.channel_check.proofs.ChannelLaws.{behind-at}
 use Rattle.channel_check.proofs.zeros_ok.Statement.{statement}
@@ -8,10 +9,11 @@ use Rattle.channel_check.proofs.zeros_ok.Tie as tie
 
 returns : tie.Need-returns
 returns c =
-    let start = c .before .before .before .before in
-    let a = start .args in
-    let unheard = c .before .before .unheard-zero in
-    rw (← unheard .ensures, c .all-zero .ensures, c .before .size .ensures) (ap (λ (t : Bool). unheard .result && t) (behind-at (a .s .now) (blockAt (a .b)) (a .count) (start .pre .0 .few)))
+    let size = c .before .before in
+    let unheard = size .before in
+    let a = unheard .before .before .args in
+    let wide : blockAt (a .b) + 320 - (blockAt (a .b) + 208) ≡ 112 = omega arith in
+    rw (unheard .unheard-zero .ensures, c .before .all-zero .ensures, c .all-zero2 .ensures, size .size .ensures, wide, behind-at (a .s .now) (blockAt (a .b)) (a .count)) refl
 
 pub zeros-ok-spec : {M : Type 1} → statement M
 zeros-ok-spec =
@@ -23,6 +25,9 @@ zeros-ok-spec =
     (λ c. search needs)
     (λ c κs. search needs)
     (λ c. search needs)
+    (λ c. search needs)
+    (λ c. search needs)
+    (λ c κs. search needs)
     (λ c. search needs)
     (λ c. search needs)
     (λ c κs. search needs)
