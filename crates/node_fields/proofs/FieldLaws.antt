@@ -4,7 +4,7 @@ use mathlib.Core.Path.{_≡_, refl, sym, ap, _∙_}
 use mathlib.Core.Bool.{Bool}
 use mathlib.Core.List.{List, [], _∷_, _++_}
 use native.Mathlib.Omega.{arith}
-use lib.ListN.{length, getD, take, drop, replicate, length-append}
+use lib.ListN.{length, getD, take, drop, replicate, length-append, length-drop, take-append-drop}
 use Rattle.basics.specs.Put.{put}
 use Rattle.plan.specs.Layout.{Layout, bytesOf, upToSlots}
 use Rattle.plan.specs.Lawful.{UpToFit}
@@ -18,8 +18,8 @@ use Rattle.state.specs.Fits.{TimeFits, EntryFits, HeldFits, TargetFits, NodeFit
 use Rattle.rules.specs.Trim.{withLog}
 use Rattle.state.specs.Changes.{withStatus, withCrashed, withTime, withHeld, withTargets, moreLogged, moreHeld, moreTargets}
 use Rattle.state.proofs.PieceLaws.{entry-sound, held-sound, target-sound}
-use Rattle.state.proofs.ListLaws.{each-append}
-use Rattle.state.proofs.Swapped.{Swapped, swap-in, counts-long, more-put, cleared-put}
+use Rattle.state.proofs.ListLaws.{each-append, each-split}
+use Rattle.state.proofs.Swapped.{Swapped, swap-in, counts-long, more-put, cleared-put, front-gone-put}
 use Rattle.state.proofs.Written.{node-status, node-crashed, node-time, node-log, node-held, node-targets}
 use Rattle.state.proofs.OffsetLaws.{line-log-at, line-held-at, line-target-at}
 use Rattle.buffer.specs.Holds.{Holds, AtNode, NodeNow}
@@ -137,3 +137,17 @@ module _ {s : List ℕ} {n : ℕ} (at : AtNode s n) where
   target-more e f h =
       let ts = x .targets ++ e ∷ [] in
       more target-sound targetLimit targetsAt (x .targets) e h (moreTargets e) (fits-targets ts (more-fit TargetFits targetLimit (x .targets) e (node-fits at .targets) h f)) (targets-over ts)
+
+  -- ---- entries gone at the log's front: the count of those left is written, then their slots move
+
+  pub log-gone : {t u : List ℕ} (m left : ℕ) → m ≤ length (x .log) → left ≡ length (x .log) - m → u ≡ put s (pageAt n + logAt) (bytesOf 4 left)
+      → t ≡ put u (pageAt n + logAt + countSize) (take (entrySize * left) (drop (pageAt n + logAt + countSize + entrySize * m) u) ++ replicate (entrySize * m) 0)
+      → NodeNow s n (λ y. withLog (drop m (y .log)) y) t
+  unfolding logLayout entryLayout
+  log-gone {u = u} m left h q first e =
+      let es = drop m (x .log) in
+      let long : length es ≡ left = length-drop m (x .log) ∙ sym q in
+      let f = node-fits at .log in
+      let fits = fits-log es (omega (arith, f .0), each-split EntryFits (take m (x .log)) es (rw take-append-drop (f .1)) .1) in
+      node-now (λ y. withLog (drop m (y .log)) y) at (node-holds at (withLog es x) fits
+      (e ∙ sym (rw long at (front-gone-put entry-sound countSize logLimit (x .log) m (log-over es) h (f .0) (entrySize * m) refl u (rw long first)))))

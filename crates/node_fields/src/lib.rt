@@ -3,7 +3,7 @@ ghost use mathlib.Core.Path.{_≡_};
 ghost use mathlib.Core.Bool.{true};
 ghost use mathlib.Core.List.{[]};
 ghost use Prim.Native.Nat.{_≤_, _<_};
-ghost use lib.ListN.{length, getD};
+ghost use lib.ListN.{length, getD, drop};
 ghost use Rattle.plan.specs.Plan.{planNodes};
 ghost use Rattle.rules.specs.Line.{logLimit, heldLimit, targetLimit, nodeAt};
 ghost use Rattle.state.specs.Node.{statusOf};
@@ -174,4 +174,15 @@ pub fn append_target(s: &mut [u8], n: usize, g: Goal)
         at + layout::COUNT + layout::TARGET_SIZE * bytes::size(count),
         g,
     );
+}
+
+// So many entries at the log's front go, and those behind them move up.
+pub fn drop_entries(s: &mut [u8], n: usize, count: usize)
+    requires { ⌜ AtNode (now s) n × (count ≤ length (nodeAt (lineOf (now s)) n .log)) ⌝ }
+    ensures { λ _. ⌜ NodeNow (now (s .entry)) n (λ x. withLog (drop count (x .log)) x) (now (s .exit)) ⌝ }
+{
+    let left = log_count(s, n) - count;
+    let at = layout::PAGE * (1 + n) + layout::LOG;
+    bytes::put32(s, at, left as u32);
+    slots::close_entries(s, at + layout::COUNT, count, left);
 }

@@ -1,21 +1,21 @@
--- What stands in a slot, written part by part.
-use Prim.Native.Nat.{ℕ, zero, suc, _+_, _≤_, _<_}
-use mathlib.Core.Path.{_≡_, refl, ap, _∙_}
+-- What stands in a slot, written part by part; and slots moved.
+use Prim.Native.Nat.{ℕ, zero, suc, _+_, _*_, _-_, _≤_, _<_}
+use mathlib.Core.Path.{_≡_, refl, sym, ap, _∙_}
 use mathlib.Core.List.{List, [], _∷_, _++_, append-assoc, append-nil}
-use native.Mathlib.Nat.{add-assoc}
+use native.Mathlib.Nat.{add-assoc, mul-zero, mul-one, mul-add}
 use native.Mathlib.Omega.{arith}
-use lib.ListN.{length, take, drop}
+use lib.ListN.{length, take, drop, replicate}
 use lib.Seq.{take-add, drop-drop}
-use Rattle.basics.specs.Put.{put, puts, puts-joined}
-use Rattle.plan.specs.Layout.{bytesOf}
+use Rattle.basics.specs.Put.{put, put-none, puts, puts-joined}
+use Rattle.plan.specs.Layout.{bytesOf, spelled}
 use Rattle.plan.specs.Lawful.{Bytes}
 use Rattle.plan.specs.Record.{recordLayout}
 use Rattle.rules.specs.Line.{Origin, Message, Entry, Held, Target}
 use Rattle.state.specs.Pieces.{originFrom, originLayout, messageLayout, entryLayout, heldLayout, targetLayout}
-use Rattle.state.specs.Right.{wordAt}
 use Rattle.state.proofs.PieceLaws.{origin-sound}
 use Rattle.state.proofs.RightAt.{part-long}
 use Rattle.buffer.specs.Words.{number64}
+use Rattle.buffer.proofs.BytesLaws.{gap-turn, gap-closed}
 use Rattle.buffer.proofs.WordLaws.{part-written}
 use Rattle.slots.specs.Slots.{timeOf}
 
@@ -74,16 +74,47 @@ module _ (s : List ℕ) (at : ℕ) (h : at ≤ length s) where
   unfolding targetLayout
   target-written t = puts-joined s at (targetParts at t) h (refl, (omega arith, (omega arith, (omega arith, (omega arith, tt)))))
 
--- A message's slot, written elsewhere part by part.
-pub slot-copied : (s : List ℕ) (from to : ℕ) → Bytes s → from + 20 ≤ length s → to ≤ length s
-    → puts s ((to, bytesOf 8 (number64 from s)) ∷ (to + 8, bytesOf 8 (number64 (from + 8) s)) ∷ (to + 16, bytesOf 4 (wordAt (from + 16) s)) ∷ []) ≡ put s to (take 20 (drop from s))
-slot-copied s from to k h l =
+-- A slot of two words of eight bytes and one more, written elsewhere word by word.
+pub slot-copied : (w : ℕ) (s : List ℕ) (from to : ℕ) → Bytes s → from + (8 + (8 + w)) ≤ length s → to ≤ length s
+    → puts s ((to, bytesOf 8 (number64 from s)) ∷ (to + 8, bytesOf 8 (number64 (from + 8) s)) ∷ (to + 16, bytesOf w (spelled 0 (take w (drop (from + 16) s)))) ∷ []) ≡ put s to (take (8 + (8 + w)) (drop from s))
+slot-copied w s from to k h l =
     let slot : List ℕ = drop from s in
     let first : List ℕ = take 8 slot in
     let second : List ℕ = take 8 (drop (from + 8) s) in
-    let third : List ℕ = take 4 (drop (from + 16) s) in
+    let third : List ℕ = take w (drop (from + 16) s) in
     let long : length first ≡ 8 = part-long from 8 s (omega arith) in
     let long-second : length second ≡ 8 = part-long (from + 8) 8 s (omega arith) in
-    let whole : first ++ (second ++ (third ++ [])) ≡ take 20 slot = rw (append-nil, take-add 8 12 slot, drop-drop 8 from s, take-add 8 4 (drop (from + 8) s), drop-drop 8 (from + 8) s, add-assoc from 8 8) in
-    rw (part-written 8 from s k (omega arith), part-written 8 (from + 8) s k (omega arith), part-written 4 (from + 16) s k (omega arith))
+    let whole : first ++ (second ++ (third ++ [])) ≡ take (8 + (8 + w)) slot =
+    rw (append-nil, take-add 8 (8 + w) slot, drop-drop 8 from s, take-add 8 w (drop (from + 8) s), drop-drop 8 (from + 8) s, add-assoc from 8 8)
+    in
+    rw (part-written 8 from s k (omega arith), part-written 8 (from + 8) s k (omega arith), part-written w (from + 16) s k (omega arith))
     (puts-joined s to ((to, first) ∷ (to + 8, second) ∷ (to + 16, third) ∷ []) l (refl, (omega arith, (omega arith, tt))) ∙ ap (put s to) whole)
+
+-- ---- slots moved to the front, over a gap
+
+module _ (s₀ : List ℕ) (at gap size count : ℕ) where
+  -- The first i of those behind the gap have moved.
+  pub record Moved (s : List ℕ) (i : ℕ) : Type 0 where
+    pub within : i ≤ count
+    pub same : length s ≡ length s₀
+    pub now : s ≡ put s₀ at (take (size * i) (drop (at + gap) s₀))
+
+  pub none-moved : Moved s₀ 0
+  none-moved = record { within = omega arith; same = refl; now = rw mul-zero (sym (put-none s₀ at)) }
+
+  pub one-moved : {s t : List ℕ} {i : ℕ} → Moved s i → i < count → at + gap + size * i + size ≤ length s₀ → length t ≡ length s
+      → t ≡ put s (at + size * i) (take size (drop (at + size * i + gap) s)) → Moved t (i + 1)
+  one-moved {s} {i = i} m below h long e =
+      let place : at + size * i + gap ≡ at + gap + size * i = omega arith in
+      record {
+        within = omega arith;
+        same = long ∙ m .same;
+        now = e ∙ rw (place, m .now, mul-add, mul-one) (gap-turn s₀ at gap (size * i) size h);
+      }
+
+  pub all-moved : {s t : List ℕ} {i : ℕ} → Moved s i → count ≤ i → at + gap + size * count ≤ length s₀
+      → t ≡ take (at + size * count) s ++ replicate (at + size * count + gap - (at + size * count)) 0 ++ drop (at + size * count + gap) s
+      → t ≡ put s₀ at (take (size * count) (drop (at + gap) s₀) ++ replicate gap 0)
+  all-moved {i = i} m done h e =
+      let all : i ≡ count = omega (arith, m .within) in
+      e ∙ rw (m .now, all) (gap-closed s₀ at gap (size * count) (at + size * count + gap) h refl)

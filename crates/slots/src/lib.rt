@@ -1,4 +1,4 @@
-// What stands in the slots (docs/LAYOUT.md), read and written at an offset: records, what something was made from, messages, log entries, held records and targets. A record's eight bytes go as one number. Messages move up by one slot.
+// What stands in the slots (docs/LAYOUT.md), read and written at an offset: records, what something was made from, messages, log entries, held records and targets. A record's eight bytes go as one number. Messages move up by one slot, log entries by several.
 ghost use mathlib.Core.Path.{_≡_};
 ghost use mathlib.Core.List.{_++_};
 ghost use Prim.Native.Nat.{_+_, _*_, _≤_, _<_};
@@ -211,4 +211,33 @@ pub fn close_gap(s: &mut [u8], at: usize, count: usize)
     }
     let last = at + layout::MESSAGE_SIZE * count;
     bytes::fill_zero(s, last, last + layout::MESSAGE_SIZE);
+}
+
+// A log entry's slot to another, as three words.
+fn copy_entry(s: &mut [u8], from: usize, to: usize)
+    requires { ⌜ (from + 24 ≤ length (now s)) × (to + 24 ≤ length (now s)) ⌝ }
+    ensures { λ _. ⌜ now (s .exit) ≡ put (now (s .entry)) to (take 24 (drop from (now (s .entry)))) ⌝ }
+{
+    let number = bytes::get64(s, from);
+    let middle = bytes::get64(s, from + 8);
+    let last = bytes::get64(s, from + 16);
+    bytes::put64(s, to, number);
+    bytes::put64(s, to + 8, middle);
+    bytes::put64(s, to + 16, last);
+}
+
+// So many log entries move to the front over as many slots as are gone; the slots freed become 0.
+pub fn close_entries(s: &mut [u8], at: usize, gone: usize, count: usize)
+    requires { ⌜ at + 24 * gone + 24 * count ≤ length (now s) ⌝ }
+    ensures { λ _. ⌜ now (s .exit) ≡ put (now (s .entry)) at (take (24 * count) (drop (at + 24 * gone) (now (s .entry))) ++ replicate (24 * gone) 0) ⌝ }
+{
+    let gap = layout::ENTRY_SIZE * gone;
+    let mut i: usize = 0;
+    while i < count {
+        let to = at + layout::ENTRY_SIZE * i;
+        copy_entry(s, to + gap, to);
+        i += 1;
+    }
+    let last = at + layout::ENTRY_SIZE * count;
+    bytes::fill_zero(s, last, last + gap);
 }

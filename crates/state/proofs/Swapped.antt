@@ -2,9 +2,9 @@
 use Prim.Native.Nat.{ℕ, zero, suc, _+_, _*_, _-_, _^_, _≤_, _<_}
 use mathlib.Core.Path.{_≡_, refl, sym, ap, _∙_}
 use mathlib.Core.List.{List, [], _∷_, _++_, append-assoc, append-nil}
-use native.Mathlib.Nat.{add-zero, add-suc, mul-suc, mul-zero, add-comm, zero-div, zero-mod}
+use native.Mathlib.Nat.{add-zero, add-suc, mul-suc, mul-zero, mul-one, mul-add, add-comm, zero-div, zero-mod}
 use native.Mathlib.Omega.{arith}
-use lib.ListN.{length, getD, take, drop, set, replicate, length-append, length-replicate, replicate-append-replicate}
+use lib.ListN.{length, getD, take, drop, set, replicate, length-append, length-drop, length-replicate, replicate-append-replicate}
 use lib.Seq.{take-at, drop-at, drop-append-le, drop-drop}
 use Rattle.basics.specs.Put.{put}
 use Rattle.plan.specs.Layout.{Layout, bytesOf, spelled, writeFields, sumOf, writeSlots, upToSlots}
@@ -134,14 +134,17 @@ module _ {A : Type 0} {l : Layout A} {Fits : A → Type 0} (inner : Sound l Fits
       rw (add-suc, unused-split m k, mul-suc, add-comm (l .size * k) (l .size), ← replicate-append-replicate)
       (sym (append-assoc (replicate (l .size) 0) (replicate (l .size * k) 0) (writeSlots l m [])))
 
-  -- The first of the slots used gone, and the others moved down.
-  pub used-gone : (xs : List A) → 0 < length xs → drop (l .size) (used xs) ≡ used (drop 1 xs)
-  used-gone [] h = let no : ⊥ = omega arith in absurd no
-  used-gone (x ∷ xs) h = drop-at (l .write x) (used xs) (l .size) (inner .sized x)
+  -- So many of the slots used gone at the front.
+  pub used-gone : (m : ℕ) (xs : List A) → m ≤ length xs → drop (l .size * m) (used xs) ≡ used (drop m xs)
+  used-gone zero xs h = rw mul-zero
+  used-gone (suc m) [] h = let no : ⊥ = omega arith in absurd no
+  used-gone (suc m) (x ∷ xs) h =
+      rw (mul-suc, add-comm (l .size * m) (l .size), ← drop-drop (l .size * m) (l .size) (l .write x ++ used xs), drop-at (l .write x) (used xs) (l .size) (inner .sized x)) (used-gone m xs (omega arith))
 
-  used-parts : (xs : List A) → 0 < length xs → length (used xs) ≡ l .size + length (used (drop 1 xs))
-  used-parts [] h = let no : ⊥ = omega arith in absurd no
-  used-parts (x ∷ xs) h = length-append (l .write x) (used xs) ∙ rw (inner .sized x)
+  used-parts : (m : ℕ) (xs : List A) → m ≤ length xs → length (used xs) ≡ l .size * m + l .size * length (drop m xs)
+  used-parts m xs h =
+      let parts : length xs ≡ m + length (drop m xs) = omega (arith, length-drop m xs) in
+      used-long xs ∙ ap (λ (k : ℕ). l .size * k) parts ∙ mul-add (l .size) m (length (drop m xs))
 
   -- ---- lists with a count in front
 
@@ -190,26 +193,27 @@ module _ {A : Type 0} {l : Layout A} {Fits : A → Type 0} (inner : Sound l Fits
       place = refl;
     }
 
-  -- The first gone: the count, and the slots used, of which the last becomes 0.
-  pub list-gone : (width limit : ℕ) (xs : List A) → 0 < length xs → length xs ≤ limit
-      → Twice 0 (bytesOf width (length xs)) (bytesOf width (length (drop 1 xs))) width (used xs) (used (drop 1 xs) ++ replicate (l .size) 0) (upToSlots width limit l .write xs) (upToSlots width limit l .write (drop 1 xs))
-  unfolding upToSlots
-  list-gone width limit [] h k = let no : ⊥ = omega arith in absurd no
-  list-gone width limit (x ∷ xs) h k =
-      let more = limit - length (x ∷ xs) in
-      let e : limit ≡ more + suc (length xs) = omega arith in
-      let slots : Swapped 0 (used (x ∷ xs)) (used xs ++ replicate (l .size) 0) (writeSlots l limit (x ∷ xs)) (writeSlots l limit xs) = record {
-        front = [];
-        back = writeSlots l more [];
-        was = ap (λ (n : ℕ). writeSlots l n (x ∷ xs)) e ∙ slots-split more (x ∷ xs);
-        is = ap (λ (n : ℕ). writeSlots l n xs) (let same : limit ≡ suc more + length xs = omega arith in same) ∙ slots-split (suc more) xs ∙ sym (append-assoc (used xs) (replicate (l .size) 0) (writeSlots l more []));
-        place = refl;
-      } in
-      record {
-        between = bytesOf width (length xs) ++ writeSlots l limit (x ∷ xs);
-        first = count-swap width limit (x ∷ xs) (length xs);
-        second = swap-at (swap-behind slots (bytesOf width (length xs)) width (length-bytesOf width (length xs))) width (add-zero width);
-      }
+    -- So many gone at the front: the count, and the slots used, of which as many at the end become 0.
+    pub list-gone : (m : ℕ) → m ≤ length xs → length xs ≤ limit
+        → Twice 0 (count (length xs)) (count (length (drop m xs))) width (used xs) (used (drop m xs) ++ replicate (l .size * m) 0) (whole xs) (whole (drop m xs))
+    unfolding upToSlots
+    list-gone m h k =
+        let ys = drop m xs in
+        let freed : limit ≡ rest + m + length ys = omega (arith, filling k, length-drop m xs) in
+        let slots : Swapped 0 (used xs) (used ys ++ replicate (l .size * m) 0) (writeSlots l limit xs) (writeSlots l limit ys) = record {
+          front = [];
+          back = writeSlots l rest [];
+          was = ap (λ (n : ℕ). writeSlots l n xs) (filling k) ∙ slots-split rest xs;
+          is =
+              ap (λ (n : ℕ). writeSlots l n ys) freed
+              ∙ rw (slots-split (rest + m) ys, unused-split rest m) (sym (append-assoc (used ys) (replicate (l .size * m) 0) (writeSlots l rest [])));
+          place = refl;
+        } in
+        record {
+          between = count (length ys) ++ writeSlots l limit xs;
+          first = count-swap (length ys);
+          second = swap-at (swap-behind slots (count (length ys)) width (length-bytesOf width (length ys))) width (add-zero width);
+        }
 
 -- ---- the part written over
 
@@ -273,14 +277,20 @@ module _ {A : Type 0} {l : Layout A} {Fits : A → Type 0} (inner : Sound l Fits
       swap-put (swap-in w (list-cleared inner width limit xs h)) (cleared-long inner width limit xs ∙ sym (length-replicate (width + l .size * length xs) 0))
       ∙ rw (length-replicate, end, add-zero, ← size) (sym (append-assoc (take at s) (replicate (to - at) 0) (drop to s)))
 
-  -- The first gone.
+  -- So many gone at the front, and the first alone.
+  pub front-gone-put : {at : ℕ} {s t : List ℕ} (m : ℕ) → Swapped at (list xs) (list (drop m xs)) s t → m ≤ length xs → length xs ≤ limit
+      → (gap : ℕ) → l .size * m ≡ gap → (b : List ℕ) → b ≡ put s at (bytesOf width (length (drop m xs)))
+      → t ≡ put b (at + width) (take (l .size * length (drop m xs)) (drop (at + width + gap) b) ++ replicate gap 0)
+  front-gone-put {at} {s} m w h k gap q b e =
+      let gone = twice-in w (list-gone inner width limit xs m h k) in
+      let ys = drop m xs in
+      let parts = used-parts inner m xs h in
+      let first : gone .between ≡ b = swap-put (gone .first) (counts-long width (length xs) (length ys)) ∙ ap (λ (a : ℕ). put s a (bytesOf width (length ys))) (add-zero at) ∙ sym e in
+      rw (← q)
+      (swap-moved (used inner ys) (replicate (l .size * m) 0) (swap-from (gone .second) (sym first)) (l .size * m) (l .size * length ys) (omega arith) (used-gone inner m xs h) (used-long inner ys)
+      (simp (length-append, length-replicate, used-long inner ys) (omega arith)))
+
   pub gone-put : {at : ℕ} {s t : List ℕ} → Swapped at (list xs) (list (drop 1 xs)) s t → 0 < length xs → length xs ≤ limit
       → (b : List ℕ) → b ≡ put s at (bytesOf width (length (drop 1 xs)))
       → t ≡ put b (at + width) (take (l .size * length (drop 1 xs)) (drop (at + width + l .size) b) ++ replicate (l .size) 0)
-  gone-put {at} {s} w h k b e =
-      let gone = twice-in w (list-gone inner width limit xs h k) in
-      let ys = drop 1 xs in
-      let parts = used-parts inner xs h in
-      let first : gone .between ≡ b = swap-put (gone .first) (counts-long width (length xs) (length ys)) ∙ ap (λ (a : ℕ). put s a (bytesOf width (length ys))) (add-zero at) ∙ sym e in
-      swap-moved (used inner ys) (replicate (l .size) 0) (swap-from (gone .second) (sym first)) (l .size) (l .size * length ys) (omega arith) (used-gone inner xs h) (used-long inner ys)
-      (simp (length-append, length-replicate) (omega arith))
+  gone-put w h k = front-gone-put 1 w (omega arith) k (l .size) (mul-one (l .size))

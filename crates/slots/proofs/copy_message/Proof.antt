@@ -18,7 +18,7 @@ returns c =
     let a = start .args in
     let bytes = bytes-known (a .s .now) (λ i. known .slice-known .given i .fits) in
     rw (third .put32 .ensures, second .put642 .ensures, first .put64 .ensures, last .get32 .ensures, middle .get642 .ensures, what .get64 .ensures)
-    (slot-copied (a .s .now) (a .from) (a .to) bytes (start .pre .0) (omega (arith, start .pre .1)))
+    (slot-copied 4 (a .s .now) (a .from) (a .to) bytes (start .pre .0) (omega (arith, start .pre .1)))
 
 pub copy-message-spec : {M : Type 1} → statement M
 copy-message-spec =
