@@ -44,7 +44,7 @@ module _ (p : Plan) (q t : ℕ) where
   raise-away [] (h ∷ hs) d = refl
   raise-away (b ∷ bs) (h ∷ hs) d = rw (ne-eqb (channelAt p b .sender) q (d b here), raise-away bs hs (λ c i. d c (there i)))
 
-  raise-unplaced : (k : ℕ) (bs hs : List ℕ) → placeFrom p q k bs ≡ none → raiseHeard (senders bs) hs (made q t) ≡ hs
+  pub raise-unplaced : (k : ℕ) (bs hs : List ℕ) → placeFrom p q k bs ≡ none → raiseHeard (senders bs) hs (made q t) ≡ hs
   raise-unplaced k bs [] e = refl
   raise-unplaced k [] (h ∷ hs) e = refl
   raise-unplaced k (b ∷ bs) (h ∷ hs) e = one (eqb (channelAt p b .sender) q) (λ y. raise-unplaced (suc k) bs hs y) e
@@ -54,7 +54,7 @@ module _ (p : Plan) (q t : ℕ) where
       one true later y = none-some (sym y)
       one false later y = ap (λ (r : List ℕ). h ∷ r) (later y)
 
-  raise-placed : (k i : ℕ) {bs : List ℕ} (hs : List ℕ) → Apart p bs → length hs ≡ length bs → placeFrom p q k bs ≡ some i
+  pub raise-placed : (k i : ℕ) {bs : List ℕ} (hs : List ℕ) → Apart p bs → length hs ≡ length bs → placeFrom p q k bs ≡ some i
       → (j : ℕ) × (i ≡ k + j) × (raiseHeard (senders bs) hs (made q t) ≡ set hs j (max (getD hs j 0) t))
   raise-placed k i hs alone long e = none-some e
   raise-placed k i [] (beside d r) long e = let no : ⊥ = omega arith in absurd no

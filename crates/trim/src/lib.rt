@@ -198,3 +198,22 @@ fn raise_channels(s: &mut [u8], t: &[u8; 156], n: usize, count: usize)
         left = plan::masks::without(left, b);
     }
 }
+
+// Kind 6.
+pub fn trim(s: &mut [u8], n: usize) -> u32
+    requires { ⌜ Undamaged (now s) ⌝ }
+    ensures { λ r. ⌜ Did (now (s .entry)) (trim n) (now (s .exit)) r ⌝ }
+{
+    let number = refusal(s, n);
+    if number != 0 {
+        return number;
+    }
+    let mut joins = [255u8; 156];
+    table::fill(s, &mut joins);
+    let mut floors = [0u32; 12];
+    floors_of(s, &joins, &mut floors);
+    let count = run_of(s, n, &floors);
+    raise_channels(s, &joins, n, count);
+    node_fields::drop_entries(s, n, count);
+    0
+}

@@ -1,48 +1,59 @@
+use Prim.Native.Nat.{ℕ, _-_, min}
+use mathlib.Core.Path.{_≡_}
+use mathlib.Core.Logic.{⊎-elim}
+use native.Mathlib.Omega.{arith}
+use borrow.Author.Needs.{needs}
+use lib.ListN.{getD}
+use Rattle.state.specs.State.{lineOf}
+use Rattle.trim.specs.Trimmed.{heardLowers}
+use Rattle.trim.proofs.RowLaws.{RowsTo, rows-start, rows-set, rows-left, rows-end}
+use Rattle.trim.proofs.FloorLaws.{unheard, heard-place, heard-lowers}
 use Rattle.trim.proofs.lower_heard.Statement.{statement}
 use Rattle.trim.proofs.lower_heard.Tie as tie
-use Rattle.trim.proofs.lower_heard.Reads as reads
-use Rattle.trim.proofs.lower_heard.Lts as lts
-use Rattle.buffer.proofs.table.joined.Reads as joined-reads
-use Rattle.channel_fields.proofs.heard_of.Reads as heard-of-reads
-use Rattle.trim.proofs.lower.Reads as lower-reads
 
 abbrev Inv-loop : tie.InvT-loop
-Inv-loop s t b sender floors₀ q₀ floors q = ?
+Inv-loop s t b sender floors₀ q₀ floors q = RowsTo (heardLowers (lineOf s) b) floors₀ floors q
 
 abbrev μ-loop : tie.MeasureT-loop
-μ-loop s t b sender floors₀ q₀ floors q = ?
+μ-loop s t b sender floors₀ q₀ floors q = 12 - q
 
--- src/lib.rt:84:5
 loop-holds : tie.Need-loop-holds Inv-loop μ-loop
-loop-holds c = ?
+loop-holds c =
+    let first = c .before in
+    rows-start (heardLowers (lineOf (first .args .s .now)) (first .args .b)) (first .args .floors .now) (first .pre .4)
 
--- src/lib.rt:85:13
-joined-requires : tie.Need-joined-requires Inv-loop μ-loop
-joined-requires c κs = ?
-
--- src/lib.rt:87:30
 heard-of-requires : tie.Need-heard-of-requires Inv-loop μ-loop
-heard-of-requires c κs = ?
+heard-of-requires c κs =
+    let first = c .before .before .before .before .before .before in
+    let a = first .args in
+    let t = c .before .before .before .before .loop in
+    (first .pre .0, first .pre .2, heard-place (a .s .now) (first .pre .0) (a .b) (first .pre .2) (t .q) (c .before .before .joined .result) (rw (first .pre .3) at (c .before .before .joined .ensures)) (c .before .if1 .taken))
 
--- src/lib.rt:87:13
 lower-requires : tie.Need-lower-requires Inv-loop μ-loop
-lower-requires c κs = ?
+lower-requires c κs = (c .before .before .before .before .before .loop .inv .long, omega arith)
 
--- src/lib.rt:89:9
-add-q : tie.Need-add-q Inv-loop μ-loop
-add-q c = ?
-
--- src/lib.rt:84:5
-loop-less : tie.Need-loop-less Inv-loop μ-loop
-loop-less c = ?
-
--- src/lib.rt:84:5
 loop-again : tie.Need-loop-again Inv-loop μ-loop
-loop-again c = ?
+loop-again c =
+    let t = c .before .before .before .loop in
+    let first = c .before .before .before .before .before in
+    let a = first .args in
+    let code = c .before .joined .result in
+    let is = rw (first .pre .3) at (c .before .joined .ensures) in
+    let lowers = heardLowers (lineOf (a .s .now)) (a .b) in
+    ⊎-elim
+    (λ w.
+    (let old : getD (t .floors) (t .q) 0 ≡ getD (a .floors .now) (t .q) 0 = t .inv .rest (t .q) (omega arith) in
+    rw (w .4, w .3 .ensures)
+    (rows-set lowers (a .floors .now) (t .floors) (t .q) (t .inv) (omega arith) (min (getD (t .floors) (t .q) 0) (w .2 .result))
+    (rw (old, w .2 .ensures) (heard-lowers (a .s .now) (first .pre .0) (a .b) (first .pre .2) (t .q) code is (w .0 .taken) (getD (a .floors .now) (t .q) 0))))))
+    (λ w. rw (w .1) (rows-left lowers (a .floors .now) (t .floors) (t .q) (t .inv) (omega arith) (unheard (a .s .now) (first .pre .0) (a .b) (first .pre .2) (t .q) code is (w .0 .left) (getD (a .floors .now) (t .q) 0))))
+    (c .if1 .came)
 
--- src/lib.rt:79:1
 returns : tie.Need-returns Inv-loop μ-loop
-returns c = ?
+returns c =
+    let t = c .before .loop in
+    let a = c .before .before .before .args in
+    rows-end (heardLowers (lineOf (a .s .now)) (a .b)) (a .floors .now) (t .floors) (t .q) (t .inv) (λ q h k. (let no : ⊥ = omega arith in absurd no))
 
 pub lower-heard-spec : {M : Type 1} → statement M
 lower-heard-spec =
@@ -51,10 +62,10 @@ lower-heard-spec =
     Inv-loop
     μ-loop
     loop-holds
-    joined-requires
+    (λ c κs. (c .before .before .before .pre .0, c .before .before .before .pre .1))
     heard-of-requires
     lower-requires
-    add-q
-    loop-less
+    (λ c. omega arith)
+    (λ c. omega arith)
     loop-again
     returns)

@@ -1,48 +1,39 @@
+use Prim.Native.Nat.{ℕ, _-_}
+use mathlib.Core.Path.{_≡_, ap}
+use mathlib.Core.Bool.{not, _||_}
+use native.Mathlib.Omega.{arith}
+use Rattle.plan.specs.Plan.{nodeCount}
+use Rattle.rules.specs.Lists.{anyOf, upTo}
+use Rattle.rules.specs.Line.{nodeAt, isUp}
+use Rattle.rules.specs.Step.{notAllUp}
+use Rattle.state.specs.State.{lineOf}
+use Rattle.trim.proofs.AnswerLaws.{line-nodes, stoppedFrom, stopped-turn, stopped-end}
 use Rattle.trim.proofs.not_all_up.Statement.{statement}
 use Rattle.trim.proofs.not_all_up.Tie as tie
-use Rattle.trim.proofs.not_all_up.Reads as reads
-use Rattle.trim.proofs.not_all_up.Lts as lts
-use Rattle.buffer.proofs.look.is_down.Reads as is-down-reads
-use Rattle.buffer.proofs.look.is_replaying.Reads as is-replaying-reads
-use Rattle.buffer.proofs.look.node_count.Reads as node-count-reads
 
 abbrev Inv-loop : tie.InvT-loop
-Inv-loop s count found₀ n₀ found n = ?
+Inv-loop s count found₀ n₀ found n = (found || stoppedFrom (lineOf s) n count) ≡ notAllUp (lineOf s)
 
 abbrev μ-loop : tie.MeasureT-loop
-μ-loop s count found₀ n₀ found n = ?
+μ-loop s count found₀ n₀ found n = count - n
 
--- src/lib.rt:30:9
-node-count-requires : tie.Need-node-count-requires Inv-loop μ-loop
-node-count-requires c κs = ?
-
--- src/lib.rt:33:5
 loop-holds : tie.Need-loop-holds Inv-loop μ-loop
-loop-holds c = ?
+loop-holds c =
+    let s = c .before .before .args .s .now in
+    let count : c .node-count .result - 0 ≡ nodeCount (lineOf s .plan) = omega (arith, c .node-count .ensures .0, line-nodes s) in
+    ap (λ (k : ℕ). anyOf (λ (n : ℕ). not (isUp (nodeAt (lineOf s) n .status))) (upTo 0 k)) count
 
--- src/lib.rt:34:25
-is-down-requires : tie.Need-is-down-requires Inv-loop μ-loop
-is-down-requires c κs = ?
-
--- src/lib.rt:34:47
-is-replaying-requires : tie.Need-is-replaying-requires Inv-loop μ-loop
-is-replaying-requires c κs = ?
-
--- src/lib.rt:35:9
-add-n : tie.Need-add-n Inv-loop μ-loop
-add-n c = ?
-
--- src/lib.rt:33:5
-loop-less : tie.Need-loop-less Inv-loop μ-loop
-loop-less c = ?
-
--- src/lib.rt:33:5
 loop-again : tie.Need-loop-again Inv-loop μ-loop
-loop-again c = ?
+loop-again c =
+    let t = c .before .before .before .loop in
+    let a = c .before .before .before .before .before .before .args in
+    rw (c .before .is-down .ensures, c .is-replaying .ensures) (stopped-turn (lineOf (a .s .now)) (t .n) (c .before .before .before .before .node-count .result) (t .found) (notAllUp (lineOf (a .s .now))) (c .before .before .loop-test .taken) (t .inv))
 
--- src/lib.rt:26:1
 returns : tie.Need-returns Inv-loop μ-loop
-returns c = ?
+returns c =
+    let t = c .before .loop in
+    let a = c .before .before .before .before .args in
+    stopped-end (lineOf (a .s .now)) (t .n) (c .before .before .node-count .result) (t .found) (notAllUp (lineOf (a .s .now))) (omega (arith, c .loop-test .left)) (t .inv)
 
 pub not-all-up-spec : {M : Type 1} → statement M
 not-all-up-spec =
@@ -50,11 +41,11 @@ not-all-up-spec =
     (tie.spec
     Inv-loop
     μ-loop
-    node-count-requires
+    (λ c κs. c .before .pre)
     loop-holds
-    is-down-requires
-    is-replaying-requires
-    add-n
-    loop-less
+    (λ c κs. (c .before .before .before .before .pre, omega (arith, c .before .before .node-count .ensures .0)))
+    (λ c κs. (c .before .before .before .before .before .pre, omega (arith, c .before .before .before .node-count .ensures .0)))
+    (λ c. omega arith)
+    (λ c. omega arith)
     loop-again
     returns)

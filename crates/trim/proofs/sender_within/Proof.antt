@@ -1,46 +1,32 @@
+use Prim.Native.Nat.{ℕ, _-_, _≤_}
+use mathlib.Core.Path.{_≡_, sym, ap, _∙_}
+use native.Mathlib.Omega.{arith}
 use borrow.Author.Needs.{needs}
+use lib.Dec.{leb}
+use lib.ListN.{length, List·getD-eq-default}
+use Rattle.buffer.proofs.OriginLaws.{origin-none, origin-some}
+use Rattle.trim.specs.Trimmed.{senderWithin}
+use Rattle.trim.proofs.RunLaws.{within-none}
 use Rattle.trim.proofs.sender_within.Statement.{statement}
 use Rattle.trim.proofs.sender_within.Tie as tie
-use Rattle.trim.proofs.sender_within.Reads as reads
-use Rattle.trim.proofs.sender_within.Lts as lts
-use Rattle.buffer.proofs.look.index.Reads as index-reads
 
--- src/lib.rt:123:9
 returns : tie.Need-returns
-returns c = search needs
+returns c = let a = c .before .before .args in sym (ap (senderWithin (a .floors .now)) (origin-none (a .m .time) (a .m .from) (c .if1 .taken)))
 
--- src/lib.rt:125:30
-sub-index : tie.Need-sub-index
-sub-index c = search needs
-
--- src/lib.rt:125:9
-index-requires : tie.Need-index-requires
-index-requires c κs = search needs
-
--- src/lib.rt:127:9
 returns-2 : tie.Need-returns-2
-returns-2 c = ?
+returns-2 c =
+    let first = c .before .before .before .before .before .before in
+    let a = first .args in
+    let past : length (a .floors .now) ≤ a .m .from - 1 = omega (arith, first .pre, c .before .before .index .ensures .0, c .before .if2 .taken) in
+    within-none (a .m .time) ∙ sym (ap (senderWithin (a .floors .now)) (origin-some (a .m .time) (a .m .from) (c .before .before .before .before .if1 .left)) ∙ ap (leb (a .m .time)) (List·getD-eq-default (a .floors .now) 0 past))
 
--- src/lib.rt:129:15
-mul-result : tie.Need-mul-result
-mul-result c = search needs
-
--- src/lib.rt:129:15
-element-copy-out-result : tie.Need-element-copy-out-result
-element-copy-out-result c = search needs
-
--- src/lib.rt:118:1
 returns-3 : tie.Need-returns-3
-returns-3 c = ?
+returns-3 c =
+    let first = c .before .before .before .before .before .before .before in
+    let a = first .args in
+    rw (c .before .before .before .index .ensures .0) (sym (ap (senderWithin (a .floors .now)) (origin-some (a .m .time) (a .m .from) (c .before .before .before .before .before .if1 .left))))
 
 pub sender-within-spec : {M : Type 1} → statement M
 sender-within-spec =
     tie.close
-    (tie.spec
-    returns
-    sub-index
-    index-requires
-    returns-2
-    mul-result
-    element-copy-out-result
-    returns-3)
+    (tie.spec returns (λ c. search needs) (λ c κs. search needs) returns-2 (λ c. search needs) (λ c. search needs) returns-3)
