@@ -23,7 +23,7 @@ use Rattle.rules.specs.Recover.{childLows}
 use Rattle.rules.proofs.lists.Members.{In, here, there, map-same}
 use Rattle.rules.proofs.line.Joins.{entering-in, leaving-in}
 use Rattle.rules.proofs.steps.PlanOrder.{ordered-channels}
-use Rattle.items.proofs.Lookup.{Apart, alone, beside, entering-apart}
+use Rattle.items.proofs.Lookup.{Apart, beside, entering-apart}
 use Rattle.state.specs.State.{lineOf}
 use Rattle.state.proofs.InPlace.{line-plan}
 use Rattle.state.proofs.PlanFitting.{low-long}
@@ -43,6 +43,7 @@ module _ (p : Plan) (q : ℕ) where
       → entryFor q (senders p (b ∷ bs)) (drop place hs) ≡ cond (eqb (channelAt p b .sender) q) (getD hs place 0) (entryFor q (senders p bs) (drop (suc place) hs))
   entry-turn b bs hs place h = rw (drop-cons hs place 0 h)
 
+  -- A node that is no sender has none.
   entry-none : (bs hs : List ℕ) → ((c : ℕ) → In c bs → channelAt p c .sender ≢ q) → entryFor q (senders p bs) hs ≡ 0
   entry-none [] hs away = refl
   entry-none (b ∷ bs) [] away = refl
