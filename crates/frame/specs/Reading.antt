@@ -9,7 +9,7 @@ use Rattle.plan.specs.Record.{recordLayout, recordFits}
 use Rattle.rules.specs.Line.{consoleCount}
 use Rattle.rules.specs.Frame as rules
 use Rattle.frame.specs.declared.Frame.{Frame}
-use Rattle.frame.specs.declared.Frame.the-variants.{Feed, Send, Take, Crash, Recover}
+use Rattle.frame.specs.declared.Frame.the-variants.{Feed, Send, Take, Crash, Recover, Trim}
 use Rattle.frame.specs.declared.Reading.{Reading}
 use Rattle.frame.specs.declared.Reading.the-variants.{Refused, WellFormed}
 
@@ -20,6 +20,7 @@ Asks (Send b) g = g ≡ rules.send b
 Asks (Take b) g = g ≡ rules.take b
 Asks (Crash n) g = g ≡ rules.crash n
 Asks (Recover n) g = g ≡ rules.recover n
+Asks (Trim n) g = g ≡ rules.trim n
 
 -- A well-formed frame of a console, and what it asks.
 pub record AskedBy (frame : List ℕ) (console : ℕ) (f : Frame) : Type 0 where

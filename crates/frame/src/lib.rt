@@ -23,6 +23,7 @@ pub enum Frame {
     Take(usize),
     Crash(usize),
     Recover(usize),
+    Trim(usize),
 }
 
 // A frame as it is read: the first of 9, 10, 11 and 25 that applies; or the console whose frame it is, and what it asks.
@@ -74,7 +75,7 @@ fn bad_kind(frame: &[u8], kind: u8, extra: usize) -> bool
     ensures { λ r. ⌜ r ≡ badKind (now (frame .entry)) ⌝ }
 {
     let size = kind_size(kind) + extra;
-    !((1 <= kind) & (kind <= 5) & (frame.len() == size))
+    !((1 <= kind) & (kind <= 6) & (frame.len() == size))
 }
 
 // The number of a node or a channel, behind so many bytes for the console.
@@ -108,7 +109,8 @@ fn frame_of(frame: &[u8], kind: u8, extra: usize) -> Frame
         2 => Frame::Send(n),
         3 => Frame::Take(n),
         4 => Frame::Crash(n),
-        _ => Frame::Recover(n),
+        5 => Frame::Recover(n),
+        _ => Frame::Trim(n),
     }
 }
 

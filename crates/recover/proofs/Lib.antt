@@ -1,5 +1,6 @@
 -- What Recover's findings rest on.
 pub mod ChildLaws
+pub mod LowLaws
 pub mod TripleLaws
 pub mod OrderLaws
 pub mod TargetLaws

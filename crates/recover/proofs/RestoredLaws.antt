@@ -9,7 +9,8 @@ use lib.Dec.{eqb}
 use lib.ListN.{length, getD, set, replicate, length-set}
 use lib.Seq.{getD-set-same, getD-set-other}
 use Rattle.rules.specs.Line.{Target, Line}
-use Rattle.rules.specs.Recover.{lowOf, childTriples, restored}
+use Rattle.rules.specs.Lists.{greatestOf}
+use Rattle.rules.specs.Recover.{lowOf, childTriples, childLows, restored}
 use Rattle.basics.specs.Replicate.{replicate-default}
 use Rattle.recover.specs.Found.{restoredOver, rowsLong, Rows, raisedAt, raisedBy}
 use Rattle.recover.proofs.TripleLaws.{restored-append, restored-one, restored-is}
@@ -58,6 +59,6 @@ pub raised-more : (low : ℕ) (us vs : List Target) (start : List ℕ) {rows nex
     → Rows next (raisedBy start (λ q. restoredOver low q (us ++ vs)))
 raised-more low us vs start a b = record { long = b .long; each = λ q h. omega (arith, b .each q h, a .each q h, restored-append low q us vs) }
 
--- All the children's, in rows that are 0 before.
-pub restored-whole : (l : Line) (n low : ℕ) {start rows : List ℕ} → low ≡ lowOf l n → Rows start (λ q. 0) → Rows rows (raisedBy start (λ q. restoredOver low q (childTriples l n))) → Rows rows (restored l n)
-restored-whole l n low e none r = record { long = r .long; each = λ q h. omega (arith, r .each q h, none .each q h, restored-is l n q low e) }
+-- All the children's, in rows that hold their low clocks before.
+pub restored-whole : (l : Line) (n low : ℕ) {start rows : List ℕ} → low ≡ lowOf l n → Rows start (λ q. greatestOf (childLows l n q)) → Rows rows (raisedBy start (λ q. restoredOver low q (childTriples l n))) → Rows rows (restored l n)
+restored-whole l n low e lows r = record { long = r .long; each = λ q h. omega (arith, r .each q h, lows .each q h, restored-is l n q low e) }

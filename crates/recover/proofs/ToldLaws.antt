@@ -7,7 +7,8 @@ use native.Mathlib.Omega.{arith}
 use lib.ListN.{length, getD, take}
 use Rattle.plan.specs.Plan.{planChannels}
 use Rattle.rules.specs.Line.{Entry, Target}
-use Rattle.rules.specs.Recover.{lowOf, triples, restored, addTarget, targetsOf}
+use Rattle.rules.specs.Lists.{greatestOf}
+use Rattle.rules.specs.Recover.{lowOf, triples, childLows, restored, addTarget, targetsOf}
 use Rattle.state.specs.State.{lineOf}
 use Rattle.recover.specs.declared.Triple.{Triple}
 use Rattle.buffer.specs.Nothing.{noEntry}
@@ -68,8 +69,8 @@ module _ (s : List ℕ) (n low : ℕ) (xs rows : List ℕ) where
       → ChannelsTold (b + 1) zs r next
   channels-turn b ys count now zs r next h t k = record { within = omega arith; told = told-over low (sym (child-turn s n b h)) (told-more low (triplesTo s n b) (triplesOn s n b) (k .told) t) }
 
-  pub channels-end : (b : ℕ) (ys : List ℕ) (count : ℕ) (now : List ℕ) → planChannels s ≤ b → low ≡ lowOf (lineOf s) n → Rows rows (λ q. 0) → ChannelsTold b ys count now
+  pub channels-end : (b : ℕ) (ys : List ℕ) (count : ℕ) (now : List ℕ) → planChannels s ≤ b → low ≡ lowOf (lineOf s) n → Rows rows (λ q. greatestOf (childLows (lineOf s) n q)) → ChannelsTold b ys count now
       → Found ys count (targetsOf (lineOf s) n) × Rows now (restored (lineOf s) n)
-  channels-end b ys count now h e none k =
+  channels-end b ys count now h e lows k =
       let all = told-over low (child-whole s n b h) (k .told) in
-      (found-whole (lineOf s) n low e (all .changed), restored-whole (lineOf s) n low e none (all .raised))
+      (found-whole (lineOf s) n low e (all .changed), restored-whole (lineOf s) n low e lows (all .raised))

@@ -16,7 +16,7 @@ use Rattle.plan.proofs.PlanLaws.{channel-count}
 use Rattle.plan.proofs.ReadLaws.{byte-field}
 use Rattle.rules.specs.Lists.{keep, keepOne, joined, greatestOf}
 use Rattle.rules.specs.Line.{Entry, Target, Line, nodeAt}
-use Rattle.rules.specs.Recover.{lowOf, triple, triples, childTriples, restored}
+use Rattle.rules.specs.Recover.{lowOf, triple, triples, childTriples, childLows, restored}
 use Rattle.rules.proofs.lists.ListLaws.{nil-right, keep-append, map-append, map-more}
 use Rattle.state.specs.Sizes.{countSize, entrySize, pageAt, logAt}
 use Rattle.state.specs.Pieces.{originFrom, entryLayout}
@@ -153,6 +153,8 @@ module _ (low parent : ℕ) where
       one true = omega arith
       one false = omega arith
 
-pub restored-is : (l : Line) (n parent low : ℕ) → low ≡ lowOf l n → restoredOver low parent (childTriples l n) ≡ restored l n parent
+pub restored-is : (l : Line) (n parent low : ℕ) → low ≡ lowOf l n → max (greatestOf (childLows l n parent)) (restoredOver low parent (childTriples l n)) ≡ restored l n parent
 unfolding restored
-restored-is l n parent low e = ap (λ (k : ℕ). restoredOver k parent (childTriples l n)) e
+restored-is l n parent low e =
+    ap (λ (k : ℕ). max (greatestOf (childLows l n parent)) (restoredOver k parent (childTriples l n))) e
+    ∙ sym (greatest-append (childLows l n parent) (map (λ (t : Target). t .parentTime) (keep (counts (lowOf l n) parent) (childTriples l n))))

@@ -5,9 +5,9 @@ use mathlib.Core.Bool.{Bool, true, not, cond, _&&_, _||_}
 use mathlib.Core.List.{List, [], _∷_, _++_, map}
 use lib.Dec.{leb, ltb, eqb}
 use lib.ListN.{length, getD, set, take, drop}
-use Rattle.plan.specs.Plan.{planOf, planNodes, channelAt, entering}
+use Rattle.plan.specs.Plan.{planOf, planNodes, channelAt, entering, leaving}
 use Rattle.rules.specs.Lists.{keep, allOf, greatestOf}
-use Rattle.rules.specs.Line.{logLimit, Entry, Target, Line, nodeAt, senderOf, targetLimit}
+use Rattle.rules.specs.Line.{logLimit, Entry, Target, Line, nodeAt, laneAt, senderOf, targetLimit}
 use Rattle.rules.specs.Recover.{triple, triples, sameTarget, targetBefore, addTarget, sortTargets, restored, conflict, rowGoal}
 use Rattle.rules.specs.Damaged.{sameTargets}
 use Rattle.state.specs.Sizes.{pageAt, logAt}
@@ -47,6 +47,12 @@ triplesOn s n b = cond (eqb (channelAt (planOf s) b .sender) n) (triples n (chil
 -- The restored entry for a parent, by some triples.
 abbrev pub restoredOver : ℕ → ℕ → List Target → ℕ
 restoredOver low parent ts = greatestOf (map (λ (t : Target). t .parentTime) (keep (λ (t : Target). eqb (t .parent) parent && leb (t .time) low) ts))
+
+-- ---- low clocks
+
+-- The greatest entry at a place in the low clocks of a node's children.
+abbrev pub greatestLow : List ℕ → ℕ → ℕ → ℕ
+greatestLow s n place = greatestOf (map (λ (c : ℕ). getD (laneAt (lineOf s) c .low) place 0) (leaving (planOf s) n))
 
 -- ---- targets in a lent slice, three numbers each
 

@@ -13,6 +13,7 @@ use crate::ENTRIES;
 use crate::LOG;
 use crate::Triple;
 use crate::goals;
+use crate::lows;
 use crate::rows;
 use buffer::bytes;
 use buffer::layout;
@@ -182,11 +183,12 @@ fn told_on(
 }
 
 // Of a node. "Targets are the distinct triples (B-time, A, A-time) with B-time above low, over all children": how many, 65 for more than 64.
-// "the restored entry is the greatest A-time in children's log entries made from B's messages with B-time at most low, 0 if none": of each parent, in rows that are 0 before.
+// "the restored entry is the greatest A-time in children's log entries made from B's messages with B-time at most low, 0 if none", and at least what the children's low clocks hold: of each parent, in rows that are 0 before.
 pub fn told_of(s: &[u8], n: usize, low: u32, xs: &mut [u32], rows: &mut [u32; 12]) -> usize
     requires { ⌜ Ready (now s) × LogsCounted (now s) × (n < planNodes (now s)) × (low ≡ lowOf (lineOf (now s)) n) × (length (now xs) ≡ slotsLong) × Rows (now rows) (λ q. 0) ⌝ }
     ensures { λ r. ⌜ Found (now (xs .exit)) r (targetsOf (lineOf (now (s .entry))) n) × Rows (now (rows .exit)) (restored (lineOf (now (s .entry))) n) ⌝ }
 {
+    lows::lows_of(s, n, rows);
     let m = look::channel_count(s);
     let mut count: usize = 0;
     let mut b: usize = 0;

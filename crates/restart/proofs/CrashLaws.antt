@@ -13,7 +13,7 @@ use Rattle.buffer.specs.Holds.{Holds, AtNode, NodeNow, Undamaged, Did}
 use Rattle.restart.specs.Answers.{crashAnswer}
 use Rattle.restart.specs.Lanes.{wiped, cleared, crashedLanes}
 use Rattle.restart.specs.Nodes.{emptied}
-use Rattle.restart.proofs.FitsLaws.{ordered-of, heard-fresh}
+use Rattle.restart.proofs.FitsLaws.{ordered-of, lane-fresh}
 use Rattle.restart.proofs.StateLaws.{at-node}
 use Rattle.restart.proofs.SweepLaws.{swept-same}
 use Rattle.restart.proofs.AnswerLaws.{crash-number, crash-inside}
@@ -23,7 +23,7 @@ module _ (l : Line) (fits : LineFits l) where
   unfolding crashedLine withNode
   crash-lanes n =
       swept-same (λ c x. freshLane (l .plan) (channelAt (l .plan) c) 0) (λ c. cleared) (λ c. wiped) (λ c. cleared) (withNode n (emptied (nodeAt l n)) l) n (ordered-of l fits) (fits .lanes)
-      (λ c e. heard-fresh l fits c 0 (e .0)) (λ c e. refl)
+      (λ c e. lane-fresh l fits c 0 (e .0)) (λ c e. refl)
 
 module _ (s : List ℕ) (n : ℕ) (whole : Undamaged s) where
   pub crash-on : crashAnswer (lineOf s) n ≡ 0 → AtNode s n

@@ -1,6 +1,6 @@
 -- What a line that fits the layout gives: its order, its shape, and its lanes with nothing on them.
 use Prim.Native.Nat.{ℕ, _<_}
-use mathlib.Core.Path.{_≡_, ap}
+use mathlib.Core.Path.{_≡_}
 use mathlib.Core.List.{[]}
 use lib.ListN.{length, replicate}
 use Rattle.plan.specs.Plan.{channelAt, channelCount}
@@ -17,7 +17,7 @@ module _ (l : Line) (fits : LineFits l) where
   pub shape-of : Shape l
   shape-of = record { nodes-long = fits .nodes; lanes-long = fits .lanes }
 
-  -- What is heard on a channel, all 0.
-  pub heard-fresh : (c t : ℕ) → c < channelCount (l .plan) → record { mark = t; taken = t; heard = replicate (length (laneAt l c .heard)) 0; queue = [] } ≡ freshLane (l .plan) (channelAt (l .plan) c) t
+  -- What is heard on a channel, and its low clock, all 0.
+  pub lane-fresh : (c t : ℕ) → c < channelCount (l .plan) → record { mark = t; taken = t; heard = replicate (length (laneAt l c .heard)) 0; queue = []; low = replicate (length (laneAt l c .low)) 0 } ≡ freshLane (l .plan) (channelAt (l .plan) c) t
   unfolding freshLane heardCount
-  heard-fresh c t h = ap (λ (k : ℕ). record { mark = t; taken = t; heard = replicate k 0; queue = [] }) (fits .heard c h)
+  lane-fresh c t h = λ j. record { mark = t; taken = t; heard = replicate (fits .heard c h j) 0; queue = []; low = replicate (fits .low c h j) 0 }

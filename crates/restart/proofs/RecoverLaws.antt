@@ -12,6 +12,7 @@ use Rattle.plan.specs.Lawful.{Each}
 use Rattle.plan.specs.Plan.{planNodes, channelAt, nodeCount}
 use Rattle.rules.specs.Lists.{isEmpty}
 use Rattle.rules.specs.Line.{targetLimit, made, Target, Status, down, Node, Line, nodeAt, laneAt, withNode, freshLane, isDown}
+use Rattle.rules.specs.Damaged.{lowWrong}
 use Rattle.rules.specs.Frame.{recover}
 use Rattle.rules.specs.Recover.{lowOf, restored, targetsOf, statusOf, recovered}
 use Rattle.rules.specs.Step.{isNothing, nodeDown, effect, lineRefusal}
@@ -22,6 +23,7 @@ use Rattle.rules.proofs.invariant.InvLaws.{up-not-down}
 use Rattle.rules.proofs.theorem.Accepted.{is-down}
 use Rattle.rules.proofs.undamaged.Standing.{Empties, Standing}
 use Rattle.rules.proofs.undamaged.CrashSound.{stopped-marked}
+use Rattle.rules.proofs.undamaged.LowLaws.{low-within}
 use Rattle.rules.proofs.undamaged.Restored.{restoredNode}
 use Rattle.rules.proofs.undamaged.Undamaged.{undamaged-sound}
 use Rattle.state.specs.Fits.{LineFits, EntryFits, OriginFits}
@@ -34,7 +36,7 @@ use Rattle.recover.proofs.TargetLaws.{targets-at}
 use Rattle.restart.specs.Answers.{firstOf, recoverAsked, noOutcome}
 use Rattle.restart.specs.Lanes.{restoredTo, marked, restoredLanes}
 use Rattle.restart.specs.Nodes.{restoredBy, Fillable}
-use Rattle.restart.proofs.FitsLaws.{ordered-of, shape-of, heard-fresh}
+use Rattle.restart.proofs.FitsLaws.{ordered-of, shape-of, lane-fresh}
 use Rattle.restart.proofs.StateLaws.{line-nodes, at-node}
 use Rattle.restart.proofs.SweepLaws.{swept-same}
 use Rattle.restart.proofs.AnswerLaws.{asked-inside, asked-down, asked-number, found-number, effect-none, effect-some}
@@ -67,14 +69,17 @@ module _ (l : Line) (fits : LineFits l) (standing : Standing l) (n : ℕ) (insid
       let crashed = stopped-marked l standing n inside (λ e. up-not-down (sym e ∙ stopped)) in
       λ j. record { status = statusOf (targetsOf l n); crashed = crashed j; time = lowOf l n; log = blank .1 j; held = blank .2 j; targets = targetsOf l n }
 
-  -- A channel that enters it has nothing on it, and its clock is 0.
+  -- A channel that enters it has nothing on it, and its clock is 0, and so is its low clock, which is never past it.
   entered-is : (c t : ℕ) → Enters (l .plan) n c → restoredTo t (laneAt l c) ≡ freshLane (l .plan) (channelAt (l .plan) c) t
+  unfolding lowWrong
   entered-is c t e =
       let on = standing .channels c (e .0) in
       let own : nodeAt l (channelAt (l .plan) c .receiver) .status ≡ down = ap (λ (k : ℕ). nodeAt l k .status) (e .1) ∙ stopped in
       let heard = all-zero (laneAt l c .heard) (λ u i. on .cleared own u (there i)) in
+      let long : length (laneAt l c .low) ≡ suc (length (laneAt l c .heard)) = on .fits .low-long ∙ ap suc (sym (on .fits .heard-long)) in
+      let low = all-zero (laneAt l c .low) (λ u i. (let z = low-within 0 (laneAt l c .low) (laneAt l c .taken ∷ laneAt l c .heard) long (on .fits .low-below) (λ t k. omega (arith, on .cleared own t k)) u i in omega arith)) in
       let queue = on .stopped (or-down (nodeDown l (channelAt (l .plan) c .sender)) (nodeDown l (channelAt (l .plan) c .receiver)) (ap isDown own)) .1 in
-      (λ j. record { mark = t; taken = t; heard = heard j; queue = queue j }) ∙ heard-fresh l fits c t (e .0)
+      (λ j. record { mark = t; taken = t; heard = heard j; queue = queue j; low = low j }) ∙ lane-fresh l fits c t (e .0)
     where
       or-down : (a b : Bool) → b ≡ true → (a || b) ≡ true
       or-down true b q = refl

@@ -22,12 +22,12 @@ byEnds false false f g x = x
 abbrev pub atEnds : Plan → ℕ → (ℕ → Lane → Lane) → (ℕ → Lane → Lane) → ℕ → Lane → Lane
 atEnds p n f g b x = byEnds (eqb (channelAt p b .receiver) n) (eqb (channelAt p b .sender) n) (f b) (g b) x
 
--- Crash: the clock of a channel that enters goes with it; that of one that leaves is the child's.
+-- Crash: the clocks of a channel that enters go with it; those of one that leaves are the child's.
 abbrev pub wiped : Lane → Lane
-wiped x = record { mark = 0; taken = 0; heard = replicate (length (x .heard)) 0; queue = [] }
+wiped x = record { mark = 0; taken = 0; heard = replicate (length (x .heard)) 0; queue = []; low = replicate (length (x .low)) 0 }
 
 abbrev pub cleared : Lane → Lane
-cleared x = record { mark = 0; taken = x .taken; heard = x .heard; queue = [] }
+cleared x = record { mark = 0; taken = x .taken; heard = x .heard; queue = []; low = x .low }
 
 abbrev pub crashedOn : Plan → ℕ → ℕ → Lane → Lane
 crashedOn p n = atEnds p n (λ b. wiped) (λ b. cleared)

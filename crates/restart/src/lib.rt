@@ -102,7 +102,7 @@ fn empty_node(s: &mut [u8], n: usize)
     node_fields::clear_targets(s, n);
 }
 
-// A channel that enters it, with its clock; one that leaves it, whose clock is the child's.
+// A channel that enters it, with its clock and its low clock; one that leaves it, whose clocks are the child's.
 fn wipe(s: &mut [u8], b: usize)
     requires { ⌜ AtLane (now s) b ⌝ }
     ensures { λ _. ⌜ LaneNow (now (s .entry)) b wiped (now (s .exit)) ⌝ }
@@ -111,6 +111,7 @@ fn wipe(s: &mut [u8], b: usize)
     channel_fields::set_taken(s, b, 0);
     channel_fields::clear_heard(s, b);
     channel_fields::clear_queue(s, b);
+    channel_fields::clear_low(s, b);
 }
 
 fn clear(s: &mut [u8], b: usize)
