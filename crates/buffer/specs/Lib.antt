@@ -6,5 +6,6 @@ pub mod Ready
 pub mod Look
 pub mod Table
 pub mod Check
+pub mod Rows
 pub mod Nothing
 pub mod Holds

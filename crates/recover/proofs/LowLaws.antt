@@ -30,7 +30,8 @@ use Rattle.state.proofs.PlanFitting.{low-long}
 use Rattle.buffer.specs.Ready.{Ready}
 use Rattle.buffer.proofs.ReadyLaws.{heard-entering}
 use Rattle.buffer.proofs.MaskWalk.{Left, Next, left-none}
-use Rattle.recover.specs.Found.{greatestLow, rowsLong, Rows, raisedAt}
+use Rattle.buffer.specs.Rows.{rowsLong, Rows}
+use Rattle.recover.specs.Found.{greatestLow, raisedAt}
 
 -- ---- the entry for a parent
 

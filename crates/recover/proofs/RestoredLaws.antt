@@ -12,7 +12,8 @@ use Rattle.rules.specs.Line.{Target, Line}
 use Rattle.rules.specs.Lists.{greatestOf}
 use Rattle.rules.specs.Recover.{lowOf, childTriples, childLows, restored}
 use Rattle.basics.specs.Replicate.{replicate-default}
-use Rattle.recover.specs.Found.{restoredOver, rowsLong, Rows, raisedAt, raisedBy}
+use Rattle.buffer.specs.Rows.{rowsLong, Rows}
+use Rattle.recover.specs.Found.{restoredOver, raisedAt, raisedBy}
 use Rattle.recover.proofs.TripleLaws.{restored-append, restored-one, restored-is}
 
 -- ---- rows

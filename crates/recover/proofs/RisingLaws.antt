@@ -15,7 +15,8 @@ use Rattle.rules.specs.Line.{Target}
 use Rattle.rules.specs.Recover.{clash, conflict, rowGoal}
 use Rattle.rules.proofs.lists.ListLaws.{keep-append, map-append, map-more}
 use Rattle.items.proofs.Tests.{any-append}
-use Rattle.recover.specs.Found.{targetAt, targetsIn, rowsLong, Rows, raisedAt, isAbove}
+use Rattle.buffer.specs.Rows.{rowsLong, Rows}
+use Rattle.recover.specs.Found.{targetAt, targetsIn, raisedAt, isAbove}
 use Rattle.recover.proofs.ChildLaws.{greatest-append, high-snoc}
 use Rattle.recover.proofs.TargetLaws.{targets-length, targets-at}
 

@@ -16,7 +16,8 @@ use Rattle.rules.specs.Line.{Target, Line}
 use Rattle.rules.specs.Recover.{clash, conflict, restored, rowGoal}
 use Rattle.state.specs.State.{lineOf}
 use Rattle.state.proofs.InPlace.{line-plan}
-use Rattle.recover.specs.Found.{targetAt, targetsIn, rowsLong, Rows, rowReached, rowIn, rowsIn}
+use Rattle.buffer.specs.Rows.{rowsLong, Rows}
+use Rattle.recover.specs.Found.{targetAt, targetsIn, rowReached, rowIn, rowsIn}
 use Rattle.recover.proofs.ChildLaws.{numbersTo, numbers-turn, numbers-whole}
 use Rattle.recover.proofs.TargetLaws.{targets-length, targets-at}
 

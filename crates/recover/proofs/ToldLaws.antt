@@ -12,7 +12,8 @@ use Rattle.rules.specs.Recover.{lowOf, triples, childLows, restored, addTarget,
 use Rattle.state.specs.State.{lineOf}
 use Rattle.recover.specs.declared.Triple.{Triple}
 use Rattle.buffer.specs.Nothing.{noEntry}
-use Rattle.recover.specs.Found.{tripleOf, tripleList, triplesOn, target, slotsLong, Kept, Changed, addAbove, Found, rowsLong, Rows, raisedAt, Told}
+use Rattle.buffer.specs.Rows.{rowsLong, Rows}
+use Rattle.recover.specs.Found.{tripleOf, tripleList, triplesOn, target, slotsLong, Kept, Changed, addAbove, Found, raisedAt, Told}
 use Rattle.recover.proofs.TripleLaws.{triples-turn, triples-whole, triplesTo, child-turn, child-whole}
 use Rattle.recover.proofs.FoundLaws.{no-change, changed-as, above-one, above-none, changed-more, found-whole}
 use Rattle.recover.proofs.RestoredLaws.{raised-one, raised-none, raised-nothing, raised-more, restored-whole}

@@ -14,6 +14,7 @@ use Rattle.state.specs.Sizes.{pageAt, logAt}
 use Rattle.state.specs.Right.{wordAt}
 use Rattle.state.specs.State.{lineOf}
 use Rattle.buffer.specs.Nothing.{noEntry}
+use Rattle.buffer.specs.Rows.{rowsLong, Rows}
 use Rattle.recover.specs.declared.Triple.{Triple}
 
 -- Every node's log is within its limit.
@@ -120,14 +121,6 @@ pub record Found (xs : List ℕ) (r : ℕ) (ts : List Target) : Type 0 where
   pub holds : Holds xs r ts
 
 -- ---- a number for each parent
-
-abbrev pub rowsLong : ℕ
-rowsLong = 12
-
--- What stands for each parent is as a function says.
-pub record Rows (rows : List ℕ) (f : ℕ → ℕ) : Type 0 where
-  pub long : length rows ≡ rowsLong
-  pub each : (q : ℕ) → q < rowsLong → getD rows q 0 ≡ f q
 
 -- The greater of what stood and a time, of one parent; and of what stood and what a function says, of each.
 abbrev pub raisedAt : List ℕ → ℕ → ℕ → ℕ → ℕ

@@ -29,7 +29,7 @@ use Rattle.buffer.specs.Ready.{Ready}
 use Rattle.buffer.specs.Holds.{Holds, AtNode, Undamaged, Did}
 use Rattle.buffer.proofs.HoldsLaws.{holds-channels}
 use Rattle.passing.proofs.RefusalLaws.{refused, accepted}
-use Rattle.recover.specs.Found.{Rows}
+use Rattle.buffer.specs.Rows.{Rows}
 use Rattle.replay_table.specs.Ends.{heldWith, loggedFrom, Ends}
 use Rattle.replay.specs.After.{rowsAfter, wouldHold, takenNow, heldMore, endedNode, Loggable, Seen}
 use Rattle.replay.proofs.TakeLaws.{inside, as-in, goes-on, comes-up, ended-is, number-is}

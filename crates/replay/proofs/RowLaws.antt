@@ -19,7 +19,8 @@ use Rattle.state.specs.State.{lineOf}
 use Rattle.state.proofs.InPlace.{line-plan}
 use Rattle.buffer.specs.Nothing.{noTarget}
 use Rattle.buffer.proofs.LookLaws.{numbersOn, numbers-turn, numbers-end}
-use Rattle.recover.specs.Found.{Rows, raisedAt}
+use Rattle.buffer.specs.Rows.{Rows}
+use Rattle.recover.specs.Found.{raisedAt}
 use Rattle.replay.specs.After.{takenAfter, rowAfter}
 
 -- One target in front of others.

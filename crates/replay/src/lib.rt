@@ -16,7 +16,7 @@ ghost use Rattle.state.specs.State.{lineOf};
 ghost use Rattle.buffer.specs.Nothing.{noHeld};
 ghost use Rattle.buffer.specs.Holds.{Holds, AtNode, NodeNow, Undamaged, Did};
 ghost use Rattle.slots.specs.Slots.{messageIs, entryIs, heldIs};
-ghost use Rattle.recover.specs.Found.{Rows};
+ghost use Rattle.buffer.specs.Rows.{Rows};
 ghost use Rattle.replay_table.specs.Ends.{loggedFrom};
 ghost use Rattle.replay.specs.After.{rowAfter, rowsAfter, wouldHold, First, takenNow, heldMore, endedNode, Loggable, Open};
 use buffer::Line;

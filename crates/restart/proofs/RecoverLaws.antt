@@ -31,7 +31,8 @@ use Rattle.state.specs.State.{lineOf}
 use Rattle.buffer.specs.Holds.{Holds, AtNode, NodeNow, Undamaged, Did}
 use Rattle.buffer.proofs.HoldsLaws.{node-fits, node-log-counted}
 use Rattle.buffer.specs.Nothing.{noTarget}
-use Rattle.recover.specs.Found.{targetAt, targetsIn, LogsCounted, Found, Rows}
+use Rattle.buffer.specs.Rows.{Rows}
+use Rattle.recover.specs.Found.{targetAt, targetsIn, LogsCounted, Found}
 use Rattle.recover.proofs.TargetLaws.{targets-at}
 use Rattle.restart.specs.Answers.{firstOf, recoverAsked, noOutcome}
 use Rattle.restart.specs.Lanes.{restoredTo, marked, restoredLanes}

@@ -30,7 +30,8 @@ use Rattle.buffer.specs.Ready.{Ready}
 use Rattle.buffer.specs.Table.{codeOr}
 use Rattle.buffer.proofs.ReadyLaws.{heard-entering}
 use Rattle.buffer.proofs.TableLaws.{coded, not-placed}
-use Rattle.trim.specs.Trimmed.{Rows, lowersAt, heardLowers, channelLowers}
+use Rattle.buffer.specs.Rows.{Rows}
+use Rattle.trim.specs.Trimmed.{lowersAt, heardLowers, channelLowers}
 use Rattle.trim.proofs.RowLaws.{rows-one}
 
 -- ---- a node's place among the senders of some channels

@@ -8,7 +8,7 @@ use native.Mathlib.Omega.{arith}
 use lib.ListN.{length, getD, set, length-set}
 use lib.Seq.{getD-set-same, getD-set-other}
 use Rattle.basics.specs.Bools.{below-or-not}
-use Rattle.trim.specs.Trimmed.{Rows}
+use Rattle.buffer.specs.Rows.{Rows}
 
 -- The rows of the nodes before i are as a function of the node and what stood says; the others as they were.
 pub record RowsTo (f : ℕ → ℕ → ℕ) (old rows : List ℕ) (i : ℕ) : Type 0 where

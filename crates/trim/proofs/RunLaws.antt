@@ -11,7 +11,8 @@ use Rattle.basics.specs.Bools.{below-or-not}
 use Rattle.rules.specs.Line.{Origin, fed, made, Entry, Node, Line, freshNode, nodeAt}
 use Rattle.rules.specs.Trim.{entriesFor, floorTime, senderBelow, droppable, leading, behind}
 use Rattle.rules.proofs.lists.Members.{here, in-least}
-use Rattle.trim.specs.Trimmed.{Rows, senderWithin, entryWithin}
+use Rattle.buffer.specs.Rows.{Rows}
+use Rattle.trim.specs.Trimmed.{senderWithin, entryWithin}
 
 -- ---- the run as a number
 

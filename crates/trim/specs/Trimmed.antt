@@ -15,11 +15,6 @@ use Rattle.items.specs.Items.{placeFrom}
 abbrev pub trimAnswer : Line → ℕ → ℕ
 trimAnswer l n = elim (leb (nodeCount (l .plan)) n) [ true ↦ 13 | false ↦ elim (notAllUp l) [ true ↦ 26 | false ↦ 0 ] ]
 
--- What stands for each node is as a function says.
-pub record Rows (rows : List ℕ) (f : ℕ → ℕ) : Type 0 where
-  pub long : length rows ≡ 12
-  pub each : (q : ℕ) → q < 12 → getD rows q 0 ≡ f q
-
 -- A node's time so far, lowered by what channel b's receiver holds for it: through the sender, if the node is a parent of it; and as the sender.
 abbrev pub lowersAt : Option ℕ → List ℕ → ℕ → ℕ
 lowersAt none hs k = k

@@ -7,7 +7,7 @@ use Rattle.rules.specs.Line.{Target, nodeAt}
 use Rattle.rules.specs.Recover.{rowGoal}
 use Rattle.state.specs.State.{lineOf}
 use Rattle.slots.specs.Slots.{targetIs}
-use Rattle.recover.specs.Found.{Rows}
+use Rattle.buffer.specs.Rows.{Rows}
 use Rattle.replay.proofs.RowLaws.{GoalsFrom, goals-turn}
 use Rattle.replay.proofs.fill_goals.Statement.{statement}
 use Rattle.replay.proofs.fill_goals.Tie as tie

@@ -3,7 +3,7 @@ use native.Mathlib.Omega.{arith}
 use borrow.Author.Needs.{needs}
 use Prim.Native.Nat.{ℕ, _<_, max}
 use lib.ListN.{getD}
-use Rattle.recover.specs.Found.{rowsLong}
+use Rattle.buffer.specs.Rows.{rowsLong}
 use Rattle.replay.proofs.RowLaws.{row-else, row-here, taken-else, taken-here}
 use Rattle.replay.proofs.row_after.Statement.{statement}
 use Rattle.replay.proofs.row_after.Tie as tie

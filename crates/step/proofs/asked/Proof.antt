@@ -23,10 +23,15 @@ returns-4 c g asks = same-asked (subst (λ (f : Frame). Asks f g) (c .before .be
 returns-5 : tie.Need-returns-5
 returns-5 c g asks = same-asked (subst (λ (f : Frame). Asks f g) (c .before .before .before .before .before .f5 .given .1) asks) (c .before .before .recover .ensures)
 
+returns-6 : tie.Need-returns-6
+returns-6 c g asks = same-asked (subst (λ (f : Frame). Asks f g) (c .before .before .before .before .before .f6 .given .1) asks) (c .before .before .trim .ensures)
+
 pub asked-spec : {M : Type 1} → statement M
 asked-spec =
     tie.close
     (tie.spec
+    (λ c. search needs)
+    (λ c κs. c .before .before .before .before .before .pre)
     (λ c. search needs)
     (λ c κs. c .before .before .before .before .before .pre)
     (λ c. search needs)
@@ -46,4 +51,6 @@ asked-spec =
     (λ c. search needs)
     returns-4
     (λ c. search needs)
-    returns-5)
+    returns-5
+    (λ c. search needs)
+    returns-6)

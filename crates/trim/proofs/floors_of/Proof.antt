@@ -4,7 +4,7 @@ use native.Mathlib.Omega.{arith}
 use borrow.Author.Needs.{needs}
 use Rattle.plan.specs.Plan.{planChannels}
 use Rattle.state.specs.State.{lineOf}
-use Rattle.trim.specs.Trimmed.{Rows}
+use Rattle.buffer.specs.Rows.{Rows}
 use Rattle.trim.proofs.FloorLaws.{floorTo, floor-turn, floors-found}
 use Rattle.trim.proofs.floors_of.Statement.{statement}
 use Rattle.trim.proofs.floors_of.Tie as tie

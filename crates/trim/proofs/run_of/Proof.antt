@@ -45,11 +45,13 @@ returns c =
 
 loop-again : tie.Need-loop-again Inv-loop μ-loop
 loop-again c =
-    let t = c .before .before .before .before .loop in
-    (omega arith, λ j h. elim (below-or-not j (t .i)) [
-      | inl k ↦ t .inv .1 j k
-      | inr k ↦ (let same : t .i ≡ j = omega arith in rw (← same) (sym (entry-asked (c .before)) ∙ not-false (c .before .entry-within .result) (c .if1 .left)))
-    ])
+    let t = c .before .before .before .before .loop in (
+      omega arith,
+      λ j h. elim (below-or-not j (t .i)) [
+        | inl k ↦ t .inv .1 j k
+        | inr k ↦ (let same : t .i ≡ j = omega arith in rw (← same) (sym (entry-asked (c .before)) ∙ not-false (c .before .entry-within .result) (c .if1 .left)))
+      ],
+    )
 
 returns-2 : tie.Need-returns-2 Inv-loop μ-loop
 returns-2 c =

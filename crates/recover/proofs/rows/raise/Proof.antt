@@ -4,7 +4,8 @@ use native.Mathlib.Omega.{arith}
 use borrow.Author.Needs.{needs}
 use borrow.Author.Tests.{lt-ltb, le-ltb}
 use lib.ListN.{getD, set}
-use Rattle.recover.specs.Found.{Rows, raisedAt}
+use Rattle.buffer.specs.Rows.{Rows}
+use Rattle.recover.specs.Found.{raisedAt}
 use Rattle.recover.proofs.RestoredLaws.{raised-here, raised-not}
 use Rattle.recover.proofs.rows.raise.Statement.{statement}
 use Rattle.recover.proofs.rows.raise.Tie as tie

@@ -7,7 +7,7 @@ use Rattle.plan.specs.Plan.{planOf, planChannels, channelAt}
 use Rattle.state.specs.State.{lineOf}
 use Rattle.buffer.specs.Ready.{OnChannel}
 use Rattle.buffer.proofs.ReadyLaws.{sender-inside}
-use Rattle.recover.specs.Found.{rowsLong}
+use Rattle.buffer.specs.Rows.{rowsLong}
 use Rattle.recover.proofs.RowLaws.{RowsBefore, row-same, rows-turn, rows-whole}
 use Rattle.recover.proofs.rows.rows_restored.Statement.{statement}
 use Rattle.recover.proofs.rows.rows_restored.Tie as tie
