@@ -75,7 +75,7 @@ pub fn all() -> Vec<Floor> {
         ],
     );
     floors.extend(under(section::SHEETS, 200, [kind::LIMITS, kind::LONG]));
-    floors.extend(under(section::SHEETS, 150, [kind::KEPT]));
+    floors.extend(under(section::SHEETS, 180, [kind::KEPT]));
     floors.extend(under(section::SHEETS, SHIFTS, [kind::MANY]));
     floors.extend(under(section::SHEETS, 1, [kind::MILLION]));
     floors.extend(under(section::PIECES, 20_000, [WHOLE]));
@@ -86,7 +86,7 @@ pub fn all() -> Vec<Floor> {
     floors.extend(under(
         section::ANSWERS,
         20,
-        (1..=7).chain(9..=21).chain([25]).map(answer),
+        (1..=7).chain(9..=21).chain([25, 26]).map(answer),
     ));
     let callers = Caller::ALL.iter().map(Caller::to_string);
     floors.extend(under(section::CALLERS, 20_000, callers));
