@@ -34,13 +34,18 @@ impl InPlace<'_> {
         for (node, floor) in floors.iter_mut().enumerate() {
             *floor = number_at(self.node(node), TIME);
         }
+        // Channels rise by their senders: a sender's parents have been met before it.
+        let mut parents = [[0; Plan::MOST_AT_A_NODE]; Plan::MOST_NODES];
+        let mut counts = [0; Plan::MOST_NODES];
         for channel in 0..self.channel_count {
-            let (sender, _) = self.ends(channel);
-            floors[sender] = floors[sender].min(self.taken(channel));
-            for (row, before) in self.parents(sender).enumerate() {
-                let heard = number_at(self.channel(channel), heard(row));
-                floors[before] = floors[before].min(heard);
+            let (sender, receiver) = self.ends(channel);
+            let block = self.channel(channel);
+            floors[sender] = floors[sender].min(number_at(block, TAKEN));
+            for (row, &before) in parents[sender][..counts[sender]].iter().enumerate() {
+                floors[before] = floors[before].min(number_at(block, heard(row)));
             }
+            parents[receiver][counts[receiver]] = sender;
+            counts[receiver] += 1;
         }
         floors
     }
