@@ -182,7 +182,9 @@ pub fn many(random: &mut Random, shift: usize) -> Vec<u8> {
 pub fn million(random: &mut Random) -> Vec<u8> {
     let mut typed: Typed = staged::worn();
     play_to_the_end(random, &mut typed);
-    play(random, &mut typed);
+    for _ in 0..4 {
+        play(random, &mut typed);
+    }
     typed.every_frame(random);
     typed.bytes
 }

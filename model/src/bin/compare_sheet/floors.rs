@@ -39,6 +39,7 @@ pub const PIECES: [(&str, usize); 5] = [
 
 pub const IN_BOTH: &str = "written alike with the plan in the other version";
 pub const AFTER_ANOTHERS_LAST: &str = "after 12 from another console";
+pub const TRIM: &str = "Trims, from any";
 
 /// Lines of the text, by the first that they are.
 pub mod line {
@@ -91,6 +92,7 @@ pub fn all() -> Vec<Floor> {
     let callers = Caller::ALL.iter().map(Caller::to_string);
     floors.extend(under(section::CALLERS, 20_000, callers));
     floors.extend(under(section::CALLERS, 20, [AFTER_ANOTHERS_LAST]));
+    floors.extend(under(section::CALLERS, 20_000, [TRIM]));
     let lines = line::KINDS.iter().map(|(name, _)| *name);
     floors.extend(under(section::LINES, 1_000, lines));
     floors
