@@ -23,7 +23,7 @@ pub const STATE: u32 = 8;
 pub const FRAME_LENGTH: u32 = 9;
 /// "Frame version."
 pub const FRAME_VERSION: u32 = 10;
-/// "Kind not 1..5, or length not the kind's."
+/// "Kind not 1..5, or length not the kind's"; kind 6 is Trim since.
 pub const FRAME_KIND: u32 = 11;
 /// "1,000,000 steps accepted", of the caller's.
 pub const STEPS_USED_UP: u32 = 12;
@@ -51,3 +51,5 @@ pub const NO_SPACE: u32 = 21;
 pub const NO_REPLAY: u32 = 24;
 /// "A console above 3, after 11."
 pub const NO_SUCH_CONSOLE: u32 = 25;
+/// "After 13, a Trim while a node is down or replaying."
+pub const SOME_NOT_UP: u32 = 26;

@@ -1,5 +1,6 @@
 //! Document 01, "Clocks and steps": the clock of a node.
 
+use crate::line::Origin;
 use crate::plan::Plan;
 
 /// "A node has a time (0 at first) and a clock: its time, for each parent the
@@ -65,6 +66,28 @@ impl Clock {
     pub fn raise_heard(&mut self, parent: usize, before: usize, time: u32) {
         let part = self.part_mut(parent).expect("a parent");
         part.raise_taken(before, time);
+    }
+
+    /// Raises the entries by an input and by what that was made from.
+    pub fn raise_by(&mut self, input: Origin, input_made_from: Option<Origin>) {
+        self.raise_taken(input.sender, input.time);
+        if let Some(origin) = input_made_from {
+            self.raise_heard(input.sender, origin.sender, origin.time);
+        }
+    }
+
+    /// Whether no entry is above the other clock's in the same place.
+    pub fn is_within(&self, other: &Clock) -> bool {
+        let mut parts = self.parents.iter().zip(&other.parents);
+        self.time <= other.time && parts.all(|(part, other)| part.is_within(other))
+    }
+
+    /// Lowers, by the numbers of the nodes, what is above a time held for them.
+    pub fn lower(&self, times: &mut [u32]) {
+        times[self.node] = self.time.min(times[self.node]);
+        for part in &self.parents {
+            part.lower(times);
+        }
     }
 
     /// The clock's times, layer within layer.

@@ -1,5 +1,5 @@
 //! Document 01, "The line" and "Clocks and steps": the state of a line and its
-//! load. The steps stand in the modules below, one for a paragraph.
+//! load. The steps stand in the modules below, one for a paragraph or a request.
 
 mod damaged;
 mod frame;
@@ -9,6 +9,7 @@ mod replay;
 mod step;
 #[cfg(test)]
 mod tests;
+mod trim;
 
 pub use damaged::damaged;
 pub use frame::{Caller, Frame};
@@ -73,6 +74,9 @@ pub struct Node {
     pub crash_marked: bool,
     /// The node's time is the clock's root.
     pub clock: Clock,
+    /// What Trim has dropped: "the greatest time for each parent and, through it,
+    /// for each of its parents". Its root stays 0.
+    pub low_clock: Clock,
     pub log: Vec<Entry>,
     /// Rising.
     pub targets: Vec<Target>,
@@ -81,6 +85,19 @@ pub struct Node {
 }
 
 impl Node {
+    /// Up, all of it 0.
+    fn empty(plan: &Plan, number: usize) -> Node {
+        Node {
+            status: Status::Up,
+            crash_marked: false,
+            clock: Clock::empty(plan, number),
+            low_clock: Clock::empty(plan, number),
+            log: Vec::new(),
+            targets: Vec::new(),
+            buffered: Vec::new(),
+        }
+    }
+
     pub fn time(&self) -> u32 {
         self.clock.time
     }
@@ -129,14 +146,7 @@ impl Line {
     /// The line of an accepted plan before any step.
     pub fn of(plan: Plan) -> Line {
         let nodes = (0..plan.node_count())
-            .map(|node| Node {
-                status: Status::Up,
-                crash_marked: false,
-                clock: Clock::empty(&plan, node),
-                log: Vec::new(),
-                targets: Vec::new(),
-                buffered: Vec::new(),
-            })
+            .map(|node| Node::empty(&plan, node))
             .collect();
         let queues = vec![Queue::default(); plan.channels.len()];
         Line {

@@ -62,7 +62,7 @@ impl Order {
                     time: after.nodes[node].time(),
                 });
             }
-            Frame::Send { .. } => {}
+            Frame::Send { .. } | Frame::Trim { .. } => {}
             Frame::Take { channel } => {
                 let message = before.queues[usize::from(channel)].messages[0];
                 let channel = &before.plan.channels[usize::from(channel)];

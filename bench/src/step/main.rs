@@ -120,6 +120,9 @@ fn main() {
     row("Take that ends with 64 records", &ending, from(3, &ending));
     let by_rows = staged::holding_by_rows(Line::MOST_TARGETS - 1);
     row("the same, taken row by row", &by_rows, from(3, &by_rows));
+    let trim = Frame::Trim { node: 5 };
+    row("Trim that drops 64", &staged::heard_by_all(), trim);
+    row("Trim that drops nothing of 64", &staged::half_heard(), trim);
     // The same lines as those above.
     row("Feed, plan of version 2", &staged::by_mass(nearly), feed);
     let take = from(3, &ending);

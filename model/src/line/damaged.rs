@@ -1,5 +1,5 @@
-//! Document 01, the paragraph "Damaged", as far as it speaks of more than
-//! bytes: their number and the unused ones have no place in the structs.
+//! Document 01, the paragraph "Damaged", and request 2026-04, as far as they speak
+//! of more than bytes: their number and the unused ones have no place in the structs.
 
 use super::{restart, Entry, Line, Node, Origin, Queue, Status};
 use crate::clock::Clock;
@@ -12,6 +12,7 @@ pub fn damaged(line: &Line) -> bool {
         && are_numbers_within_limits(line)
         && are_senders_right(line)
         && are_times_reached(line)
+        && are_low_clocks_within(line)
         && is_log_sound(line)
         && is_buffer_sound(line)
         && are_queues_sound(line)
@@ -30,11 +31,10 @@ fn is_plan_accepted(line: &Line) -> bool {
 fn has_plans_shape(line: &Line) -> bool {
     line.nodes.len() == line.plan.node_count()
         && line.queues.len() == line.plan.channels.len()
-        && line
-            .nodes
-            .iter()
-            .enumerate()
-            .all(|(number, node)| has_shape(&node.clock, &Clock::empty(&line.plan, number)))
+        && line.nodes.iter().enumerate().all(|(number, node)| {
+            let wanted = Clock::empty(&line.plan, number);
+            has_shape(&node.clock, &wanted) && has_shape(&node.low_clock, &wanted)
+        })
 }
 
 fn has_shape(clock: &Clock, wanted: &Clock) -> bool {
@@ -150,6 +150,14 @@ fn are_times_reached(line: &Line) -> bool {
                 .all(|message| is_reached(message.time) && is_origin_reached(message.made_from))
     });
     are_nodes_reached && are_queues_reached
+}
+
+/// Not: "a low clock entry above the node's clock". So it is reached too, and a down
+/// node's is empty. It has no entry for the node itself.
+fn are_low_clocks_within(line: &Line) -> bool {
+    line.nodes
+        .iter()
+        .all(|node| node.low_clock.time == 0 && node.low_clock.is_within(&node.clock))
 }
 
 /// Not: "a message's time is 0"; "log times don't rise strictly or pass the
@@ -280,16 +288,8 @@ fn are_replays_as_recovered(line: &Line) -> bool {
         .filter(|(_, node)| node.status == Status::Replaying)
         .all(|(number, node)| {
             let restart = restart(line, number);
-            let is_complete_at_once = restart.restored.iter().all(|restored| {
-                let row = restart
-                    .targets
-                    .iter()
-                    .filter(|target| target.parent == restored.sender);
-                row.clone()
-                    .all(|target| restored.time >= target.parent_time)
-            });
             restart.check_targets().is_ok()
-                && !is_complete_at_once
+                && !restart.is_complete()
                 && node.time() == restart.low
                 && node.targets == restart.targets
         })

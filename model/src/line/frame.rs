@@ -1,5 +1,5 @@
-//! Document 01, "Clocks and steps", and request 2026-01: a frame, who sends it,
-//! and its bytes.
+//! Document 01, "Clocks and steps", and requests 2026-01 and 2026-04: a frame, who
+//! sends it, and its bytes.
 
 use std::fmt;
 
@@ -26,6 +26,9 @@ pub enum Frame {
         node: u8,
     },
     Recover {
+        node: u8,
+    },
+    Trim {
         node: u8,
     },
 }
@@ -94,6 +97,7 @@ impl Frame {
             (3, &[channel]) => Frame::Take { channel },
             (4, &[node]) => Frame::Crash { node },
             (5, &[node]) => Frame::Recover { node },
+            (6, &[node]) => Frame::Trim { node },
             _ => return Err(FRAME_KIND),
         };
         if caller.console() >= Line::CONSOLES {
@@ -115,6 +119,7 @@ impl Frame {
             Frame::Take { channel } => (3, channel),
             Frame::Crash { node } => (4, node),
             Frame::Recover { node } => (5, node),
+            Frame::Trim { node } => (6, node),
         };
         let mut bytes = match caller {
             Caller::Unnamed => vec![0, 0, 1, kind, place],

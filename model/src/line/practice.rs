@@ -25,8 +25,8 @@ const DRAWS: usize = 8;
 /// What is done on a line, and how often.
 pub struct Practice {
     /// Shares of the frames: feeds, sends, takes, crashes, recoveries, sends
-    /// and takes for nodes that replay.
-    shares: [usize; 6],
+    /// and takes for nodes that replay, trims.
+    shares: [usize; 7],
     /// A bit for each channel that is sent and taken on seldom: so children part
     /// ways.
     lazy: u32,
@@ -45,6 +45,7 @@ impl Practice {
                 random.pick(&[1, 2, 4]),
                 random.pick(&[2, 4, 16]),
                 random.pick(&[4, 8, 16]),
+                random.pick(&[1, 4, 8]),
             ],
             lazy: (random.draw() & random.draw()) as u32,
             strays: random.pick(&[8, 32, 128]),
@@ -101,6 +102,7 @@ impl Practice {
                 }
             }
             4 => Frame::Recover { node: node as u8 },
+            6 => Frame::Trim { node: node as u8 },
             _ => {
                 let replaying = line.plan.channels.iter().map(|channel| channel.receiver);
                 let replaying = replaying

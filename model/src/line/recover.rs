@@ -1,5 +1,5 @@
-//! Document 01, "Clocks and steps", kind 5: what Recover works out from the
-//! children, and what it leaves.
+//! Document 01, "Clocks and steps", kind 5, and request 2026-04: what Recover works
+//! out from the children, and what it leaves.
 
 use std::collections::BTreeSet;
 
@@ -7,7 +7,7 @@ use super::{Line, Origin, Status, Target};
 use crate::answer::{NO_REPLAY, NO_SPACE, WRONG_STATUS};
 use crate::clock::Clock;
 
-/// What the children's logs and clocks tell node B.
+/// What the children's logs, clocks and low clocks tell node B.
 #[derive(Clone, Debug, PartialEq, Eq)]
 pub struct Restart {
     pub low: u32,
@@ -32,12 +32,16 @@ pub fn restart(line: &Line, node: usize) -> Restart {
         .collect();
     // "For each parent A, the restored entry is the greatest A-time in
     // children's log entries made from B's messages with B-time at most low, 0
-    // if none."
+    // if none." "Recover starts the restored entries from the children's low
+    // clocks."
     let restored_entry = |parent| {
+        let children = line.plan.children(node);
+        let trimmed = children.map(|child| line.nodes[child].low_clock.heard(node, parent));
         triples
             .iter()
             .filter(|triple| triple.parent == parent && triple.time <= low)
             .map(|triple| triple.parent_time)
+            .chain(trimmed)
             .max()
             .unwrap_or(0)
     };
@@ -80,6 +84,16 @@ impl Restart {
             return Err(NO_REPLAY);
         }
         Ok(())
+    }
+
+    /// Whether the restored entries complete all rows at once.
+    pub fn is_complete(&self) -> bool {
+        self.restored.iter().all(|restored| {
+            let mut targets = self.targets.iter();
+            targets.all(|target| {
+                target.parent != restored.sender || restored.time >= target.parent_time
+            })
+        })
     }
 
     /// Not: "targets give one time two inputs or one input two times".

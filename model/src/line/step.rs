@@ -1,13 +1,12 @@
 //! Document 01, "Clocks and steps": the step and its kinds Feed, Send, Take
 //! and Crash. Recover stands in `recover`, what Take does to a replay in
-//! `replay`.
+//! `replay`, Trim in `trim`.
 
 use super::{Entry, Frame, Line, Message, Node, Origin, Queue, Status};
 use crate::answer::{
     ACCEPTED, CHANNEL_FULL, CRASHED_NEIGHBOUR, NOTHING_THERE, NO_SPACE, NO_SUCH_PLACE,
     ROW_COMPLETE, STEPS_USED_UP, WRONG_PLACE, WRONG_RECORD, WRONG_STATUS,
 };
-use crate::clock::Clock;
 use crate::record::Record;
 
 /// The answer. A refusal leaves the line as it was.
@@ -21,8 +20,8 @@ pub fn step(line: &mut Line, frame: &[u8]) -> u32 {
     }
 }
 
-/// The line after the step, or the refusal. Checks 9 to 11, 25, 12 to 21 and then
-/// 24; 8 is seen to before: the line is undamaged.
+/// The line after the step, or the refusal. Checks 9 to 11, 25, 12, 13, 26, 14 to 21
+/// and then 24; 8 is seen to before: the line is undamaged.
 pub fn stepped(line: &Line, frame: &[u8]) -> Result<Line, u32> {
     let (caller, frame) = Frame::read(frame)?;
     // "Refusal 12 looks only at the caller's."
@@ -35,6 +34,7 @@ pub fn stepped(line: &Line, frame: &[u8]) -> Result<Line, u32> {
         Frame::Take { channel } => line.take(channel.into()),
         Frame::Crash { node } => line.crash(node.into()),
         Frame::Recover { node } => line.recover(node.into()),
+        Frame::Trim { node } => line.trim(node.into()),
     }?;
     next.steps[caller.console()] += 1;
     Ok(next)
@@ -84,12 +84,13 @@ impl Line {
         }
         let mut next = self.clone();
         next.queues[channel].messages.remove(0);
-        next.raise_clock(receiver, sender, &message);
         let record = self.plan.rules[receiver].apply(message.record);
         let made_from = Origin {
             sender,
             time: message.time,
         };
+        let clock = &mut next.nodes[receiver].clock;
+        clock.raise_by(made_from, message.made_from);
         if replaying {
             next.buffer(receiver, record, made_from, message.made_from)?;
             next.end_replay_if_complete(receiver)?;
@@ -101,7 +102,7 @@ impl Line {
 
     /// "The node is down and crash-marked for good; its log, clock, time,
     /// targets and held records, and its belts' messages and marks, are emptied
-    /// to 0."
+    /// to 0." Of its low clock: "Crash empties it".
     fn crash(&self, node: usize) -> Result<Line, u32> {
         self.check_router(node)?;
         if self.is_down(node) {
@@ -115,10 +116,7 @@ impl Line {
         next.nodes[node] = Node {
             status: Status::Down,
             crash_marked: true,
-            clock: Clock::empty(&self.plan, node),
-            log: Vec::new(),
-            targets: Vec::new(),
-            buffered: Vec::new(),
+            ..Node::empty(&self.plan, node)
         };
         for channel in self.plan.entering(node).chain(self.plan.leaving(node)) {
             next.queues[channel] = Queue::default();
@@ -127,7 +125,7 @@ impl Line {
     }
 
     /// 13 of a node.
-    fn check_node(&self, node: usize) -> Result<(), u32> {
+    pub(super) fn check_node(&self, node: usize) -> Result<(), u32> {
         if node < self.nodes.len() {
             Ok(())
         } else {
@@ -173,14 +171,6 @@ impl Line {
         log.iter()
             .map(|entry| entry.message)
             .find(|message| message.time > mark && wanted.takes(&message.record))
-    }
-
-    fn raise_clock(&mut self, node: usize, sender: usize, message: &Message) {
-        let clock = &mut self.nodes[node].clock;
-        clock.raise_taken(sender, message.time);
-        if let Some(origin) = message.made_from {
-            clock.raise_heard(sender, origin.sender, origin.time);
-        }
     }
 
     /// Raises the node's time by 1 and logs the record, which is one that the

@@ -4,6 +4,7 @@ mod damage;
 mod handmade;
 mod practised;
 mod refusals;
+mod trims;
 
 use super::*;
 use crate::plain::{Act, PlainLine};
@@ -37,6 +38,10 @@ fn crash(node: u8) -> Vec<u8> {
 
 fn recover(node: u8) -> Vec<u8> {
     Frame::Recover { node }.write()
+}
+
+fn trim(node: u8) -> Vec<u8> {
+    Frame::Trim { node }.write()
 }
 
 fn accept(line: &mut Line, frames: &[Vec<u8>]) {

@@ -1,3 +1,5 @@
+mod trims;
+
 use super::*;
 use crate::answer::{ACCEPTED, NO_REPLAY};
 use crate::line::practice::{caller, Practice};
@@ -44,6 +46,7 @@ fn order_of_received_records() {
     let mut quiet_ends = [0; 2];
     let mut ended_replays = [0; 2];
     let mut crashes_while_replaying = [0; 2];
+    let mut trims_that_drop = [0; 2];
     for _ in 0..600 {
         let mut line = Line::of(any_plan(&mut random));
         let version = usize::from(line.plan.version == Version::Second);
@@ -63,6 +66,9 @@ fn order_of_received_records() {
                     }
                 }
             }
+            if answer == ACCEPTED && trimmed(&before, &frame, &line) > 0 {
+                trims_that_drop[version] += 1;
+            }
             if random.one_in(8) {
                 assert!(order.holds(&line), "{:?}", line.plan);
             }
@@ -74,10 +80,23 @@ fn order_of_received_records() {
         quiet_ends[version] += usize::from(is_quiet(&line));
     }
     println!("{quiet_ends:?} quiet, {ended_replays:?} ended, {crashes_while_replaying:?} crashed");
+    println!("{trims_that_drop:?} trims");
     for version in 0..2 {
         assert!(quiet_ends[version] > 100, "{quiet_ends:?}");
         assert!(ended_replays[version] > 100, "{ended_replays:?}");
         let crashes = crashes_while_replaying[version];
         assert!(crashes > 25, "{crashes_while_replaying:?}");
+        assert!(trims_that_drop[version] > 50, "{trims_that_drop:?}");
+    }
+}
+
+/// How many entries an accepted frame drops by a Trim.
+fn trimmed(before: &Line, frame: &[u8], after: &Line) -> usize {
+    match Frame::read(frame) {
+        Ok((_, Frame::Trim { node })) => {
+            let entries = |line: &Line| line.nodes[usize::from(node)].log.len();
+            entries(before) - entries(after)
+        }
+        _ => 0,
     }
 }

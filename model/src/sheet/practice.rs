@@ -13,7 +13,7 @@ use crate::state::practice::{play, play_to_the_end, replay_on, staged, Played};
 const MANY_FRAMES: usize = 70_000;
 /// The bytes of a frame of each kind in each version: so far apart, the same bytes
 /// come again, records and consoles aside.
-pub const SHIFTS: usize = 71;
+pub const SHIFTS: usize = 82;
 
 /// A sheet, and the line that it leads to.
 pub struct Typed {
@@ -170,7 +170,7 @@ pub fn many(random: &mut Random, shift: usize) -> Vec<u8> {
     let mut first = vec![0; Frame::LEAST_LENGTH + shift];
     first[1] = first.len() as u8;
     typed.step(&first);
-    let length = typed.bytes.len() + MANY_FRAMES / 10 * SHIFTS;
+    let length = typed.bytes.len() + MANY_FRAMES / 12 * SHIFTS;
     while typed.bytes.len() < length {
         typed.every_frame(random);
     }
@@ -182,7 +182,9 @@ pub fn many(random: &mut Random, shift: usize) -> Vec<u8> {
 pub fn million(random: &mut Random) -> Vec<u8> {
     let mut typed: Typed = staged::worn();
     play_to_the_end(random, &mut typed);
-    play(random, &mut typed);
+    for _ in 0..4 {
+        play(random, &mut typed);
+    }
     typed.every_frame(random);
     typed.bytes
 }

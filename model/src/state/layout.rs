@@ -97,8 +97,16 @@ pub const QUEUE: Slots = Slots {
     most: Line::MOST_MESSAGES,
 };
 
+/// The receiver's low clock: for the sender, then for the sender's parents.
+pub const LOW: usize = QUEUE.end();
+pub const LOW_END: usize = low_heard(Plan::MOST_AT_A_NODE);
+
 pub const fn heard(row: usize) -> usize {
     HEARD + NUMBER * row
+}
+
+pub const fn low_heard(row: usize) -> usize {
+    LOW + heard(row) - TAKEN
 }
 
 /// Places within a slot; each but a target begins with its record.

@@ -19,7 +19,7 @@ pub use conditions::CLAUSES;
 pub use features::FEATURES;
 pub use harmless::HARMLESS;
 pub use places::{places, Place};
-pub use runs::{any_record, call, lines, play, play_to_the_end, replay_on, Played};
+pub use runs::{any_record, call, lines, play, play_to_the_end, replay_on, trim_all, Played};
 pub use scrambles::SCRAMBLES;
 pub use slots::SHUFFLES;
 
@@ -83,7 +83,13 @@ pub fn damaged(random: &mut Random, lines: &[Line], visit: Visit) {
 pub fn staged(random: &mut Random, visit: Visit) {
     let small = [staged::fresh(), staged::mixed()].map(|line| (line, true));
     let longest = staged::by_mass(staged::full());
-    let large = [staged::full(), longest, staged::replaying()].map(|line| (line, false));
+    let large = [
+        staged::full(),
+        longest,
+        staged::replaying(),
+        staged::trimmed(),
+    ];
+    let large = large.map(|line| (line, false));
     for (line, is_small) in small.into_iter().chain(large) {
         reached(&line, visit);
         made_of(random, &line, visit);

@@ -51,23 +51,25 @@ fn read_node(state: &[u8], plan: &Plan, number: usize) -> Option<Node> {
             1 => true,
             _ => return None,
         },
-        clock: read_clock(state, plan, number),
+        clock: Clock {
+            time: number_at(block, TIME),
+            ..read_parts(state, plan, number, TAKEN)
+        },
+        low_clock: read_parts(state, plan, number, LOW),
         log: read_slots(block, LOG, read_entry)?,
         buffered: read_slots(block, BUFFERED, read_buffered)?,
         targets: read_slots(block, TARGETS, read_target)?,
     })
 }
 
-/// The node's time stands with the node, its other times with the entering
-/// channels.
-fn read_clock(state: &[u8], plan: &Plan, number: usize) -> Clock {
+/// The parts of a clock stand with the entering channels, each at such a place.
+fn read_parts(state: &[u8], plan: &Plan, number: usize, place: usize) -> Clock {
     let mut clock = Clock::empty(plan, number);
-    clock.time = number_at(state, node(number) + TIME);
     for (part, entering) in clock.parents.iter_mut().zip(plan.entering(number)) {
-        let block = &state[channel(entering)..][..CHANNEL_LENGTH];
-        part.time = number_at(block, TAKEN);
-        for (row, before) in part.parents.iter_mut().enumerate() {
-            before.time = number_at(block, heard(row));
+        let times = state[channel(entering) + place..].chunks_exact(NUMBER);
+        let before = part.parents.iter_mut().map(|before| &mut before.time);
+        for (time, bytes) in [&mut part.time].into_iter().chain(before).zip(times) {
+            *time = number_at(bytes, 0);
         }
     }
     clock

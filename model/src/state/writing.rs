@@ -1,8 +1,7 @@
 //! A line written to the bytes of a state.
 
 use super::layout::*;
-use crate::clock::Clock;
-use crate::line::{Buffered, Entry, Line, Message, Node, Origin, Queue, Status, Target};
+use crate::line::{Buffered, Entry, Line, Message, Node, Origin, Status, Target};
 
 /// The line has no more of anything than there are slots.
 pub fn line_bytes(line: &Line) -> Vec<u8> {
@@ -15,9 +14,16 @@ pub fn line_bytes(line: &Line) -> Vec<u8> {
         write_node(&mut state[node(number)..][..NODE_LENGTH], each);
     }
     for (number, (queue, ends)) in line.queues.iter().zip(&line.plan.channels).enumerate() {
-        let clock = &line.nodes[ends.receiver].clock;
-        let part = clock.part(ends.sender).expect("a parent");
-        write_channel(&mut state[channel(number)..][..CHANNEL_LENGTH], queue, part);
+        let block = &mut state[channel(number)..][..CHANNEL_LENGTH];
+        put_number(block, MARK, queue.mark);
+        write_slots(block, QUEUE, &queue.messages, write_message);
+        let receiver = &line.nodes[ends.receiver];
+        for (place, clock) in [(TAKEN, &receiver.clock), (LOW, &receiver.low_clock)] {
+            let part = clock.part(ends.sender).expect("a parent");
+            for (row, time) in part.times().into_iter().enumerate() {
+                put_number(block, place + NUMBER * row, time);
+            }
+        }
     }
     state
 }
@@ -33,15 +39,6 @@ fn write_node(block: &mut [u8], node: &Node) {
     write_slots(block, LOG, &node.log, write_entry);
     write_slots(block, BUFFERED, &node.buffered, write_buffered);
     write_slots(block, TARGETS, &node.targets, write_target);
-}
-
-fn write_channel(block: &mut [u8], queue: &Queue, part: &Clock) {
-    put_number(block, MARK, queue.mark);
-    put_number(block, TAKEN, part.time);
-    for (row, before) in part.parents.iter().enumerate() {
-        put_number(block, heard(row), before.time);
-    }
-    write_slots(block, QUEUE, &queue.messages, write_message);
 }
 
 fn write_slots<T>(block: &mut [u8], slots: Slots, parts: &[T], write: fn(&mut [u8], &T)) {

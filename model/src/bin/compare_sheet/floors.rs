@@ -39,6 +39,7 @@ pub const PIECES: [(&str, usize); 5] = [
 
 pub const IN_BOTH: &str = "written alike with the plan in the other version";
 pub const AFTER_ANOTHERS_LAST: &str = "after 12 from another console";
+pub const TRIM: &str = "Trims, from any";
 
 /// Lines of the text, by the first that they are.
 pub mod line {
@@ -75,7 +76,7 @@ pub fn all() -> Vec<Floor> {
         ],
     );
     floors.extend(under(section::SHEETS, 200, [kind::LIMITS, kind::LONG]));
-    floors.extend(under(section::SHEETS, 150, [kind::KEPT]));
+    floors.extend(under(section::SHEETS, 180, [kind::KEPT]));
     floors.extend(under(section::SHEETS, SHIFTS, [kind::MANY]));
     floors.extend(under(section::SHEETS, 1, [kind::MILLION]));
     floors.extend(under(section::PIECES, 20_000, [WHOLE]));
@@ -86,11 +87,12 @@ pub fn all() -> Vec<Floor> {
     floors.extend(under(
         section::ANSWERS,
         20,
-        (1..=7).chain(9..=21).chain([25]).map(answer),
+        (1..=7).chain(9..=21).chain([25, 26]).map(answer),
     ));
     let callers = Caller::ALL.iter().map(Caller::to_string);
     floors.extend(under(section::CALLERS, 20_000, callers));
     floors.extend(under(section::CALLERS, 20, [AFTER_ANOTHERS_LAST]));
+    floors.extend(under(section::CALLERS, 20_000, [TRIM]));
     let lines = line::KINDS.iter().map(|(name, _)| *name);
     floors.extend(under(section::LINES, 1_000, lines));
     floors

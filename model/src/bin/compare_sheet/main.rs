@@ -18,13 +18,13 @@ use model::random::Random;
 use model::sheet::vectors::answers;
 use model::sheet::{parts, practice, sheet, sheet_in_place, sheet_told};
 
-use floors::{kind, line, section, AFTER_ANOTHERS_LAST, IN_BOTH, PIECES, WHOLE};
+use floors::{kind, line, section, AFTER_ANOTHERS_LAST, IN_BOTH, PIECES, TRIM, WHOLE};
 
 /// Each has its share of the sheets.
 const WORKERS: usize = 2;
 
-const RIGHT: usize = 8_000;
-const SLIPPED: usize = 6_000;
+const RIGHT: usize = 7_000;
+const SLIPPED: usize = 5_500;
 const RAW: usize = 4_000;
 const LIMITS: usize = 200;
 const LONG: usize = 400;
@@ -199,8 +199,11 @@ impl Work<'_> {
         if answer != ACCEPTED {
             return;
         }
-        let (caller, _) = Frame::read(frame).expect("an accepted frame");
+        let (caller, asked) = Frame::read(frame).expect("an accepted frame");
         self.counts.add(section::CALLERS, caller.to_string());
+        if matches!(asked, Frame::Trim { .. }) {
+            self.counts.add(section::CALLERS, TRIM);
+        }
         if is_one_used_up {
             self.counts.add(section::CALLERS, AFTER_ANOTHERS_LAST);
         }

@@ -20,6 +20,7 @@ pub mod section {
     pub const BOTH: &str = "the same step with the plan in either version";
     pub const FROM_ALL: &str = "the same step from every caller";
     pub const EVENTS: &str = "what steps do and why they are refused";
+    pub const REFILLED: &str = "accepted where the log has been full and was trimmed";
     pub const HARMLESS: &str = "undamaged states that no run leads to, each with every frame";
     pub const DAMAGED: &str = "damaged states";
 }
@@ -61,7 +62,7 @@ pub fn all() -> Vec<Floor> {
     floors.extend(under(
         section::ANSWERS,
         1_000,
-        (8..=21).chain([24, 25]).map(answer),
+        (8..=21).chain(24..=26).map(answer),
     ));
     floors.extend(under(section::VERSIONS, 1_000, VERSIONS.map(version)));
     floors.extend(under(section::VERSIONS, 1_000, [OTHER_VERSION]));
@@ -81,6 +82,9 @@ pub fn all() -> Vec<Floor> {
     floors.extend(under(section::FROM_ALL, 1_000, FROM_ALL));
     let events = EVENTS.iter().map(|event| event.name);
     floors.extend(under(section::EVENTS, 100, events));
+    let [feed, take] = REFILLED;
+    floors.extend(under(section::REFILLED, 500, [feed]));
+    floors.extend(under(section::REFILLED, 50, [take]));
     let harmless = HARMLESS.iter().map(|harmless| harmless.name);
     floors.extend(under(section::HARMLESS, 20, harmless));
     let damaged = DAMAGED.iter().map(|kind| format!("{kind:?}"));
@@ -117,7 +121,10 @@ pub const FROM_ALL: [&str; 4] = [
     "12 from some, refused from others",
 ];
 
-const KINDS: [&str; 5] = ["Feed", "Send", "Take", "Crash", "Recover"];
+/// Of a source and of a sink: no Crash empties their logs.
+pub const REFILLED: [&str; 2] = ["a Feed", "a Take of a sink"];
+
+const KINDS: [&str; 6] = ["Feed", "Send", "Take", "Crash", "Recover", "Trim"];
 
 pub fn kind(frame: &Frame, is_accepted: bool) -> String {
     let kind = match frame {
@@ -126,6 +133,7 @@ pub fn kind(frame: &Frame, is_accepted: bool) -> String {
         Frame::Take { .. } => 2,
         Frame::Crash { .. } => 3,
         Frame::Recover { .. } => 4,
+        Frame::Trim { .. } => 5,
     };
     outcome(KINDS[kind], is_accepted)
 }

@@ -9,14 +9,14 @@ use model::line::practice::{
 use model::line::{Frame, Line};
 use model::plan::practice::any_plan;
 use model::random::Random;
-use model::state::practice::{self, call, replay_on, staged, Case, Kind, Played};
+use model::state::practice::{self, call, replay_on, staged, trim_all, Case, Kind, Played};
 use model::state::{self, direct, line_bytes};
 
 use crate::floors::{self, on, section, with};
 use crate::states::States;
 
 /// How often each staged line's replays are played.
-const STAGED_RUNS: usize = 100;
+const STAGED_RUNS: usize = 60;
 /// How often wrong frames are drawn for a state.
 const WRONG: usize = 8;
 /// One call in so many is made from every caller, one with the plan in either
@@ -47,6 +47,14 @@ impl Played for Playing<'_> {
     fn step(&mut self, frame: &[u8]) -> u32 {
         self.run
             .call(&mut self.states, self.kind, with::PLAYED, frame, true)
+    }
+}
+
+fn play_on(random: &mut Random, playing: &mut Playing, frames: usize) {
+    let mut practice = Practice::new(random);
+    for _ in 0..frames {
+        let frame = practice.frame(random, playing.line());
+        playing.step(&frame);
     }
 }
 
@@ -132,11 +140,7 @@ impl Run {
             Kind::Disturbed => self.try_every_frame(random, &mut states, on::CHANGED),
             _ => {
                 let mut playing = self.playing(states, on::CHANGED);
-                let mut practice = Practice::new(random);
-                for _ in 0..4 {
-                    let frame = practice.frame(random, playing.line());
-                    playing.step(&frame);
-                }
+                play_on(random, &mut playing, 4);
             }
         }
     }
@@ -170,7 +174,7 @@ impl Run {
     }
 
     /// The staged lines in both versions, with every frame; their replays to the
-    /// end.
+    /// end, a Trim of each node and some steps more.
     pub fn stage(&mut self) {
         self.seed = 0;
         let mut random = Random::new(0);
@@ -181,6 +185,9 @@ impl Run {
             staged::nearly_full(),
             staged::replaying(),
             staged::down(),
+            staged::half_heard(),
+            staged::heard_by_all(),
+            staged::trimmed(),
         ];
         let by_mass = lines.clone().map(staged::by_mass);
         for line in lines.into_iter().chain(by_mass) {
@@ -194,6 +201,8 @@ impl Run {
                     call(&mut random, &mut playing, Frame::Recover { node });
                 }
                 while replay_on(&mut random, &mut playing).is_some() {}
+                trim_all(&mut random, &mut playing);
+                play_on(&mut random, &mut playing, 16);
             }
         }
     }
@@ -253,6 +262,9 @@ impl Run {
                 frame: asked,
                 after: outcome.map_err(|&refusal| refusal),
             });
+            if after.is_ok() {
+                self.count_refilled(states, before, asked);
+            }
             if self.random.one_in(AGAIN) {
                 self.call_from_all(before, &states.bytes, asked);
             }
@@ -298,6 +310,22 @@ impl Run {
                 let row = floors::both(answer == ACCEPTED);
                 self.counts.add(section::BOTH, row);
             }
+        }
+    }
+
+    fn count_refilled(&mut self, states: &States, before: &Line, accepted: Frame) {
+        let [feed, take] = floors::REFILLED;
+        let (row, node) = match accepted {
+            Frame::Feed { node, .. } => (feed, usize::from(node)),
+            Frame::Take { channel } => {
+                let receiver = before.plan.channels[usize::from(channel)].receiver;
+                (take, receiver)
+            }
+            _ => return,
+        };
+        let is_kept = before.plan.is_source(node) || before.plan.is_sink(node);
+        if is_kept && states.has_been_full(node) {
+            self.counts.add(section::REFILLED, row);
         }
     }
 

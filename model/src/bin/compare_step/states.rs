@@ -39,6 +39,8 @@ pub struct States {
     pub bytes: Vec<u8>,
     /// One for each of those beside the model.
     lent: Vec<Lent>,
+    /// A bit for each node whose log has been full.
+    full: u32,
 }
 
 /// The line after an accepted step with its bytes, or the refusal.
@@ -62,14 +64,17 @@ impl States {
             line: Some(line),
             bytes,
             lent: loaded,
+            full: 0,
         })
     }
 
     pub fn of(random: &mut Random, bytes: &[u8]) -> States {
         let lent = BESIDE.iter().map(|_| Lent::new(random, bytes));
+        let line = undamaged(bytes);
         States {
             lent: lent.collect(),
-            line: undamaged(bytes),
+            full: line.as_ref().map_or(0, full),
+            line,
             bytes: bytes.to_vec(),
         }
     }
@@ -98,7 +103,14 @@ impl States {
         Ok(after)
     }
 
+    /// Whether the node's log has been full and now is not.
+    pub fn has_been_full(&self, node: usize) -> bool {
+        let full = self.line.as_ref().map_or(0, full);
+        (self.full & !full) >> node & 1 == 1
+    }
+
     pub fn go_on(&mut self, line: Line, bytes: Vec<u8>) {
+        self.full |= full(&line);
         self.line = Some(line);
         self.bytes = bytes;
     }
@@ -109,4 +121,12 @@ impl States {
             lent.bytes_mut().copy_from_slice(&self.bytes);
         }
     }
+}
+
+/// A bit for each node whose log is full.
+fn full(line: &Line) -> u32 {
+    let nodes = line.nodes.iter().enumerate();
+    nodes
+        .filter(|(_, node)| node.log.len() == Line::MOST_ENTRIES)
+        .fold(0, |full, (number, _)| full | 1 << number)
 }

@@ -25,7 +25,7 @@ pub fn disturb(random: &mut Random, line: &mut Line) {
     let entry = random.draw() as usize % node.log.len().max(1);
     let held = random.draw() as usize % node.buffered.len().max(1);
     let message = random.draw() as usize % queue.messages.len().max(1);
-    match random.index(14) {
+    match random.index(16) {
         0 => node.clock.time = time,
         1 | 2 => {
             let parts = node.clock.parents.len();
@@ -84,6 +84,22 @@ pub fn disturb(random: &mut Random, line: &mut Line) {
         12 => {
             if entry < node.log.len() {
                 node.log.remove(entry);
+            }
+        }
+        13 | 14 => {
+            // Up to the clock, or just above.
+            let parts = node.low_clock.parents.len();
+            if parts > 0 {
+                let number = random.index(parts);
+                let part = &mut node.low_clock.parents[number];
+                let entries = node.clock.parents[number].times();
+                let place = random.index(entries.len());
+                let any = random.between(0, entries[place]);
+                let low = match place.checked_sub(1) {
+                    None => &mut part.time,
+                    Some(row) => &mut part.parents[row].time,
+                };
+                *low = random.pick(&[any, any, entries[place], entries[place] + 1]);
             }
         }
         _ => {

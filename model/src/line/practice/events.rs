@@ -1,8 +1,10 @@
 //! What a step may do, and why it may be refused, that a practice must not miss.
 
+mod trims;
+
 use std::collections::BTreeSet;
 
-use crate::answer::{NOTHING_THERE, NO_REPLAY, NO_SPACE, STEPS_USED_UP};
+use crate::answer::{NOTHING_THERE, NO_REPLAY, NO_SPACE, NO_SUCH_PLACE, STEPS_USED_UP};
 use crate::line::replay::placed;
 use crate::line::{
     restart, stepped, Buffered, Caller, Entry, Frame, Line, Node, Origin, Restart, Status, Target,
@@ -11,6 +13,7 @@ use crate::placing::Item;
 use crate::plan::practice::refuses_by_mass;
 use crate::plan::{Channel, Window};
 use crate::record::Record;
+use trims::past;
 
 pub struct Stepped<'a> {
     pub before: &'a Line,
@@ -173,11 +176,107 @@ pub const EVENTS: &[Event] = &[
         step.told_in_vain()
             .is_some_and(|told| told.check_targets().is_ok())
     }),
+    event("24: rows complete at once by low clocks alone", |step| {
+        step.told_in_vain()
+            .is_some_and(|told| told.check_targets().is_ok())
+            && step.told_by_logs().is_some_and(|told| !told.is_complete())
+    }),
     event("24: a target not held", |step| {
         step.after == Err(NO_REPLAY) && step.misses_target() == Some(true)
     }),
     event("24: no placing", |step| {
         step.after == Err(NO_REPLAY) && step.misses_target() == Some(false)
+    }),
+    event("Recover restores an entry from a low clock alone", |step| {
+        step.recovered().is_some() && step.is_told_by_low_clocks()
+    }),
+    event("the same, and begins a replay", |step| {
+        step.recovered() == Some(Status::Replaying) && step.is_told_by_low_clocks()
+    }),
+    event("replay ended with a child's log trimmed", |step| {
+        step.ended().is_some_and(|(_, number, _)| {
+            let mut children = step.before.plan.children(number);
+            children.any(|child| step.before.nodes[child].low_clock.taken(number) > 0)
+        })
+    }),
+    event("Crash of a node with a low clock", |step| {
+        step.crashed()
+            .is_some_and(|node| node.low_clock.times().iter().any(|&time| time > 0))
+    }),
+    event("Trim of a source that drops", |step| {
+        step.trims(|line, node, run| line.plan.is_source(node) && run > 0)
+    }),
+    event("Trim of a router that drops", |step| {
+        step.trims(|line, node, run| {
+            !line.plan.is_source(node) && !line.plan.is_sink(node) && run > 0
+        })
+    }),
+    event("Trim of a sink that drops", |step| {
+        step.trims(|line, node, run| {
+            line.plan.is_sink(node) && !line.plan.is_source(node) && run > 0
+        })
+    }),
+    event("Trim that drops all of a full log", |step| {
+        step.trims(|_, _, run| run == Line::MOST_ENTRIES)
+    }),
+    event("Trim that drops a part of a full log", |step| {
+        step.trims(|line, node, run| {
+            let entries = line.nodes[node].log.len();
+            entries == Line::MOST_ENTRIES && 0 < run && run < entries
+        })
+    }),
+    event("Trim that drops nothing of a full log", |step| {
+        step.trims(|line, node, run| line.nodes[node].log.len() == Line::MOST_ENTRIES && run == 0)
+    }),
+    event("Trim of an empty log", |step| {
+        step.trims(|line, node, _| line.nodes[node].log.is_empty())
+    }),
+    event("Trim stopped by the entry's own time alone", |step| {
+        step.stopped() == Some((true, false))
+    }),
+    event("Trim stopped by the sender's time alone", |step| {
+        step.stopped() == Some((false, true))
+    }),
+    event("Trim stopped with an entry behind that may go", |step| {
+        step.trims(|line, node, run| {
+            let floors = line.floor_times();
+            let mut behind = line.nodes[node].log.iter().skip(run + 1);
+            behind.any(|entry| past(&floors, node, entry) == (false, false))
+        })
+    }),
+    event("Trim that drops where nodes have recovered", |step| {
+        step.trims(|line, _, run| run > 0 && line.nodes.iter().any(|node| node.crash_marked))
+    }),
+    event("Trim of a log trimmed before that drops", |step| {
+        step.trims(|line, node, run| {
+            let low = line.nodes[node].low_clock.times();
+            run > 0 && low.iter().any(|&time| time > 0)
+        })
+    }),
+    event("Trim where a floor has fallen below what is gone", |step| {
+        step.trims(|line, node, _| {
+            let floors = line.floor_times();
+            let mut parts = line.nodes[node].low_clock.parents.iter();
+            parts.any(|part| part.time > floors[part.node])
+        })
+    }),
+    event("26: the node is down", |step| {
+        step.is_not_up(Status::Down, true)
+    }),
+    event("26: the node replays", |step| {
+        step.is_not_up(Status::Replaying, true)
+    }),
+    event("26: another node is down, none replays", |step| {
+        step.is_not_up(Status::Down, false)
+    }),
+    event("26: another node replays, none is down", |step| {
+        step.is_not_up(Status::Replaying, false)
+    }),
+    event("13: Trim of no node while one is not up", |step| {
+        let is_up = |node: &Node| node.status == Status::Up;
+        step.after == Err(NO_SUCH_PLACE)
+            && step.to_trim().is_some()
+            && !step.before.nodes.iter().all(is_up)
     }),
 ];
 

@@ -46,7 +46,7 @@ pub fn stray(random: &mut Random, line: &Line) -> Vec<u8> {
         }
         2 => bytes.push(random.draw() as u8),
         3 => bytes[2] = random.pick(&[0, 1, 2, 3, 255]),
-        4 => bytes[3] = random.pick(&[0, 6, 7, 255]),
+        4 => bytes[3] = random.pick(&[0, 7, 9, 255]),
         5 => {
             // As long as its field says, whatever the kind.
             let length = random.pick(&[5, 6, 13, 14]);
@@ -72,7 +72,7 @@ fn typed_record(random: &mut Random) -> [u8; Record::LENGTH] {
 }
 
 /// One of each kind.
-fn frames_at(place: u8, record: [u8; Record::LENGTH]) -> [Frame; 5] {
+fn frames_at(place: u8, record: [u8; Record::LENGTH]) -> [Frame; 6] {
     [
         Frame::Feed {
             node: place,
@@ -82,6 +82,7 @@ fn frames_at(place: u8, record: [u8; Record::LENGTH]) -> [Frame; 5] {
         Frame::Take { channel: place },
         Frame::Crash { node: place },
         Frame::Recover { node: place },
+        Frame::Trim { node: place },
     ]
 }
 

@@ -72,6 +72,7 @@ pub fn make_late(random: &mut Random, line: &mut Line) {
 fn empty(line: &mut Line, node: usize) {
     let plan = &line.plan;
     line.nodes[node].clock = Clock::empty(plan, node);
+    line.nodes[node].low_clock = Clock::empty(plan, node);
     for channel in plan.entering(node).chain(plan.leaving(node)) {
         line.queues[channel] = Queue::default();
     }
@@ -89,6 +90,9 @@ pub fn greatest_time(line: &Line) -> u32 {
 pub(super) fn each_time(line: &mut Line, visit: &mut dyn FnMut(usize, &mut u32)) {
     for (number, node) in line.nodes.iter_mut().enumerate() {
         each_in_clock(&mut node.clock, visit);
+        for part in &mut node.low_clock.parents {
+            each_in_clock(part, visit);
+        }
         for entry in &mut node.log {
             visit(number, &mut entry.message.time);
             let origins = [&mut entry.message.made_from, &mut entry.input_made_from];

@@ -1,6 +1,6 @@
-//! Routers down between sources and sinks whose logs no frames leave so. Their
-//! Recover finds targets that agree, that conflict, that are too many or whose
-//! rows are complete at once; what the sources then send can be placed, or not.
+//! Routers down between sources and sinks whose logs and low clocks no frames leave
+//! so. Their Recover finds targets that agree, that conflict, that are too many or
+//! whose rows are complete at once; what the sources then send can be placed, or not.
 //! In half of the cases times are late, in some those of the router far apart.
 
 use super::late::each_time;
@@ -46,6 +46,11 @@ pub fn torn(random: &mut Random) -> (Line, usize) {
         let made = made.iter().filter(|made| made.time <= entry);
         for made in made.filter(|made| channel.takes(&rule.apply(made.record))) {
             log_made(random, node, sources, made, is_right);
+        }
+    }
+    if random.one_in(3) {
+        for sink in sources + 1..line.nodes.len() {
+            trim_some(random, &mut line.nodes[sink]);
         }
     }
     line.nodes[sources].status = Status::Down;
@@ -146,6 +151,19 @@ fn log_made(random: &mut Random, node: &mut Node, router: usize, made: &Made, is
     let own = node.clock.time;
     node.log
         .push(entry(own, made.record, Some(sender), Some(input)));
+}
+
+/// The first entries are gone from the log and kept as the low clock, or there is a
+/// low clock that no entries leave.
+fn trim_some(random: &mut Random, node: &mut Node) {
+    let most = random.pick(&[0, node.log.len() / 2, node.log.len()]);
+    for entry in node.log.drain(..random.between(0, most as u32) as usize) {
+        let input = entry.message.made_from.expect("a sink's input");
+        node.low_clock.raise_by(input, entry.input_made_from);
+    }
+    if random.one_in(8) {
+        node.low_clock.parents = node.clock.parents.clone();
+    }
 }
 
 fn drawn_record(random: &mut Random, least_material: u32) -> Record {

@@ -339,6 +339,25 @@ fn damages() {
         ("a clock part less", |line| {
             line.nodes[11].clock.parents.pop();
         }),
+        ("a low clock part less", |line| {
+            line.nodes[11].low_clock.parents.pop();
+        }),
+        ("low clock above the entry for a parent", |line| {
+            line.nodes[11].low_clock.raise_taken(10, 2);
+        }),
+        ("low clock above the time heard", |line| {
+            line.nodes[11].low_clock.raise_heard(10, 9, 2);
+        }),
+        ("low clock for the node itself", |line| {
+            line.nodes[11].low_clock.time = 1;
+        }),
+        ("down node's low clock", |line| {
+            line.nodes[7].low_clock.raise_taken(6, 1);
+        }),
+        ("low clock that completes all rows at once", |line| {
+            line.nodes[4].low_clock.raise_heard(3, 1, 3);
+            line.nodes[4].low_clock.raise_heard(3, 2, 1);
+        }),
     ];
     assert!(!damaged(&mixed_line()));
     for (name, damage) in changes {
@@ -397,6 +416,19 @@ fn no_damages() {
         }),
         ("a replaying node's leaving mark", |line| {
             line.queues[4].mark = 3;
+        }),
+        ("low clock at the clock", |line| {
+            line.nodes[11].low_clock = Clock {
+                time: 0,
+                ..line.nodes[11].clock.clone()
+            };
+        }),
+        ("replaying node's low clock", |line| {
+            line.nodes[3].low_clock.raise_taken(1, 2);
+            line.nodes[3].low_clock.raise_heard(1, 0, 2);
+        }),
+        ("low clock that completes one row at once", |line| {
+            line.nodes[4].low_clock.raise_heard(3, 1, 3);
         }),
     ];
     for (name, harmless) in changes {

@@ -13,7 +13,7 @@ use crate::random::Random;
 /// How often each answer was given and each event met.
 #[derive(Debug, Default)]
 struct Seen {
-    answers: [usize; 26],
+    answers: [usize; 27],
     events: BTreeMap<&'static str, usize>,
 }
 
@@ -65,7 +65,7 @@ fn practised_lines_stay_undamaged() {
         }
     }
     println!("{seen:?}");
-    for answer in [0, 9, 10, 11, 12, 13, 14, 15, 16, 17, 18, 19, 20, 21, 25] {
+    for answer in (9..=21).chain([0, 25, 26]) {
         assert!(seen.answers[answer] >= 20, "{answer} too seldom: {seen:?}");
     }
     assert_eq!(seen.answers[NO_REPLAY as usize], 0);
@@ -90,7 +90,7 @@ fn practised_lines_stay_undamaged() {
 fn undamaged_lines_stay_undamaged() {
     let mut random = Random::new(7);
     let mut starts = 0;
-    let mut answers = [0; 26];
+    let mut answers = [0; 27];
     for _ in 0..300 {
         let mut line = Line::of(any_plan(&mut random));
         if random.one_in(2) {

@@ -1,5 +1,5 @@
-//! A channel's mark and messages, and the part of the receiver's clock that
-//! stands with it.
+//! A channel's mark and messages, and the parts of the receiver's clock and low
+//! clock that stand with it.
 
 use super::*;
 
@@ -19,15 +19,17 @@ impl View<'_> {
         let parents = self.shape.parent_count[sender];
         let is_clock_sound = taken <= self.steps
             && (0..parents).all(|row| number_at(block, heard(row)) <= self.steps)
-            && is_zero(&block[heard(parents)..QUEUE.count]);
+            && is_zero(&block[heard(parents)..QUEUE.count])
+            && is_low_clock_within(block)
+            && is_zero(&block[LOW_END..]);
         if !is_clock_sound {
             return false;
         }
         let mark = number_at(block, MARK);
         if has(self.down, sender) {
-            return mark == 0 && is_zero(&block[QUEUE.count..]);
+            return mark == 0 && is_zero(&block[QUEUE.count..LOW]);
         }
-        if has(self.replaying, sender) && !is_zero(&block[QUEUE.count..]) {
+        if has(self.replaying, sender) && !is_zero(&block[QUEUE.count..LOW]) {
             return false;
         }
         taken <= mark && mark <= self.steps && self.is_queue_sound(number, taken, mark)
@@ -46,7 +48,7 @@ impl View<'_> {
             }
             last = time;
         }
-        last <= mark && is_zero(&block[QUEUE.slot(count)..])
+        last <= mark && is_zero(&block[QUEUE.slot(count)..LOW])
     }
 
     fn is_message_made(&self, number: usize, slot: &[u8]) -> bool {
@@ -58,4 +60,12 @@ impl View<'_> {
             && (1..=self.steps).contains(&number_at(slot, MADE_FROM + 1))
             && is_zero(&slot[MESSAGE_USED..])
     }
+}
+
+/// Also that parents which the sender lacks have none: their entries are 0.
+fn is_low_clock_within(block: &[u8]) -> bool {
+    let parts = [LOW..LOW_END, TAKEN..QUEUE.count].map(|part| block[part].chunks_exact(NUMBER));
+    let [low, entries] = parts;
+    low.zip(entries)
+        .all(|(low, entry)| number_at(low, 0) <= number_at(entry, 0))
 }

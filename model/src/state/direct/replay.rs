@@ -27,6 +27,10 @@ impl View<'_> {
         let mut told: u64 = 0;
         let mut restored = [0; Plan::MOST_AT_A_NODE];
         for &leaving in self.shape.leaving(number) {
+            for (row, restored) in restored.iter_mut().enumerate() {
+                let trimmed = number_at(self.channel(leaving), low_heard(row));
+                *restored = trimmed.max(*restored);
+            }
             let block = self.node(self.shape.channels[leaving].receiver);
             let count = number_at(block, LOG.count) as usize;
             for slot in block[LOG.slot(0)..LOG.slot(count)].chunks_exact(LOG.length) {

@@ -4,19 +4,20 @@
 
 mod recover;
 mod take;
+mod trim;
 
 use super::super::layout::*;
 use super::{is_undamaged, read_record};
 use crate::answer::{
     ACCEPTED, CHANNEL_FULL, CRASHED_NEIGHBOUR, NOTHING_THERE, NO_REPLAY, NO_SPACE, NO_SUCH_PLACE,
-    ROW_COMPLETE, STATE, STEPS_USED_UP, WRONG_PLACE, WRONG_RECORD, WRONG_STATUS,
+    ROW_COMPLETE, SOME_NOT_UP, STATE, STEPS_USED_UP, WRONG_PLACE, WRONG_RECORD, WRONG_STATUS,
 };
 use crate::line::{Frame, Line};
 use crate::plan::{Channel, Plan, Version};
 use crate::record::Record;
 use crate::rule::Rule;
 
-/// "Step 8 to 21 and then 24", with 25 after 11.
+/// "Step 8 to 21 and then 24", with 25 after 11 and 26 after 13.
 pub fn step(state: &mut [u8], frame: &[u8]) -> u32 {
     match <&mut [u8; LENGTH]>::try_from(state) {
         Ok(state) if is_undamaged(state) => step_unchecked(state, frame),
@@ -58,6 +59,7 @@ impl InPlace<'_> {
             Frame::Take { channel } => self.take(channel.into()),
             Frame::Crash { node } => self.crash(node.into()),
             Frame::Recover { node } => self.recover(node.into()),
+            Frame::Trim { node } => self.trim(node.into()),
         }?;
         put_number(self.state, count, accepted + 1);
         Ok(())
@@ -107,11 +109,11 @@ impl InPlace<'_> {
             let block = self.channel_mut(channel);
             if sender == node || receiver == node {
                 put_number(block, MARK, 0);
-                block[QUEUE.count..].fill(0);
+                block[QUEUE.count..LOW].fill(0);
             }
-            // The entries stand with the receiver's channels.
+            // The entries stand with the receiver's channels, its low clock's too.
             if receiver == node {
-                block[TAKEN..QUEUE.count].fill(0);
+                block.fill(0);
             }
         }
         Ok(())
@@ -241,4 +243,8 @@ fn free_slot(block: &mut [u8], list: Slots) -> Option<&mut [u8]> {
     }
     put_number(block, list.count, count as u32 + 1);
     Some(&mut block[list.slot(count)..list.slot(count + 1)])
+}
+
+fn raise(block: &mut [u8], at: usize, time: u32) {
+    put_number(block, at, number_at(block, at).max(time));
 }

@@ -1,4 +1,4 @@
-//! The paragraph "Damaged" of document 01, clause by clause: ways to damage a
+//! The paragraph "Damaged" of document 01 and request 2026-04, clause by clause: ways to damage a
 //! line or its bytes, each with other places and values as it is drawn.
 
 mod clocks;
@@ -6,6 +6,7 @@ mod crash_marks;
 mod emptied;
 mod limits;
 mod logs;
+mod low_clocks;
 mod made_from;
 mod plan;
 mod queues;
@@ -108,6 +109,7 @@ pub const CLAUSES: &[Clause] = &[
     made_from::MISSING_OR_PRESENT,
     logs::NOT_RISING,
     clocks::PASSED,
+    low_clocks::ABOVE,
     rows::NOT_RISING,
     rows::NOT_TAKEN,
     queues::UNSOUND,

@@ -54,6 +54,29 @@ pub const FEATURES: &[Feature] = &[
     feature("a node recovered with a log", |line| {
         has_node(line, |node| is_recovered(node) && !node.log.is_empty())
     }),
+    feature("a low clock", |line| has_low_clock(line, |low, _| low > 0)),
+    feature("a low clock's entry in the middle", |line| {
+        has_low_clock(line, |low, entry| 0 < low && low < entry)
+    }),
+    feature("a low clock's entry at the clock's", |line| {
+        has_low_clock(line, |low, entry| 0 < low && low == entry)
+    }),
+    feature("a low clock that tells of a parent's parent", |line| {
+        has_node(line, |node| {
+            let mut parts = node.low_clock.parents.iter();
+            parts.any(|part| part.times()[1..].iter().any(|&time| time > 0))
+        })
+    }),
+    feature("a low clock while a node is down", |line| {
+        has_node(line, |node| node.status == Status::Down) && has_low_clock(line, |low, _| low > 0)
+    }),
+    feature("a low clock of a node that replays' child", |line| {
+        let mut channels = line.plan.channels.iter();
+        channels.any(|channel| {
+            let low = &line.nodes[channel.receiver].low_clock;
+            line.nodes[channel.sender].status == Status::Replaying && low.taken(channel.sender) > 0
+        })
+    }),
     feature("a console with few steps left", |line| {
         let few = Line::MOST_STEPS - 100..Line::MOST_STEPS;
         line.steps.iter().any(|steps| few.contains(steps))
@@ -76,6 +99,15 @@ pub const FEATURES: &[Feature] = &[
 
 fn has_node(line: &Line, is_such: impl Fn(&Node) -> bool) -> bool {
     line.nodes.iter().any(is_such)
+}
+
+/// An entry of a low clock, and the clock's in the same place.
+fn has_low_clock(line: &Line, is_such: fn(u32, u32) -> bool) -> bool {
+    has_node(line, |node| {
+        let entries = node.clock.times().into_iter().skip(1);
+        let mut low = node.low_clock.times().into_iter().skip(1).zip(entries);
+        low.any(|(low, entry)| is_such(low, entry))
+    })
 }
 
 fn is_recovered(node: &Node) -> bool {

@@ -1,9 +1,10 @@
 //! What the paragraph "Damaged" does not list is no damage: changes after which
 //! a line is still undamaged.
 
-use super::conditions::replays::made::{complete_rows, greatest_target};
+use super::conditions::replays::made::{complete_rows, greatest_target, trim_rows};
 use super::runs::any_record;
 use super::{pick, staged};
+use crate::clock::Clock;
 use crate::line::practice::{drawn_steps, greatest_time, reach};
 use crate::line::{restart, Line, Status};
 use crate::plan::practice::{in_other_version, MASSES};
@@ -248,15 +249,34 @@ pub const HARMLESS: &[Harmless] = &[
         Some(())
     }),
     harmless("rows complete at once but for one", |random, line| {
-        let node = pick::node_that_is(random, line, Status::Replaying)?;
-        let told = restart(line, node);
-        let incomplete = told
-            .restored
-            .iter()
-            .filter(|entry| entry.time < greatest_target(line, node, entry.sender))
-            .map(|entry| entry.sender);
-        let spared = pick::any(random, incomplete)?;
+        let (node, spared) = incomplete_row(random, line)?;
         complete_rows(random, line, node, Some(spared))
+    }),
+    harmless("the same by low clocks", |random, line| {
+        let (node, spared) = incomplete_row(random, line)?;
+        trim_rows(random, line, node, Some(spared))
+    }),
+    harmless("low clock at the clock", |random, line| {
+        let node = lowered_node(random, line)?;
+        let node = &mut line.nodes[node];
+        node.low_clock.parents = node.clock.parents.clone();
+        Some(())
+    }),
+    harmless("low clock in the middle", |random, line| {
+        let node = lowered_node(random, line)?;
+        let node = &mut line.nodes[node];
+        for (low, part) in node.low_clock.parents.iter_mut().zip(&node.clock.parents) {
+            low.time = random.between(0, part.time);
+            for (low, before) in low.parents.iter_mut().zip(&part.parents) {
+                low.time = random.between(0, before.time);
+            }
+        }
+        Some(())
+    }),
+    harmless("no low clock", |random, line| {
+        let node = lowered_node(random, line)?;
+        line.nodes[node].low_clock = Clock::empty(&line.plan, node);
+        Some(())
     }),
     harmless("64 held records", hold_most),
     harmless("entry for a parent lower", |random, line| {
@@ -273,8 +293,9 @@ pub const HARMLESS: &[Harmless] = &[
             .chain(held)
             .filter(|input| input.sender == ends.sender)
             .map(|input| input.time)
+            .chain([node.low_clock.taken(ends.sender)])
             .max()
-            .unwrap_or(0);
+            .expect("the low clock's");
         node.clock.part_mut(ends.sender)?.time = least;
         Some(())
     }),
@@ -284,6 +305,27 @@ pub const HARMLESS: &[Harmless] = &[
         Some(())
     }),
 ];
+
+/// A node that replays, and a parent whose row would not be complete at once.
+fn incomplete_row(random: &mut Random, line: &Line) -> Option<(usize, usize)> {
+    let node = pick::node_that_is(random, line, Status::Replaying)?;
+    let told = restart(line, node);
+    let incomplete = told
+        .restored
+        .iter()
+        .filter(|entry| entry.time < greatest_target(line, node, entry.sender))
+        .map(|entry| entry.sender);
+    Some((node, pick::any(random, incomplete)?))
+}
+
+/// One that has heard of something; no parent's replay reads its low clock.
+fn lowered_node(random: &mut Random, line: &Line) -> Option<usize> {
+    pick::node(random, line, |number, node| {
+        let mut parents = line.plan.parents(number);
+        node.clock.parents.iter().any(|part| part.time > 0)
+            && parents.all(|parent| line.nodes[parent].status != Status::Replaying)
+    })
+}
 
 /// One whose sender holds nothing that it would have to take.
 fn free_channel(random: &mut Random, line: &Line) -> Option<usize> {

@@ -29,6 +29,8 @@ const STEPS: [&str; Line::CONSOLES] = [
     "steps: console 3",
 ];
 
+pub const LOW_OF_NONE: &str = "low clock for parents that a sender lacks";
+
 pub fn places(line: &Line) -> Vec<Place> {
     let mut walk = Walk {
         at: 0,
@@ -146,14 +148,8 @@ impl Walk {
 
     fn channel(&mut self, queue: &Queue, senders_parents: usize) {
         self.used("mark", 4);
-        self.used("taken", 4);
-        for _ in 0..senders_parents {
-            self.used("heard", 4);
-        }
-        self.unused(
-            "heard of parents that a sender lacks",
-            4 * (4 - senders_parents),
-        );
+        let names = ["taken", "heard", "heard of parents that a sender lacks"];
+        self.part(names, senders_parents);
         self.used("queue: count", 4);
         for message in &queue.messages {
             self.record(&["message: piece", "message: material", "message: mass"]);
@@ -163,7 +159,18 @@ impl Walk {
             self.unused("after a message", 3);
         }
         self.unused("free messages", 20 * (8 - queue.messages.len()));
-        self.unused("after a channel's queue", 132);
+        let names = ["low: taken", "low: heard", LOW_OF_NONE];
+        self.part(names, senders_parents);
+        self.unused("after a channel's low clock", 112);
+    }
+
+    /// What a clock holds for a sender and its parents.
+    fn part(&mut self, names: [&'static str; 3], senders_parents: usize) {
+        self.used(names[0], 4);
+        for _ in 0..senders_parents {
+            self.used(names[1], 4);
+        }
+        self.unused(names[2], 4 * (4 - senders_parents));
     }
 
     fn record(&mut self, names: &[&'static str; 3]) {

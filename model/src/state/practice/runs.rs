@@ -87,11 +87,18 @@ fn practised(random: &mut Random, played: &mut dyn Played) -> Vec<Line> {
 }
 
 /// Fed, sent and taken until nothing more can be, save on channels that are
-/// never taken on; then routers crash and replay.
+/// never taken on; then logs are trimmed and filled again, and routers crash and
+/// replay.
 fn filled(random: &mut Random, played: &mut dyn Played) -> Vec<Line> {
     let lazy = (random.draw() & random.draw()) as u32;
+    let lazy = random.pick(&[0, lazy, lazy]);
     fill(random, played, lazy);
     let mut lines = vec![played.line().clone()];
+    if random.one_in(2) {
+        trim_all(random, played);
+        lines.push(played.line().clone());
+        fill(random, played, lazy);
+    }
     let mut nodes = shuffled(random, played.line().nodes.len());
     if !random.one_in(4) {
         nodes.sort_by_key(|&node| Reverse(tear(played.line(), node)));
@@ -116,6 +123,13 @@ fn filled(random: &mut Random, played: &mut dyn Played) -> Vec<Line> {
     fill(random, played, lazy);
     lines.push(played.line().clone());
     lines
+}
+
+/// Each node once.
+pub fn trim_all(random: &mut Random, played: &mut dyn Played) {
+    for node in shuffled(random, played.line().nodes.len()) {
+        call(random, played, Frame::Trim { node: node as u8 });
+    }
 }
 
 fn fill(random: &mut Random, played: &mut dyn Played, lazy: u32) {

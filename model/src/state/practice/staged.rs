@@ -83,6 +83,39 @@ pub fn nearly_full() -> Line {
     line
 }
 
+/// The full line, by hand as if every node had heard of all that there is: a Trim
+/// drops all of a log.
+pub fn heard_by_all() -> Line {
+    let mut line: Line = full();
+    let times: Vec<u32> = line.nodes.iter().map(|node| node.time()).collect();
+    for (number, channel) in line.plan.channels.clone().into_iter().enumerate() {
+        let clock = &mut line.nodes[channel.receiver].clock;
+        clock.raise_taken(channel.sender, times[channel.sender]);
+        for before in line.plan.parents(channel.sender) {
+            clock.raise_heard(channel.sender, before, times[before]);
+        }
+        line.queues[number].mark = times[channel.sender];
+        line.queues[number].messages.clear();
+    }
+    line
+}
+
+/// The same after a Trim of every node, and half a log more in each source.
+pub fn trimmed() -> Line {
+    let mut line = heard_by_all();
+    for node in 0..line.nodes.len() as u8 {
+        accept(&mut line, Frame::Trim { node });
+    }
+    for node in 0..line.nodes.len() {
+        if line.plan.is_source(node) {
+            for piece in 0..Line::MOST_ENTRIES as u32 / 2 {
+                feed(&mut line, node, piece);
+            }
+        }
+    }
+    line
+}
+
 /// Four routers between four sources and four sinks: each takes from all of the
 /// sources and sends to two of the sinks.
 pub fn routers_plan() -> Plan {
@@ -115,7 +148,9 @@ pub fn holding_by_rows<T: Staged>(held: usize) -> T {
     replaying_by(take_by_rows, held)
 }
 
-fn replaying_by<T: Staged>(take: fn(&mut T, usize, usize), held: usize) -> T {
+/// The sources', routers' and sinks' logs are full, and a Trim drops nothing: of each
+/// router one sink has taken all, the other nothing.
+pub fn half_heard<T: Staged>() -> T {
     let mut line: T = routers_plan().into();
     for source in 0..4 {
         fill_source(&mut line, source);
@@ -128,6 +163,11 @@ fn replaying_by<T: Staged>(take: fn(&mut T, usize, usize), held: usize) -> T {
             pass(&mut line, own);
         }
     }
+    line
+}
+
+fn replaying_by<T: Staged>(take: fn(&mut T, usize, usize), held: usize) -> T {
+    let mut line: T = half_heard();
     for router in 4..8 {
         restart(&mut line, router);
         take(&mut line, router, held);

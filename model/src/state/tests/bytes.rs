@@ -22,6 +22,8 @@ fn places_of_the_layout() {
     );
     assert_eq!(layout::TARGETS.end(), 3604);
     assert_eq!((layout::QUEUE.count, layout::QUEUE.end()), (24, 188));
+    assert_eq!((layout::LOW, layout::LOW_END), (188, 208));
+    assert_eq!([0, 1, 2, 3].map(layout::low_heard), [192, 196, 200, 204]);
     assert_eq!((layout::ENTRY_USED, layout::LOG.length), (22, 24));
     assert_eq!((layout::HELD_USED, layout::BUFFERED.length), (18, 20));
     assert_eq!((layout::TARGET_USED, layout::TARGETS.length), (9, 12));
@@ -139,6 +141,28 @@ fn replaying_routers() {
     assert_eq!(state[58_368..58_384], heard);
     assert_eq!(state[58_384..58_392], [0, 0, 0, 16, 0, 0, 0, 16]);
     assert_eq!(state[58_392..58_688], [0; 296]);
+    assert_eq!(read_line(&state), Some(line));
+}
+
+/// Channel 17 goes from router 4 to sink 9, which has heard of the first, third and
+/// fourth source up to 1, 2 and 16777216.
+#[test]
+fn low_clocks() {
+    let mut line = Line::of(staged::routers_plan());
+    line.steps = [1_000_000; 4];
+    let node = &mut line.nodes[9];
+    for clock in [&mut node.clock, &mut node.low_clock] {
+        clock.raise_taken(4, 0x01020304);
+        for (source, time) in [(0, 1), (2, 2), (3, 1 << 24)] {
+            clock.raise_heard(4, source, time);
+        }
+    }
+    let state = line_bytes(&line);
+    let block = &state[53_248 + 320 * 17..][..320];
+    assert_eq!(block[4..24], block[188..208]);
+    let low = [1, 2, 3, 4, 0, 0, 0, 1, 0, 0, 0, 0, 0, 0, 0, 2, 1, 0, 0, 0];
+    assert_eq!(block[188..208], low);
+    assert_eq!(block[208..], [0; 112]);
     assert_eq!(read_line(&state), Some(line));
 }
 

@@ -68,7 +68,7 @@ fn practised_states() {
 }
 
 /// Each byte but those of the plan, the steps, the two nodes' statuses, marks,
-/// times and counts, and the channel's mark, entry and count.
+/// times and counts, and the channel's mark, entry, count and low clock.
 #[test]
 fn every_unused_byte() {
     let mut counts = Counts::new();
@@ -77,7 +77,7 @@ fn every_unused_byte() {
         compare(case, &mut counts)
     });
     let cases: usize = counts.values().map(|(cases, _)| cases).sum();
-    assert_eq!(cases, LENGTH - 19 - 16 - 2 * 18 - 12);
+    assert_eq!(cases, LENGTH - 19 - 16 - 2 * 18 - 16);
 }
 
 /// A step count above the limit is damage even where no time needs it and the

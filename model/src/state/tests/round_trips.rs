@@ -1,6 +1,6 @@
 //! What is written is read back, and what is read was written so.
 
-use crate::line::{damaged, Line};
+use crate::line::{damaged, step, Frame, Line};
 use crate::state::practice::{staged, FEATURES};
 use crate::state::tests::runs;
 use crate::state::{check, direct, line_bytes, read_line};
@@ -41,6 +41,18 @@ fn lines_that_hold_most() {
     assert_round_trip(&full);
     assert!(full.nodes.iter().all(|node| node.log.len() == 64));
     assert!(full.queues.iter().all(|queue| queue.messages.len() == 8));
+    let heard_by_all = staged::heard_by_all();
+    assert_round_trip(&heard_by_all);
+    assert_round_trip(&staged::trimmed());
+    let half_heard: Line = staged::half_heard();
+    assert_round_trip(&half_heard);
+    for (line, left) in [(heard_by_all, 0), (half_heard, 64)] {
+        for node in 0..12 {
+            let mut trimmed = line.clone();
+            assert_eq!(step(&mut trimmed, &Frame::Trim { node }.write()), 0);
+            assert_eq!(trimmed.nodes[usize::from(node)].log.len(), left);
+        }
+    }
     let replaying = staged::replaying();
     assert_round_trip(&replaying);
     for router in 4..8 {

@@ -204,7 +204,3 @@ fn write_entry(slot: &mut [u8], held: &Held, time: u32) {
     slot[MADE_FROM] = held[HELD_SENDER] + 1;
     put(slot, MADE_FROM + 1, &held[HELD_TIME..HELD_USED]);
 }
-
-fn raise(block: &mut [u8], at: usize, time: u32) {
-    put_number(block, at, number_at(block, at).max(time));
-}

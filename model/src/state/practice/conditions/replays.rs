@@ -3,7 +3,7 @@ pub mod made;
 use super::*;
 use crate::line::practice::retarget;
 use crate::line::{restart, Origin, Status, Target};
-use made::{complete_rows, replay, too_many};
+use made::{complete_rows, replay, too_many, trim_rows};
 
 pub const NOT_RECOVERED: Clause = Clause {
     words: "a replaying node's time or targets are not what Recover would give",
@@ -169,6 +169,10 @@ pub const NOT_RECOVERED: Clause = Clause {
         line("rows complete at once", |random, line| {
             let node = replaying(random, line)?;
             complete_rows(random, line, node, None)
+        }),
+        line("rows complete at once by low clocks", |random, line| {
+            let node = replaying(random, line)?;
+            trim_rows(random, line, node, None)
         }),
         line("over 64 targets", |random, line| {
             *line = too_many(random);

@@ -1,4 +1,5 @@
 use super::*;
+use crate::state::practice::places::LOW_OF_NONE;
 
 /// By the names of `places`.
 pub const NOT_ZERO: Clause = Clause {
@@ -20,7 +21,8 @@ pub const NOT_ZERO: Clause = Clause {
         unused("heard of parents that a sender lacks"),
         unused("after a message"),
         unused("free messages"),
-        unused("after a channel's queue"),
+        unused(LOW_OF_NONE),
+        unused("after a channel's low clock"),
         unused("channels that the plan lacks"),
         unused("after the channels"),
     ],

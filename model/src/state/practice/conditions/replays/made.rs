@@ -20,6 +20,7 @@ pub fn replay(line: &mut Line, node: usize, told: &Restart) {
         }
     }
     line.nodes[node].clock = clock;
+    line.nodes[node].low_clock = Clock::empty(&line.plan, node);
     line.nodes[node].status = Status::Replaying;
     line.nodes[node].log.clear();
 }
@@ -59,6 +60,27 @@ pub fn complete_rows(
         log_input(random, &mut line.nodes[child], input, origin);
         let time = line.nodes[child].time();
         reach(random, line, time);
+    }
+    Some(())
+}
+
+/// Children's low clocks tell what the greatest target of each row was made from,
+/// save that of a spared row.
+pub fn trim_rows(
+    random: &mut Random,
+    line: &mut Line,
+    node: usize,
+    spared: Option<usize>,
+) -> Option<()> {
+    for parent in line.plan.clone().parents(node) {
+        let time = greatest_target(line, node, parent);
+        if spared == Some(parent) {
+            continue;
+        }
+        let children = line.plan.children(node);
+        let heard = |child: &usize| line.nodes[*child].clock.heard(node, parent) >= time;
+        let child = pick::any(random, children.filter(heard))?;
+        line.nodes[child].low_clock.raise_heard(node, parent, time);
     }
     Some(())
 }
