@@ -21,7 +21,7 @@ use Rattle.state.specs.Lane.{heardCount}
 use Rattle.state.specs.State.{lineOf, stateAnswer}
 use Rattle.state.specs.Right.{ZerosAt, StateRight}
 use Rattle.state.proofs.InPlace.{Counted, line-plan, nodes-counted, lanes-counted, line-counts}
-use Rattle.state.proofs.PlanFitting.{fits-counted, few-heard, heard-long}
+use Rattle.state.proofs.PlanFitting.{fits-counted, few-heard, heard-long, low-long}
 use Rattle.state.proofs.StoredPlan.{storedPlan, stored-accepted}
 use Rattle.state.proofs.AcceptedState.{state-checked}
 use Rattle.items.specs.Items.{nodeRight, channelRight, shapeRight, lineRight, nodePlain, replayAsked, stepsRight}
@@ -57,10 +57,13 @@ module _ (s : List ℕ) (fits : planFits (planOf s) ≡ true) where
       let steps : eqb (length (l .steps)) consoleCount ≡ true = ap (λ (ks : List ℕ). eqb (length ks) consoleCount) (line-counts s counted) in
       let nodes : eqb (length (l .nodes)) (nodeCount (l .plan)) ≡ true = eq-eqb (length (l .nodes)) (nodeCount (l .plan)) (nodes-counted s counted ∙ sym (node-count s) ∙ ap nodeCount (sym (line-plan s))) in
       let lanes : eqb (length (l .lanes)) (channelCount (l .plan)) ≡ true = eq-eqb (length (l .lanes)) (channelCount (l .plan)) (lanes-counted s counted ∙ sym (channel-count s) ∙ ap channelCount (sym (line-plan s))) in
-      rw (steps, nodes, lanes)
-      (all-stands (λ (b : ℕ). eqb (length (laneAt l b .heard)) (length (parents (l .plan) (senderOf l b)))) (channelCount (l .plan)) .1
-      (λ b h. eq-eqb (length (laneAt l b .heard)) (length (parents (l .plan) (senderOf l b)))
-      (heard-long s fits b (omega (arith, h, channel-count s, ap channelCount (line-plan s))) ∙ ap (λ (p : Plan). length (parents p (channelAt p b .sender))) (sym (line-plan s)))))
+      let below : (b : ℕ) → b < channelCount (l .plan) → b < planChannels s = λ b h. omega (arith, h, channel-count s, ap channelCount (line-plan s)) in
+      let same : (b : ℕ) → heardCount (planOf s) (channelAt (planOf s) b) ≡ length (parents (l .plan) (senderOf l b)) = λ b. ap (λ (p : Plan). length (parents p (channelAt p b .sender))) (sym (line-plan s)) in
+      let heard = all-stands (λ (b : ℕ). eqb (length (laneAt l b .heard)) (length (parents (l .plan) (senderOf l b)))) (channelCount (l .plan)) .1
+      (λ b h. eq-eqb (length (laneAt l b .heard)) (length (parents (l .plan) (senderOf l b))) (heard-long s fits b (below b h) ∙ same b)) in
+      rw (steps, nodes, lanes, heard)
+      (all-stands (λ (b : ℕ). eqb (length (laneAt l b .low)) (suc (length (parents (l .plan) (senderOf l b))))) (channelCount (l .plan)) .1
+      (λ b h. eq-eqb (length (laneAt l b .low)) (suc (length (parents (l .plan) (senderOf l b)))) (low-long s fits b (below b h) ∙ ap suc (same b))))
 
   -- The line is right exactly where its nodes and channels are.
   line-stands : Stands (lineRight l) ((stepsRight (l .steps) ≡ true) × (((n : ℕ) → n < planNodes s → nodeRight l n ≡ true) × ((b : ℕ) → b < planChannels s → channelRight l b ≡ true)))

@@ -4,6 +4,7 @@ pub mod Order
 pub mod Restart
 pub mod Console
 pub mod Versions
+pub mod Trimming
 pub mod Step
 pub mod Whole
 pub mod Write

@@ -1,0 +1,29 @@
+-- Trims change nothing that anybody receives, on bytes.
+use Prim.Native.Nat.{ℕ}
+use mathlib.Core.Path.{_≡_, sym, ap, _∙_}
+use mathlib.Core.List.{List}
+use lib.ListN.{length, replicate}
+use Rattle.plan.specs.Plan.{planOf}
+use Rattle.rules.specs.Line.{Line, initialLine}
+use Rattle.rules.specs.Plain.{Receipt}
+use Rattle.rules.specs.Claim.{Story, startOf, storyFrom}
+use Rattle.rules.proofs.trimming.Law.{trims-change-nothing}
+use Rattle.state.specs.State.{lineOf}
+use Rattle.line.specs.Load.{loadLeft}
+use Rattle.line.specs.Order.{stateAfter, storyOf}
+use Rattle.line.specs.Trimming.{TrimsChangeNothingOnBytes}
+use Rattle.line.proofs.LoadLaws.{load-accepted}
+use Rattle.line.proofs.StepRun.{as-told, run-of-lines}
+
+pub trims-change-nothing-on-bytes : TrimsChangeNothingOnBytes
+unfolding storyOf
+trims-change-nothing-on-bytes plan lent before with without bytes each eachWith eachWithout z put-in all all′ =
+    let run = run-of-lines plan lent before bytes each z in
+    let state = stateAfter (loadLeft plan lent) before in
+    let l = storyFrom (startOf (initialLine (planOf plan))) before .line in
+    let start : lineOf state ≡ l = ap (λ (s : Story). s .line) (run .story) in
+    let told = as-told with state eachWith (run .accepted) .story ∙ ap (λ (k : Line). storyFrom (startOf k) with) start in
+    let told′ = as-told without state eachWithout (run .accepted) .story ∙ ap (λ (k : Line). storyFrom (startOf k) without) start in
+    ap (λ (s : Story). s .receipts) told
+    ∙ trims-change-nothing plan before with without (load-accepted plan lent z .0) put-in (ap (λ (s : Story). s .numbers) (sym told) ∙ all) (ap (λ (s : Story). s .numbers) (sym told′) ∙ all′)
+    ∙ ap (λ (s : Story). s .receipts) (sym told′)

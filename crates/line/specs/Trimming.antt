@@ -1,0 +1,19 @@
+-- 2026-04's promise on bytes: over what Load and Step answer and leave.
+use Prim.Native.Nat.{ℕ}
+use mathlib.Core.Path.{_≡_}
+use mathlib.Core.List.{List}
+use lib.ListN.{length, replicate}
+use Rattle.plan.specs.Lawful.{Each, Bytes}
+use Rattle.rules.specs.Trimming.{WithTrims}
+use Rattle.line.specs.Load.{loadAnswer, loadLeft}
+use Rattle.line.specs.Order.{stateAfter, storyOf}
+
+-- Frames that are all answered 0, from a state on.
+abbrev pub AllAcceptedOnBytes : List ℕ → List (List ℕ) → Type 0
+AllAcceptedOnBytes state frames = storyOf state frames .numbers ≡ replicate (length frames) 0
+
+-- "trimming at whatever moment it is accepted changes nothing that anybody receives by a list of steps that are all accepted both with and without it, even where crashes follow": from the state that any frames after an accepted Load have left.
+abbrev pub TrimsChangeNothingOnBytes : Type 0
+TrimsChangeNothingOnBytes =
+    (plan lent : List ℕ) (before with without : List (List ℕ)) → Bytes plan → Each Bytes before → Each Bytes with → Each Bytes without → loadAnswer plan lent ≡ 0 → WithTrims with without
+    → (let state = stateAfter (loadLeft plan lent) before in AllAcceptedOnBytes state with → AllAcceptedOnBytes state without → storyOf state with .receipts ≡ storyOf state without .receipts)
