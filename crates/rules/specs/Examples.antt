@@ -1,14 +1,14 @@
--- Document 01's own examples of the numbers 1 to 7, 9 to 19 and 21, and some of ours that tell readings apart, those of 2026-01 among them, computed. Its examples of 22 to 24 are in the placing's `Marked`, that of 8 in the state's `Examples`; P9 shows that of 20.
+-- Document 01's own examples of the numbers 1 to 7, 9 to 19 and 21, and some of ours that tell readings apart, those of 2026-01 and 2026-04 among them, computed. Its examples of 22 to 24 are in the placing's `Marked`, that of 8 in the state's `Examples`; P9 shows that of 20.
 use Prim.Native.Nat.{ℕ}
 use mathlib.Core.Path.{_≡_, refl}
 use mathlib.Core.List.{List, [], _∷_, _++_, map}
-use lib.ListN.{length, replicate}
+use lib.ListN.{length, drop, replicate}
 use lib.Dec.{eqb}
 use Rattle.plan.specs.declared.Rule.the-variants.{Keep}
 use Rattle.plan.specs.Plan.{Plan}
 use Rattle.plan.specs.Check.{planRefusal}
 use Rattle.rules.specs.Lists.{keep, joined}
-use Rattle.rules.specs.Line.{fed, made, Lane, withSteps, initialLine, onlyCount}
+use Rattle.rules.specs.Line.{fed, made, Node, Lane, laneAt, withSteps, initialLine, onlyCount}
 use Rattle.rules.specs.Frame.{console, frameFrom}
 use Rattle.rules.specs.Clock.{raiseHeard, takenFrom}
 use Rattle.rules.specs.Plain.{Receipt}
@@ -58,11 +58,28 @@ countedFrom counts frames =
 abbrev consoleFeed : ℕ → ℕ → ℕ → ℕ → List ℕ
 consoleFeed c node piece material = 0 ∷ 14 ∷ 2 ∷ 1 ∷ c ∷ node ∷ 0 ∷ 0 ∷ 0 ∷ piece ∷ material ∷ 0 ∷ 0 ∷ 0 ∷ []
 
+-- 0 to 1; 0 to 1 and to 2; 0 to 2 and to 3, 1 to 2.
+abbrev pair : Plan
+pair = record { version = 1; rules = Keep ∷ Keep ∷ []; channels = channel 0 1 65535 ∷ [] }
+
+abbrev fork : Plan
+fork = record { version = 1; rules = Keep ∷ Keep ∷ Keep ∷ []; channels = channel 0 1 65535 ∷ channel 0 2 65535 ∷ [] }
+
+abbrev crossing : Plan
+crossing = record { version = 1; rules = Keep ∷ Keep ∷ Keep ∷ Keep ∷ []; channels = channel 0 2 65535 ∷ channel 0 3 65535 ∷ channel 1 2 65535 ∷ [] }
+
+-- The answers on a plan, and how many entries each node's log then has.
+unfoldable pub loggedOn : Plan → List (List ℕ) → List ℕ
+unfolding storyOn
+loggedOn p frames =
+    let s = storyOn p (onlyCount 0) frames in
+    s .numbers ++ map (λ (x : Node). length (x .log)) (s .line .nodes)
+
 abbrev clockNumbers : Lane → List ℕ
 clockNumbers s = s .mark ∷ s .taken ∷ s .heard
 
 unfoldable pub exampleTable : List Example
-unfolding planRefusal answers answersOn countedFrom storyOn chain initialLine takenFrom replayPlan replayBegun replayAfter told
+unfolding planRefusal answers answersOn countedFrom loggedOn storyOn chain initialLine takenFrom replayPlan replayBegun replayAfter told
 exampleTable =
     record { given = map planRefusal ((0 ∷ 5 ∷ 1 ∷ []) ∷ smallPlan 19 0 2 0 0 ∷ smallPlan 19 1 13 0 0 ∷ (0 ∷ 18 ∷ 1 ∷ 2 ∷ 1 ∷ replicate 13 0) ∷ smallPlan 19 1 2 3 0 ∷ smallPlan 19 1 2 0 1 ∷ widePlan ∷ smallPlan 19 1 2 0 0 ∷ []); expected = 1 ∷ 2 ∷ 3 ∷ 4 ∷ 5 ∷ 6 ∷ 7 ∷ 0 ∷ [] }
     -- 9, 10, 11: "`00 05 01 02`", "third byte 0", "Send of 13 bytes"
@@ -71,8 +88,8 @@ exampleTable =
     ∷ record { given = answers 0 ((0 ∷ 6 ∷ 1 ∷ 2 ∷ 0 ∷ []) ∷ (0 ∷ 5 ∷ 1 ∷ 2 ∷ 0 ∷ 0 ∷ []) ∷ (0 ∷ 4 ∷ 1 ∷ 2 ∷ []) ∷ (0 ∷ 5 ∷ 0 ∷ 2 ∷ []) ∷ []); expected = replicate 4 9 }
     -- 10: version 3; 10 comes before 11
     ∷ record { given = answers 0 ((0 ∷ 5 ∷ 3 ∷ 2 ∷ 0 ∷ []) ∷ (0 ∷ 5 ∷ 0 ∷ 6 ∷ 0 ∷ []) ∷ []); expected = 10 ∷ 10 ∷ [] }
-    -- 11: kinds 0 and 6, a Feed of 5 bytes; 11 comes before 12
-    ∷ record { given = answers 0 (frame 0 0 ∷ frame 7 0 ∷ frame 1 0 ∷ []) ++ answers 1_000_000 (frame 7 0 ∷ []); expected = replicate 4 11 }
+    -- 11: kinds 0 and 9, a Feed of 5 bytes; 11 comes before 12
+    ∷ record { given = answers 0 (frame 0 0 ∷ frame 9 0 ∷ frame 1 0 ∷ []) ++ answers 1_000_000 (frame 9 0 ∷ []); expected = replicate 4 11 }
     -- 12: "one more Crash", before all that comes after it
     ∷ record { given = answers 1_000_000 (frame 4 1 ∷ frame 4 99 ∷ []); expected = 12 ∷ 12 ∷ [] }
     -- 13 to 18: "belt 24", "Crash 0", "Crash twice", "parent of a crashed node", "material 16", "empty belt"
@@ -96,9 +113,9 @@ exampleTable =
     ∷ record { given = answersOn replayPlan 0 (replicate 64 (feedFrame 0 1 3) ++ (joined (replicate 64 (moved 0)) ++ feedFrame 1 1 3 ∷ frame 2 1 ∷ frame 3 1 ∷ frame 4 2 ∷ [])); expected = replicate 194 0 ++ 21 ∷ 0 ∷ [] }
     -- "accepted steps": P9 has 25 answers 0, all of version 1, so of console 0
     ∷ record { given = length (keep (eqb 0) (replayAfter .numbers)) ∷ replayAfter .line .steps; expected = 25 ∷ 25 ∷ 0 ∷ 0 ∷ 0 ∷ [] }
-    -- 2026-01, 11: a version 2 frame of 5 bytes, a Feed of 13, kind 7; a version 1 frame of 6 bytes, a Feed of 14; 11 comes before 25
+    -- 2026-01, 11: a version 2 frame of 5 bytes, a Feed of 13, kind 9; a version 1 frame of 6 bytes, a Feed of 14; 11 comes before 25
     ∷ record {
-      given = answers 0 ((0 ∷ 5 ∷ 2 ∷ 2 ∷ 0 ∷ []) ∷ (0 ∷ 13 ∷ 2 ∷ 1 ∷ 0 ∷ replicate 8 0) ∷ frameFrom (console 0) 7 0 ∷ (0 ∷ 6 ∷ 1 ∷ 2 ∷ 0 ∷ 0 ∷ []) ∷ (0 ∷ 14 ∷ 1 ∷ 1 ∷ 0 ∷ replicate 9 0) ∷ (0 ∷ 5 ∷ 2 ∷ 2 ∷ 9 ∷ []) ∷ []);
+      given = answers 0 ((0 ∷ 5 ∷ 2 ∷ 2 ∷ 0 ∷ []) ∷ (0 ∷ 13 ∷ 2 ∷ 1 ∷ 0 ∷ replicate 8 0) ∷ frameFrom (console 0) 9 0 ∷ (0 ∷ 6 ∷ 1 ∷ 2 ∷ 0 ∷ 0 ∷ []) ∷ (0 ∷ 14 ∷ 1 ∷ 1 ∷ 0 ∷ replicate 9 0) ∷ (0 ∷ 5 ∷ 2 ∷ 2 ∷ 9 ∷ []) ∷ []);
       expected = replicate 6 11;
     }
     -- 25: "a console above 3", before 13 and 17; console 3 gets as far as 13; in version 1 the fifth byte is no console
@@ -115,6 +132,24 @@ exampleTable =
     ∷ record { given = clockNumbers (takenFrom [] (record { what = record { piece = 1; material = 1; mass = 0 }; time = 1; origin = fed }) [] (record { mark = 5; taken = 3; heard = []; queue = []; low = [] })); expected = 5 ∷ 3 ∷ [] }
     -- "removes the belt's first message": pieces 1 and 2 go on it, 1 is taken
     ∷ record { given = map (λ (r : Receipt). r .what .piece) (storyFrom (startOf (initialLine chain)) (feedFrame 0 1 1 ∷ feedFrame 0 2 1 ∷ frame 2 0 ∷ frame 2 0 ∷ frame 3 0 ∷ []) .receipts); expected = 1 ∷ [] }
+    -- 2026-04: what every clock has heard of goes, at a source, routers and a sink; a Trim that drops nothing is accepted too
+    ∷ record { given = loggedOn chain (feedFrame 0 1 1 ∷ moved 0 ++ moved 1 ++ moved 2 ++ map (frame 6) (0 ∷ 1 ∷ 2 ∷ 3 ∷ 3 ∷ [])); expected = replicate 12 0 ++ replicate 4 0 }
+    -- node 3 has not heard of it, so the floor times of nodes 1 and 2 are 0
+    ∷ record { given = loggedOn chain (feedFrame 0 1 1 ∷ moved 0 ++ moved 1 ++ map (frame 6) (0 ∷ 1 ∷ 2 ∷ [])); expected = replicate 8 0 ++ 0 ∷ 1 ∷ 1 ∷ 0 ∷ [] }
+    -- node 2 has not taken it, so the floor time of its sender is 0, though its own time is no later than node 1's; then node 2 takes it
+    ∷ record { given = loggedOn fork (feedFrame 0 1 1 ∷ moved 0 ++ frame 6 1 ∷ []) ++ loggedOn fork (feedFrame 0 1 1 ∷ moved 0 ++ moved 1 ++ frame 6 1 ∷ []); expected = replicate 4 0 ++ 1 ∷ 1 ∷ 0 ∷ (replicate 6 0 ++ 1 ∷ 0 ∷ 1 ∷ []) }
+    -- "the longest leading run": node 3 lags behind node 0, so node 2's first entry stays, and the second, which node 1 sent, behind it
+    ∷ record { given = loggedOn crossing (feedFrame 0 1 1 ∷ feedFrame 1 2 1 ∷ moved 0 ++ moved 2 ++ frame 6 2 ∷ []) ++ loggedOn crossing (feedFrame 0 1 1 ∷ feedFrame 1 2 1 ∷ moved 0 ++ moved 2 ++ moved 1 ++ frame 6 2 ∷ []); expected = replicate 7 0 ++ 1 ∷ 1 ∷ 2 ∷ 0 ∷ (replicate 9 0 ++ 1 ∷ 1 ∷ 0 ∷ 1 ∷ []) }
+    -- 26: node 1 is down, whichever node is named, in either version; 13 comes before it; no other kind is asked; up again
+    ∷ record { given = answers 0 (frame 4 1 ∷ map (frame 6) (0 ∷ 1 ∷ 3 ∷ 4 ∷ []) ++ frameFrom (console 2) 6 2 ∷ feedFrame 0 1 1 ∷ frame 5 1 ∷ frame 6 1 ∷ []); expected = 0 ∷ 26 ∷ 26 ∷ 26 ∷ 13 ∷ 26 ∷ 0 ∷ 0 ∷ 0 ∷ [] }
+    -- 26: a node replays
+    ∷ record { given = storyFrom (startOf (replayBegun .line)) (frame 6 0 ∷ frame 6 2 ∷ []) .numbers; expected = 26 ∷ 26 ∷ [] }
+    -- "The freed entries are used by later steps": a 65th Feed, and a 65th Take
+    ∷ record { given = answersOn pair 0 (joined (replicate 64 (feedFrame 0 1 1 ∷ moved 0)) ++ feedFrame 0 1 1 ∷ frame 6 0 ∷ feedFrame 0 1 1 ∷ moved 0 ++ frame 6 1 ∷ frame 3 0 ∷ []); expected = replicate 192 0 ++ 21 ∷ 0 ∷ 0 ∷ 0 ∷ 21 ∷ 0 ∷ 0 ∷ [] }
+    -- "Dropped entries are kept as the node's low clock": what node 2's entry was made from, and what that was made from
+    ∷ record { given = laneAt (storyOn chain (onlyCount 0) (feedFrame 0 1 1 ∷ moved 0 ++ moved 1 ++ moved 2 ++ frame 6 2 ∷ []) .line) 1 .low; expected = 1 ∷ 1 ∷ [] }
+    -- "Recover starts the restored entries from the children's low clocks": node 3's log is empty, and node 2 asks for nothing again; "Crash empties it"
+    ∷ record { given = joined (map (λ (s : Lane). clockNumbers s ++ s .low) (drop 1 (storyOn chain (onlyCount 0) (feedFrame 0 1 1 ∷ moved 0 ++ moved 1 ++ moved 2 ++ frame 6 2 ∷ frame 6 3 ∷ frame 4 2 ∷ frame 5 2 ∷ []) .line .lanes))); expected = 1 ∷ 1 ∷ 0 ∷ 0 ∷ 0 ∷ 1 ∷ 1 ∷ 1 ∷ 1 ∷ 1 ∷ [] }
     ∷ []
 
 pub examples-hold : map (λ (r : Example). r .given) exampleTable ≡ map (λ (r : Example). r .expected) exampleTable

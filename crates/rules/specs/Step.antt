@@ -201,7 +201,7 @@ unfoldable pub takenLine : ℕ → Line → Option Line
 unfolding takenLane takenReplaying takenUp endedIfComplete
 takenLine b l = takenFirst b (laneAt l b .queue) l
 
--- Crash: "the node is down and crash-marked for good; its log, clock, time, targets and held records, and its belts' messages and marks, are emptied to 0". The clock is `taken` and `heard` of its entering channels; those of its leaving channels are its children's.
+-- Crash: "the node is down and crash-marked for good; its log, clock, time, targets and held records, and its belts' messages and marks, are emptied to 0". The clock is `taken` and `heard` of its entering channels; those of its leaving channels are its children's. 2026-04, of the low clock, their `low`: "Crash empties it".
 unfoldable pub crashedLine : ℕ → Line → Line
 unfolding entering leaving freshLane withNode withLane
 crashedLine n l =
