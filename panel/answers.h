@@ -1,5 +1,6 @@
 /* The numbers that Load, Step, Check, Write, Placing and the check of a plan return: document 01, "Numbers returned",
-   and request 2026-01. A call returns the first that applies, in rising order; but 25 comes between 11 and 12. */
+   and requests 2026-01 and 2026-04. A call returns the first that applies, in rising order; but 25 comes between 11
+   and 12, and 26 between 13 and 14. */
 #ifndef ANSWERS_H
 #define ANSWERS_H
 
@@ -29,7 +30,8 @@ enum {
     ANSWER_TABLE = 22,             /* replay table breaks the limits or the order */
     ANSWER_OUTPUT_SHORT = 23,      /* output shorter than needed */
     ANSWER_NO_PLACING = 24,        /* no placing exists; targets that conflict, or one not held */
-    ANSWER_NO_SUCH_CONSOLE = 25    /* console above 3 */
+    ANSWER_NO_SUCH_CONSOLE = 25,   /* console above 3 */
+    ANSWER_NOT_ALL_UP = 26         /* Trim while a node is down or replays */
 };
 
 #endif
