@@ -7,18 +7,16 @@ use native.Mathlib.Nat.{add-zero, zero-add}
 use native.Mathlib.Omega.{arith}
 use borrow.Author.Tests.{eqb-true}
 use lib.Dec.{leb, ltb, eqb, leb·suc-zero, eqb·zero-suc}
-use lib.ListN.{length, getD, length-take}
+use lib.ListN.{length, getD}
 use Rattle.plan.specs.Plan.{planOf, channelAt}
 use Rattle.rules.specs.Line.{Lane, laneAt}
 use Rattle.rules.specs.Damaged.{lowPast, lowWrong}
 use Rattle.state.specs.Sizes.{blockAt, takenAt, heardAt, parentLimit, lowAt, lowLimit}
 use Rattle.state.specs.Right.{wordAt}
-use Rattle.state.specs.Lane.{laneLayout, cutHeard, heardCount}
+use Rattle.state.specs.Lane.{heardCount}
 use Rattle.state.specs.State.{lineOf}
-use Rattle.state.proofs.FieldLaws.{low-five}
-use Rattle.state.proofs.InPlace.{blockOf, lane-in}
 use Rattle.state.proofs.OffsetLaws.{line-taken, line-heard-at, line-low-at}
-use Rattle.state.proofs.PlanFitting.{few-heard, heard-long}
+use Rattle.state.proofs.PlanFitting.{few-heard, heard-long, low-long}
 use Rattle.items.proofs.Tests.{not-above}
 use Rattle.buffer.specs.Ready.{OnChannel}
 use Rattle.buffer.specs.Exact.{zeroAt}
@@ -81,12 +79,8 @@ module _ (s : List ℕ) (b heard : ℕ) (on : OnChannel s b) (many : heard ≡ h
   few : heard ≤ parentLimit
   few = rw many (few-heard s (on .ready .fits) b (on .below))
 
-  low-long : length (lane .low) ≡ suc heard
-  unfolding cutHeard
-  low-long =
-      ap (λ (x : Lane). length (x .low)) (lane-in s (counted (on .ready)) b (on .below))
-      ∙ length-take (suc (heardCount (planOf s) (channelAt (planOf s) b))) (laneLayout .read (blockOf b s) .low)
-      ∙ omega (arith, low-five (blockOf b s), many, few)
+  low-counted : length (lane .low) ≡ suc heard
+  low-counted = low-long s (on .ready .fits) b (on .below) ∙ ap suc (sym many)
 
   clock-word : (i : ℕ) → i < suc heard → getD (lane .taken ∷ lane .heard) i 0 ≡ wordAt (blockAt b + (takenAt + 4 * i)) s
   clock-word zero h = line-taken s (counted (on .ready)) b (on .below)
@@ -98,9 +92,9 @@ module _ (s : List ℕ) (b heard : ℕ) (on : OnChannel s b) (many : heard ≡ h
   unfolding lowWrong
   low-right =
       let long : length (lane .heard) ≡ heard = heard-long s (on .ready .fits) b (on .below) ∙ sym many in
-      ap (lowsWithin s (blockAt b)) (sym (zero-add (length (lane .low)) ∙ low-long))
-      ∙ within-past s (blockAt b) 0 (lane .low) (lane .taken ∷ lane .heard) (omega (arith, low-long, long))
-      (λ i h. rw (zero-add i) (line-low-at s (counted (on .ready)) b (on .below) i (omega (arith, low-long, many)) (omega (arith, low-long, few)))) (λ i h. rw (zero-add i) (clock-word i (omega (arith, low-long))))
+      ap (lowsWithin s (blockAt b)) (sym (zero-add (length (lane .low)) ∙ low-counted))
+      ∙ within-past s (blockAt b) 0 (lane .low) (lane .taken ∷ lane .heard) (omega (arith, low-counted, long))
+      (λ i h. rw (zero-add i) (line-low-at s (counted (on .ready)) b (on .below) i (omega (arith, low-counted, many)) (omega (arith, low-counted, few)))) (λ i h. rw (zero-add i) (clock-word i (omega (arith, low-counted))))
 
   -- The low clock is right, where the clock's unused words are 0.
   pub low-tested : zeroAt (blockAt b + heardAt + 4 * heard) (4 * (parentLimit - heard)) s ≡ true
