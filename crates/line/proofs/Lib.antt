@@ -14,5 +14,5 @@ pub mod RestartRun
 pub mod ConsoleRun
 -- Plans of both versions run alike, on bytes.
 pub mod VersionRun
--- Trims change nothing that anybody receives, on bytes.
+-- Trims change nothing that anybody receives, and make space, on bytes.
 pub mod TrimRun

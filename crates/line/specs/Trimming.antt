@@ -1,11 +1,17 @@
--- 2026-04's promise on bytes: over what Load and Step answer and leave.
-use Prim.Native.Nat.{ℕ}
+-- 2026-04's promises on bytes: over what Load and Step answer and leave.
+use Prim.Native.Nat.{ℕ, _<_}
 use mathlib.Core.Path.{_≡_}
+use mathlib.Core.Logic.{_≢_}
+use mathlib.Core.Bool.{true}
 use mathlib.Core.List.{List}
 use lib.ListN.{length, replicate}
 use Rattle.plan.specs.Lawful.{Each, Bytes}
-use Rattle.rules.specs.Trimming.{WithTrims}
+use Rattle.rules.specs.Line.{nodeAt}
+use Rattle.rules.specs.Frame.{trim, frameOf}
+use Rattle.rules.specs.Trimming.{WithTrims, logsAt}
+use Rattle.state.specs.State.{lineOf, stateAnswer}
 use Rattle.line.specs.Load.{loadAnswer, loadLeft}
+use Rattle.line.specs.Step.{stepAnswer, stepLeft}
 use Rattle.line.specs.Order.{stateAfter, storyOf}
 
 -- Frames that are all answered 0, from a state on.
@@ -17,3 +23,9 @@ abbrev pub TrimsChangeNothingOnBytes : Type 0
 TrimsChangeNothingOnBytes =
     (plan lent : List ℕ) (before with without : List (List ℕ)) → Bytes plan → Each Bytes before → Each Bytes with → Each Bytes without → loadAnswer plan lent ≡ 0 → WithTrims with without
     → (let state = stateAfter (loadLeft plan lent) before in AllAcceptedOnBytes state with → AllAcceptedOnBytes state without → storyOf state with .receipts ≡ storyOf state without .receipts)
+
+-- "The freed entries are used by later steps": of every state that the check accepts.
+abbrev pub FreedAreUsedOnBytes : Type 0
+FreedAreUsedOnBytes =
+    (state : List ℕ) (n : ℕ) (f g : List ℕ) → Bytes f → Bytes g → stateAnswer state ≡ 0 → frameOf f ≡ trim n → stepAnswer state f ≡ 0
+    → (let left = stepLeft state f in length (nodeAt (lineOf left) n .log) < length (nodeAt (lineOf state) n .log) → logsAt (lineOf left) n (frameOf g) ≡ true → stepAnswer left g ≢ 21)

@@ -19,9 +19,10 @@ pub mod Order
 pub mod undamaged
 -- A crashed node can always come back.
 pub mod restart
-pub mod trimming
 pub mod AlwaysBack
--- Consoles: who sends a step does not matter to the line, and frames of version 1 are answered as before.
+-- Consoles: who sends a step does not matter to the line.
 pub mod console
 -- Versions: plans that differ in their version alone run alike.
 pub mod versions
+-- Trims change nothing that anybody receives, and make space.
+pub mod trimming

@@ -5,3 +5,4 @@ pub mod Phases
 pub mod Trims
 pub mod Kinds
 pub mod Law
+pub mod Freed

@@ -1,13 +1,17 @@
 -- 2026-04: "In demand 3's lists, which later laws on runs mean too, trimming at whatever moment it is accepted changes nothing that anybody receives by a list of steps that are all accepted both with and without it, even where crashes follow."
-use Prim.Native.Nat.{ℕ}
+use Prim.Native.Nat.{ℕ, _<_}
 use mathlib.Core.Path.{_≡_}
+use mathlib.Core.Logic.{_≢_}
 use mathlib.Core.Bool.{Bool, true, false}
 use mathlib.Core.List.{List, [], _∷_}
 use lib.ListN.{length, replicate}
+use lib.Dec.{eqb}
 use Rattle.plan.specs.Plan.{planOf}
 use Rattle.plan.specs.Check.{planRefusal}
-use Rattle.rules.specs.Line.{Line, initialLine}
+use Rattle.rules.specs.Line.{Line, initialLine, nodeAt, receiverOf}
 use Rattle.rules.specs.Frame.{Frame, feed, send, take, crash, recover, trim, frameOf}
+use Rattle.rules.specs.Step.{step}
+use Rattle.rules.specs.Damaged.{damaged}
 use Rattle.rules.specs.Claim.{startOf, storyFrom}
 
 abbrev pub isTrim : Frame → Bool
@@ -33,3 +37,17 @@ abbrev pub TrimsChangeNothing : Type 0
 TrimsChangeNothing =
     (plan : List ℕ) (before with without : List (List ℕ)) → planRefusal plan ≡ 0 → WithTrims with without
     → (let l = storyFrom (startOf (initialLine (planOf plan))) before .line in AllAccepted l with → AllAccepted l without → storyFrom (startOf l) with .receipts ≡ storyFrom (startOf l) without .receipts)
+
+-- "The freed entries are used by later steps": where a Trim has made a node's log shorter, a frame that would log there next, a Feed of the node or a Take by it, is not refused with 21.
+abbrev pub logsAt : Line → ℕ → Frame → Bool
+logsAt l n (feed m r) = eqb m n
+logsAt l n (send b) = false
+logsAt l n (take b) = eqb (receiverOf l b) n
+logsAt l n (crash m) = false
+logsAt l n (recover m) = false
+logsAt l n (trim m) = false
+
+abbrev pub FreedAreUsed : Type 0
+FreedAreUsed =
+    (l : Line) (n : ℕ) (f g : List ℕ) → damaged l ≡ false → frameOf f ≡ trim n → step l f .number ≡ 0
+    → (let k = step l f .line in length (nodeAt k n .log) < length (nodeAt l n .log) → logsAt k n (frameOf g) ≡ true → step k g .number ≢ 21)

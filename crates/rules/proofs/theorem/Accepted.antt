@@ -157,6 +157,21 @@ unplaced l frame e =
     nowhere true q z = nothing-none (effect l (frameOf frame)) q
     nowhere false q z = let no : ⊥ = omega arith in absurd no
 
+-- A frame that is answered 21 needs space that is not there.
+pub lacking : (l : Line) (frame : List ℕ) → refusal l frame ≡ 21 → noSpace l (frameOf frame) ≡ true
+unfolding lineRefusal noPlacing
+lacking l frame e =
+    let f = frameOf frame in
+    let h = admitted l frame 21 (λ z. omega arith, (λ z. omega arith, (λ z. omega arith, (λ z. omega arith, (λ z. omega arith, tt))))) e in
+    let tests : List (Bool × ℕ) = (noSuch l f, 12) ∷ (someStopped l f, 25) ∷ (wrongNode l f, 13) ∷ (wrongStatus l f, 14) ∷ (besideCrashed l f, 15) ∷ (badRecord f, 16) ∷ (nothingThere l f, 17) ∷ (queueFull l f, 18) ∷ (rowDone l f, 19) ∷ [] in
+    let apart : NoneIs 21 tests = (λ z. omega arith, (λ z. omega arith, (λ z. omega arith, (λ z. omega arith, (λ z. omega arith, (λ z. omega arith, (λ z. omega arith, (λ z. omega arith, (λ z. omega arith, tt))))))))) in
+    one (noSpace l f) (noPlacing l f) (only-last 21 tests (elim (noSpace l f) [ true ↦ 21 | false ↦ elim (noPlacing l f) [ true ↦ 24 | false ↦ 0 ] ]) apart (h .answer) .1)
+  where
+    one : (a b : Bool) → _≡_ {A = ℕ} (elim a [ true ↦ 21 | false ↦ elim b [ true ↦ 24 | false ↦ 0 ] ]) 21 → a ≡ true
+    one true b z = refl
+    one false true z = let no : ⊥ = omega arith in absurd no
+    one false false z = let no : ⊥ = omega arith in absurd no
+
 not-down : (s : Status) → isDown s ≡ false → s ≢ down
 not-down s e q = true≢false (sym (ap isDown q) ∙ e)
 
