@@ -1,5 +1,5 @@
--- What the low clocks of a node's children hold for its parents, parent by parent.
-use Prim.Native.Nat.{ℕ, suc, _+_, _-_, _^_, _≤_, _<_, max}
+-- What a child's low clock holds for a node's parents, parent by parent, and all the children's, channel by channel.
+use Prim.Native.Nat.{ℕ, zero, suc, _+_, _*_, _-_, _^_, _≤_, _<_, max}
 use mathlib.Core.Path.{_≡_, refl, sym, ap, subst, _∙_}
 use mathlib.Core.Logic.{_≢_}
 use mathlib.Core.Bool.{Bool, true, false, cond}
@@ -8,30 +8,64 @@ use native.Mathlib.Numerals.{add-one}
 use native.Mathlib.Omega.{arith}
 use borrow.Author.Tests.{eqb-true, ne-eqb}
 use lib.Dec.{eqb}
-use lib.ListN.{length, getD, drop}
-use lib.Seq.{drop-cons}
-use Rattle.plan.specs.Plan.{Plan, planOf, planNodes, planChannels, nodeCount, channelAt, entering, leaving}
+use lib.ListN.{length, getD, drop, length-drop}
+use lib.Seq.{drop-cons, getD-drop}
+use Rattle.plan.specs.declared.Channel.{Channel}
+use Rattle.plan.specs.Plan.{Plan, planOf, planChannels, channelAt, entering, leaving}
 use Rattle.plan.specs.Mask.{planMask}
-use Rattle.plan.proofs.AcceptedLaws.{four-at}
 use Rattle.plan.proofs.FitsLaws.{fitting}
-use Rattle.plan.proofs.MaskLaws.{entering-rise, leaving-rise, mask-few}
-use Rattle.plan.proofs.PlanLaws.{node-count, channel-count}
+use Rattle.plan.proofs.MaskLaws.{entering-rise, mask-few}
+use Rattle.plan.proofs.PlanLaws.{channel-count}
 use Rattle.rules.specs.Lists.{greatestOf}
 use Rattle.rules.specs.Line.{laneAt, parents}
 use Rattle.rules.specs.Clock.{entryFor}
 use Rattle.rules.specs.Recover.{childLows}
-use Rattle.rules.proofs.lists.Members.{In, here, there, map-same}
-use Rattle.rules.proofs.line.Joins.{entering-in, leaving-in}
+use Rattle.rules.proofs.lists.ListLaws.{map-more}
+use Rattle.rules.proofs.lists.Members.{In, here, there}
+use Rattle.rules.proofs.line.Joins.{entering-in}
 use Rattle.rules.proofs.steps.PlanOrder.{ordered-channels}
 use Rattle.items.proofs.Lookup.{Apart, beside, entering-apart}
+use Rattle.state.specs.Sizes.{blockAt, lowAt, lowLimit}
+use Rattle.state.specs.Right.{wordAt}
 use Rattle.state.specs.State.{lineOf}
 use Rattle.state.proofs.InPlace.{line-plan}
 use Rattle.state.proofs.PlanFitting.{low-long}
-use Rattle.buffer.specs.Ready.{Ready}
+use Rattle.channel_fields.proofs.LaneReads.{low-five, low-word}
+use Rattle.buffer.specs.Ready.{OnChannel}
 use Rattle.buffer.proofs.ReadyLaws.{heard-entering}
 use Rattle.buffer.proofs.MaskWalk.{Left, Next, left-none}
 use Rattle.buffer.specs.Rows.{rowsLong, Rows}
-use Rattle.recover.specs.Found.{greatestLow, raisedAt}
+use Rattle.recover.specs.Found.{NoLow, lowIn, lowOn, raisedAt, raisedBy}
+use Rattle.recover.proofs.ChildLaws.{leavingTo, numbers-turn, leaving-whole, high-snoc}
+
+-- ---- a low clock that holds nothing
+
+-- By the words behind the sender's.
+pub no-low : (s : List ℕ) (b : ℕ) → OnChannel s b → wordAt (blockAt b + lowAt + 4) s ≡ 0 → wordAt (blockAt b + lowAt + 8) s ≡ 0 → wordAt (blockAt b + lowAt + 12) s ≡ 0 → wordAt (blockAt b + lowAt + 16) s ≡ 0 → NoLow s b
+no-low s b on first second third fourth i behind h = sym (low-word s b (on .ready) (on .below) i h) ∙ each i behind (omega (arith, h, low-five s b (on .ready) (on .below)))
+  where
+    each : (i : ℕ) → 0 < i → i < lowLimit → wordAt (blockAt b + lowAt + 4 * i) s ≡ 0
+    each zero p l = let no : ⊥ = omega arith in absurd no
+    each (suc zero) p l = first
+    each (suc (suc zero)) p l = second
+    each (suc (suc (suc zero))) p l = third
+    each (suc (suc (suc (suc zero)))) p l = fourth
+    each (suc (suc (suc (suc (suc i))))) p l = let no : ⊥ = omega arith in absurd no
+
+-- Then it has 0 for each parent, and the rows stay as they are.
+entry-zero : (q : ℕ) (ps hs : List ℕ) → ((i : ℕ) → i < length hs → getD hs i 0 ≡ 0) → entryFor q ps hs ≡ 0
+entry-zero q [] hs z = refl
+entry-zero q (p ∷ ps) [] z = refl
+entry-zero q (p ∷ ps) (h ∷ hs) z = one (eqb p q) (z 0 (omega arith)) (entry-zero q ps hs (λ i l. z (suc i) (omega arith)))
+  where
+    one : (t : Bool) {x y : ℕ} → x ≡ 0 → y ≡ 0 → cond t x y ≡ 0
+    one true e f = e
+    one false e f = f
+
+pub lows-none : (s : List ℕ) (n b : ℕ) (rows : List ℕ) → length rows ≡ rowsLong → NoLow s b → Rows rows (raisedBy rows (lowIn s n b))
+lows-none s n b rows long none =
+    let low : List ℕ = laneAt (lineOf s) b .low in
+    record { long = long; each = λ q h. omega (arith, entry-zero q (parents (lineOf s .plan) n) (drop 1 low) (λ i l. getD-drop 1 low i 0 ∙ none (1 + i) (omega arith) (omega (arith, length-drop 1 low)))) }
 
 -- ---- the entry for a parent
 
@@ -50,118 +84,58 @@ module _ (p : Plan) (q : ℕ) where
   entry-none (b ∷ bs) [] away = refl
   entry-none (b ∷ bs) (h ∷ hs) away = rw (ne-eqb (channelAt p b .sender) q (away b here)) (entry-none bs hs (λ c i. away c (there i)))
 
-none-greatest : (f : ℕ → ℕ) (cs : List ℕ) → ((c : ℕ) → f c ≡ 0) → greatestOf (map f cs) ≡ 0
-none-greatest f [] none = refl
-none-greatest f (c ∷ cs) none = omega (arith, none c, none-greatest f cs none)
-
--- ---- the greatest at a place
-
--- Low, and the channels that are left.
-pub record LowTo (s : List ℕ) (n place left low : ℕ) : Type 0 where
-  pub channels : List ℕ
-  pub rest : Left (planChannels s) left channels
-  pub among : (c : ℕ) → In c channels → In c (leaving (planOf s) n)
-  pub now : max low (greatestOf (map (λ (c : ℕ). getD (laneAt (lineOf s) c .low) place 0) channels)) ≡ greatestLow s n place
-
 -- ---- parent by parent
 
--- What the low clocks hold for a parent that comes among some channels, their entries standing from a place on.
+-- What the low clock on channel b holds for a parent that comes among some channels, their entries standing from a place on.
 abbrev pub lowComing : List ℕ → ℕ → ℕ → List ℕ → ℕ → ℕ
-lowComing s n place bs q = greatestOf (map (λ (c : ℕ). entryFor q (senders (planOf s) bs) (drop place (laneAt (lineOf s) c .low))) (leaving (planOf s) n))
+lowComing s b place cs q = entryFor q (senders (planOf s) cs) (drop place (laneAt (lineOf s) b .low))
 
 -- The parents before a place are in their rows; the channels from the others are left.
-pub record LowsTo (s : List ℕ) (n left place : ℕ) (rows : List ℕ) : Type 0 where
+pub record LowsTo (s : List ℕ) (n b : ℕ) (start : List ℕ) (left place : ℕ) (rows : List ℕ) : Type 0 where
   pub channels : List ℕ
   pub rest : Left (planChannels s) left channels
   pub apart : Apart (planOf s) channels
   pub placed : place + length channels ≡ suc (length (entering (planOf s) n))
   pub long : length rows ≡ rowsLong
-  pub each : (q : ℕ) → q < rowsLong → max (getD rows q 0) (lowComing s n place channels q) ≡ greatestOf (childLows (lineOf s) n q)
+  pub each : (q : ℕ) → q < rowsLong → max (getD rows q 0) (lowComing s b place channels q) ≡ raisedBy start (lowIn s n b) q
 
 apart-first : (p : Plan) {b : ℕ} {bs : List ℕ} → Apart p (b ∷ bs) → ((c : ℕ) → In c bs → channelAt p c .sender ≢ channelAt p b .sender) × Apart p bs
 apart-first p (beside d r) = (d, r)
 
-module _ (s : List ℕ) (ready : Ready s) (n : ℕ) where
-  -- A child's low clock has an entry for the node and one for each of its parents.
-  lows-long : (c : ℕ) → In c (leaving (planOf s) n) → length (laneAt (lineOf s) c .low) ≡ suc (length (entering (planOf s) n))
-  lows-long c i =
-      let (h, from) = leaving-in (planOf s) n c i in
-      let below : c < planChannels s = rw channel-count at h in
-      low-long s (ready .fits) c below ∙ ap suc (sym (heard-entering s c (record { ready = ready; below = below })) ∙ ap (λ (k : ℕ). length (entering (planOf s) k)) from)
+module _ (s : List ℕ) (n b : ℕ) (on : OnChannel s b) (from : channelAt (planOf s) b .sender ≡ n) (start : List ℕ) where
+  abbrev low : List ℕ
+  low = laneAt (lineOf s) b .low
 
-  module _ (place : ℕ) (within : place ≤ length (entering (planOf s) n)) where
-    pub low-start : (mask : ℕ) → mask ≡ planMask s (leaving (planOf s) n) → mask < 2 ^ 32 → LowTo s n place mask 0
-    low-start mask e small =
-        record {
-          channels = leaving (planOf s) n;
-          rest = record {
-            rise = leaving-rise (planOf s) n;
-            is = e ∙ mask-few s (ready .channels) (leaving (planOf s) n);
-            small = small;
-            inside = λ c i. omega (arith, leaving-in (planOf s) n c i .0, channel-count s);
-          };
-          among = λ c i. i;
-          now = omega arith;
-        }
+  -- The low clock has an entry for the node and one for each of its parents.
+  lows-long : length low ≡ suc (length (entering (planOf s) n))
+  lows-long = low-long s (on .ready .fits) b (on .below) ∙ ap suc (sym (heard-entering s b on) ∙ ap (λ (k : ℕ). length (entering (planOf s) k)) from)
 
-    module _ (left low b : ℕ) (k : LowTo s n place left low) (x : Next (planChannels s) left b (k .channels)) where
-      pub low-there : place < length (laneAt (lineOf s) b .low)
-      low-there = omega (arith, lows-long b (k .among b (subst (In b) (sym (x .first)) here)))
-
-      pub low-turn : LowTo s n place (left - 2 ^ b) (max low (getD (laneAt (lineOf s) b .low) place 0))
-      low-turn =
-          record {
-            channels = x .rest;
-            rest = x .after;
-            among = λ c i. k .among c (subst (In c) (sym (x .first)) (there i));
-            now = (let h = rw (x .first) at (k .now) in omega (arith, h));
-          }
-
-    pub low-end : (low : ℕ) → LowTo s n place 0 low → low ≡ greatestLow s n place
-    low-end low k = let h = rw (left-none (planChannels s) (k .channels) (k .rest)) at (k .now) in omega (arith, h)
-
-    coming-turn : (q b : ℕ) (bs : List ℕ) (t : Bool) → eqb (channelAt (planOf s) b .sender) q ≡ t → lowComing s n place (b ∷ bs) q ≡ cond t (greatestLow s n place) (lowComing s n (suc place) bs q)
-    coming-turn q b bs t e = ap greatestOf (map-same was (next t) (leaving (planOf s) n) (λ c i. entry-turn (planOf s) q b bs (laneAt (lineOf s) c .low) place (omega (arith, lows-long c i)) ∙ rw e refl)) ∙ one t
-      where
-        was : ℕ → ℕ
-        was c = entryFor q (senders (planOf s) (b ∷ bs)) (drop place (laneAt (lineOf s) c .low))
-
-        next : Bool → ℕ → ℕ
-        next t c = cond t (getD (laneAt (lineOf s) c .low) place 0) (entryFor q (senders (planOf s) bs) (drop (suc place) (laneAt (lineOf s) c .low)))
-
-        one : (t : Bool) → greatestOf (map (next t) (leaving (planOf s) n)) ≡ cond t (greatestLow s n place) (lowComing s n (suc place) bs q)
-        one true = refl
-        one false = refl
-
-  coming-none : (place q : ℕ) (bs : List ℕ) → ((c : ℕ) → In c bs → channelAt (planOf s) c .sender ≢ q) → lowComing s n place bs q ≡ 0
-  coming-none place q bs away = none-greatest (λ (c : ℕ). entryFor q (senders (planOf s) bs) (drop place (laneAt (lineOf s) c .low))) (leaving (planOf s) n) (λ c. entry-none (planOf s) q bs (drop place (laneAt (lineOf s) c .low)) away)
-
-  pub lows-start : (mask : ℕ) (rows : List ℕ) → mask ≡ planMask s (entering (planOf s) n) → mask < 2 ^ 32 → Rows rows (λ q. 0) → LowsTo s n mask 1 rows
-  unfolding childLows parents
-  lows-start mask rows e small none =
+  pub lows-start : (mask : ℕ) → mask ≡ planMask s (entering (planOf s) n) → mask < 2 ^ 32 → length start ≡ rowsLong → LowsTo s n b start mask 1 start
+  unfolding parents
+  lows-start mask e small long =
       record {
         channels = entering (planOf s) n;
         rest = record {
           rise = entering-rise (planOf s) n;
-          is = e ∙ mask-few s (ready .channels) (entering (planOf s) n);
+          is = e ∙ mask-few s (on .ready .channels) (entering (planOf s) n);
           small = small;
-          inside = λ b i. omega (arith, entering-in (planOf s) n b i .0, channel-count s);
+          inside = λ c i. omega (arith, entering-in (planOf s) n c i .0, channel-count s);
         };
-        apart = entering-apart (planOf s) (ordered-channels (planOf s) (fitting (planOf s) (ready .fits) .channels)) n;
+        apart = entering-apart (planOf s) (ordered-channels (planOf s) (fitting (planOf s) (on .ready .fits) .channels)) n;
         placed = omega arith;
-        long = none .long;
-        each = λ q h. rw (line-plan s) (omega (arith, none .each q h));
+        long = long;
+        each = λ q h. rw (line-plan s) refl;
       }
 
-  module _ (left place : ℕ) (rows : List ℕ) (b : ℕ) (k : LowsTo s n left place rows) (x : Next (planChannels s) left b (k .channels)) where
-    pub lows-within : place ≤ length (entering (planOf s) n)
-    lows-within = omega (arith, k .placed, ap length (x .first))
+  module _ (left place : ℕ) (rows : List ℕ) (c : ℕ) (k : LowsTo s n b start left place rows) (x : Next (planChannels s) left c (k .channels)) where
+    pub lows-there : place < length low
+    lows-there = omega (arith, k .placed, ap length (x .first), lows-long)
 
-    pub lows-few : n < planNodes s → place ≤ 4
-    lows-few h = omega (arith, lows-within, four-at (planOf s) (nodeCount (planOf s)) n (fitting (planOf s) (ready .fits) .degrees) (rw node-count h) .0)
+    pub lows-few : place ≤ 4
+    lows-few = omega (arith, lows-there, low-five s b (on .ready) (on .below))
 
-    pub lows-turn : (next : List ℕ) → Rows next (raisedAt rows (channelAt (planOf s) b .sender) (greatestLow s n place)) → LowsTo s n (left - 2 ^ b) (place + 1) next
-    lows-turn next r =
+    pub lows-turn : (parent time : ℕ) (next : List ℕ) → parent ≡ channelAt (planOf s) c .sender → time ≡ getD low place 0 → Rows next (raisedAt rows parent time) → LowsTo s n b start (left - 2 ^ c) (place + 1) next
+    lows-turn parent time next is entry r =
         let (away, others) = apart-first (planOf s) (subst (Apart (planOf s)) (x .first) (k .apart)) in
         record {
           channels = x .rest;
@@ -169,23 +143,48 @@ module _ (s : List ℕ) (ready : Ready s) (n : ℕ) where
           apart = others;
           placed = omega (arith, k .placed, ap length (x .first));
           long = r .long;
-          each = λ q h. one q h away (eqb (channelAt (planOf s) b .sender) q) refl;
+          each = λ q h. one q h away (eqb (channelAt (planOf s) c .sender) q) refl;
         }
       where
-        one : (q : ℕ) → q < rowsLong → ((c : ℕ) → In c (x .rest) → channelAt (planOf s) c .sender ≢ channelAt (planOf s) b .sender) → (t : Bool) → eqb (channelAt (planOf s) b .sender) q ≡ t
-            → max (getD next q 0) (lowComing s n (place + 1) (x .rest) q) ≡ greatestOf (childLows (lineOf s) n q)
+        one : (q : ℕ) → q < rowsLong → ((d : ℕ) → In d (x .rest) → channelAt (planOf s) d .sender ≢ channelAt (planOf s) c .sender) → (t : Bool) → eqb (channelAt (planOf s) c .sender) q ≡ t
+            → max (getD next q 0) (lowComing s b (place + 1) (x .rest) q) ≡ raisedBy start (lowIn s n b) q
         one q h away true e =
             let was = rw (x .first) at (k .each q h) in
-            let raised = rw e at (r .each q h) in
-            omega (arith, was, raised, coming-turn place lows-within q b (x .rest) true e, coming-none (place + 1) q (x .rest) (λ c i z. away c i (z ∙ sym (eqb-true (channelAt (planOf s) b .sender) q e))))
+            let raised = rw (is, entry, e) at (r .each q h) in
+            let turn = rw e at (entry-turn (planOf s) q c (x .rest) low place lows-there) in
+            omega (arith, was, raised, turn, entry-none (planOf s) q (x .rest) (drop (place + 1) low) (λ d i z. away d i (z ∙ sym (eqb-true (channelAt (planOf s) c .sender) q e))))
         one q h away false e =
             let was = rw (x .first) at (k .each q h) in
-            let left = rw e at (r .each q h) in
-            rw (add-one place) (omega (arith, was, left, coming-turn place lows-within q b (x .rest) false e))
+            let raised = rw (is, entry, e) at (r .each q h) in
+            let turn = rw e at (entry-turn (planOf s) q c (x .rest) low place lows-there) in
+            rw (add-one place) (omega (arith, was, raised, turn))
 
-  pub lows-end : (place : ℕ) (rows : List ℕ) → LowsTo s n 0 place rows → Rows rows (λ q. greatestOf (childLows (lineOf s) n q))
-  lows-end place rows k =
-      record {
-        long = k .long;
-        each = λ q h. (let all = rw (left-none (planChannels s) (k .channels) (k .rest)) at (k .each q h) in omega (arith, all, coming-none place q [] (λ c i. elim i [ ])));
-      }
+  pub lows-end : (place : ℕ) (rows : List ℕ) → LowsTo s n b start 0 place rows → Rows rows (raisedBy start (lowIn s n b))
+  lows-end place rows k = record { long = k .long; each = λ q h. (let all = rw (left-none (planChannels s) (k .channels) (k .rest)) at (k .each q h) in omega (arith, all)) }
+
+-- ---- channel by channel
+
+module _ (s : List ℕ) (n b q : ℕ) where
+  -- What the low clocks on the channels before b hold for a parent.
+  abbrev pub lowsBefore : List ℕ
+  lowsBefore = map (λ (c : ℕ). lowIn s n c q) (leavingTo (planOf s) n b)
+
+module _ (s : List ℕ) (n b q : ℕ) where
+  pub low-more : b < planChannels s → greatestOf (lowsBefore s n (b + 1) q) ≡ max (greatestOf (lowsBefore s n b q)) (lowOn s n b q)
+  low-more h =
+      let t : Bool = eqb (channelAt (planOf s) b .sender) n in
+      let low : ℕ → ℕ = λ c. lowIn s n c q in
+      ap (λ (bs : List ℕ). greatestOf (map low bs)) (numbers-turn (planOf s) (λ (c : Channel). eqb (c .sender) n) b (rw channel-count h))
+      ∙ ap greatestOf (map-more low t b (leavingTo (planOf s) n b))
+      ∙ high-snoc (lowsBefore s n b q) t (low b)
+      ∙ one t (greatestOf (lowsBefore s n b q)) (low b)
+    where
+      one : (t : Bool) (most x : ℕ) → cond t (max most x) most ≡ max most (cond t x 0)
+      one true most x = refl
+      one false most x = omega arith
+
+  pub low-whole : planChannels s ≤ b → lowsBefore s n b q ≡ childLows (lineOf s) n q
+  unfolding childLows
+  low-whole h =
+      let low : ℕ → ℕ = λ c. lowIn s n c q in
+      ap (map low) (leaving-whole (planOf s) n b (rw channel-count h)) ∙ sym (ap (λ (p : Plan). map low (leaving p n)) (line-plan s))

@@ -8,13 +8,11 @@ use borrow.Author.Tests.{eqb-true, eqb-false, le-leb, lt-leb}
 use lib.Dec.{eqb}
 use lib.ListN.{length, getD, set, replicate, length-set}
 use lib.Seq.{getD-set-same, getD-set-other}
-use Rattle.rules.specs.Line.{Target, Line}
-use Rattle.rules.specs.Lists.{greatestOf}
-use Rattle.rules.specs.Recover.{lowOf, childTriples, childLows, restored}
+use Rattle.rules.specs.Line.{Target}
 use Rattle.basics.specs.Replicate.{replicate-default}
 use Rattle.buffer.specs.Rows.{rowsLong, Rows}
 use Rattle.recover.specs.Found.{restoredOver, raisedAt, raisedBy}
-use Rattle.recover.proofs.TripleLaws.{restored-append, restored-one, restored-is}
+use Rattle.recover.proofs.TripleLaws.{restored-append, restored-one}
 
 -- ---- rows
 
@@ -59,7 +57,3 @@ raised-nothing low rows long = record { long = long; each = λ q h. omega arith 
 pub raised-more : (low : ℕ) (us vs : List Target) (start : List ℕ) {rows next : List ℕ} → Rows rows (raisedBy start (λ q. restoredOver low q us)) → Rows next (raisedBy rows (λ q. restoredOver low q vs))
     → Rows next (raisedBy start (λ q. restoredOver low q (us ++ vs)))
 raised-more low us vs start a b = record { long = b .long; each = λ q h. omega (arith, b .each q h, a .each q h, restored-append low q us vs) }
-
--- All the children's, in rows that hold their low clocks before.
-pub restored-whole : (l : Line) (n low : ℕ) {start rows : List ℕ} → low ≡ lowOf l n → Rows start (λ q. greatestOf (childLows l n q)) → Rows rows (raisedBy start (λ q. restoredOver low q (childTriples l n))) → Rows rows (restored l n)
-restored-whole l n low e lows r = record { long = r .long; each = λ q h. omega (arith, r .each q h, lows .each q h, restored-is l n q low e) }

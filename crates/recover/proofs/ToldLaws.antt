@@ -1,22 +1,25 @@
 -- What the children tell of a node, entry by entry and channel by channel.
-use Prim.Native.Nat.{ℕ, _+_, _≤_, _<_}
-use mathlib.Core.Path.{_≡_, refl, sym, ap, subst, _∙_}
+use Prim.Native.Nat.{ℕ, _+_, _≤_, _<_, max}
+use mathlib.Core.Path.{_≡_, refl, sym, ap, ap₂, subst, _∙_}
+use mathlib.Core.Logic.{_≢_}
 use mathlib.Core.Bool.{Bool, cond}
 use mathlib.Core.List.{List, [], _∷_, _++_}
 use native.Mathlib.Omega.{arith}
+use borrow.Author.Tests.{eq-eqb, ne-eqb}
 use lib.ListN.{length, getD, take}
-use Rattle.plan.specs.Plan.{planChannels}
+use Rattle.plan.specs.Plan.{planOf, planChannels, channelAt}
 use Rattle.rules.specs.Line.{Entry, Target}
 use Rattle.rules.specs.Lists.{greatestOf}
-use Rattle.rules.specs.Recover.{lowOf, triples, childLows, restored, addTarget, targetsOf}
+use Rattle.rules.specs.Recover.{lowOf, triples, restored, addTarget, targetsOf}
 use Rattle.state.specs.State.{lineOf}
 use Rattle.recover.specs.declared.Triple.{Triple}
 use Rattle.buffer.specs.Nothing.{noEntry}
 use Rattle.buffer.specs.Rows.{rowsLong, Rows}
-use Rattle.recover.specs.Found.{tripleOf, tripleList, triplesOn, target, slotsLong, Kept, Changed, addAbove, Found, raisedAt, Told}
-use Rattle.recover.proofs.TripleLaws.{triples-turn, triples-whole, triplesTo, child-turn, child-whole}
+use Rattle.recover.specs.Found.{tripleOf, tripleList, childLog, triplesOn, restoredOver, lowIn, target, slotsLong, Kept, Changed, addAbove, Found, raisedAt, raisedBy, Told, ToldOn}
+use Rattle.recover.proofs.TripleLaws.{triples-turn, triples-whole, triplesTo, child-turn, child-whole, restored-append, restored-is}
+use Rattle.recover.proofs.LowLaws.{lowsBefore, low-more, low-whole}
 use Rattle.recover.proofs.FoundLaws.{no-change, changed-as, above-one, above-none, changed-more, found-whole}
-use Rattle.recover.proofs.RestoredLaws.{raised-one, raised-none, raised-nothing, raised-more, restored-whole}
+use Rattle.recover.proofs.RestoredLaws.{raised-one, raised-none, raised-nothing, raised-more}
 
 pub told-nothing : (low : ℕ) (xs : List ℕ) (count : ℕ) (rows : List ℕ) → Kept xs count → length rows ≡ rowsLong → Told low [] xs count rows xs count rows
 told-nothing low xs count rows k long = record { changed = no-change xs count k; raised = raised-nothing low rows long }
@@ -58,20 +61,37 @@ module _ (n low : ℕ) (log : List Entry) (xs : List ℕ) (start : ℕ) (rows : 
 
 -- ---- channel by channel
 
-module _ (s : List ℕ) (n low : ℕ) (xs rows : List ℕ) where
-  pub record ChannelsTold (b : ℕ) (ys : List ℕ) (count : ℕ) (now : List ℕ) : Type 0 where
+module _ (s : List ℕ) (n b low : ℕ) (xs : List ℕ) (count : ℕ) (rows : List ℕ) where
+  pub told-other : channelAt (planOf s) b .sender ≢ n → Kept xs count → length rows ≡ rowsLong → ToldOn s n b low xs count rows xs count rows
+  told-other h k long =
+      let other = ne-eqb (channelAt (planOf s) b .sender) n h in
+      record { changed = rw other (no-change xs count k); raised = rw other (record { long = long; each = λ q l. omega arith }) }
+
+  pub told-child : (mid ys : List ℕ) (r : ℕ) (next : List ℕ) → channelAt (planOf s) b .sender ≡ n → Rows mid (raisedBy rows (lowIn s n b)) → Told low (triples n (childLog s b)) xs count mid ys r next
+      → ToldOn s n b low xs count rows ys r next
+  told-child mid ys r next e lows t =
+      let same = eq-eqb (channelAt (planOf s) b .sender) n e in
+      record { changed = rw same (t .changed); raised = rw same (record { long = t .raised .long; each = λ q h. omega (arith, t .raised .each q h, lows .each q h) }) }
+
+module _ (s : List ℕ) (n low : ℕ) (xs : List ℕ) where
+  pub record ChannelsTold (b : ℕ) (ys : List ℕ) (count : ℕ) (rows : List ℕ) : Type 0 where
     pub within : b ≤ planChannels s
-    pub told : Told low (triplesTo s n b) xs 0 rows ys count now
+    pub changed : Changed (addAbove low (triplesTo s n b)) xs 0 ys count
+    pub raised : Rows rows (λ q. max (greatestOf (lowsBefore s n b q)) (restoredOver low q (triplesTo s n b)))
 
-  pub channels-start : length xs ≡ slotsLong → length rows ≡ rowsLong → ChannelsTold 0 xs 0 rows
-  channels-start e long = record { within = omega arith; told = told-nothing low xs 0 rows (record { long = e; few = omega arith; ordered = λ h. refl }) long }
+  pub channels-start : (rows : List ℕ) → length xs ≡ slotsLong → Rows rows (λ q. 0) → ChannelsTold 0 xs 0 rows
+  channels-start rows e none = record { within = omega arith; changed = no-change xs 0 (record { long = e; few = omega arith; ordered = λ h. refl }); raised = none }
 
-  pub channels-turn : (b : ℕ) (ys : List ℕ) (count : ℕ) (now zs : List ℕ) (r : ℕ) (next : List ℕ) → b < planChannels s → Told low (triplesOn s n b) ys count now zs r next → ChannelsTold b ys count now
-      → ChannelsTold (b + 1) zs r next
-  channels-turn b ys count now zs r next h t k = record { within = omega arith; told = told-over low (sym (child-turn s n b h)) (told-more low (triplesTo s n b) (triplesOn s n b) (k .told) t) }
+  pub channels-turn : (b : ℕ) (ys : List ℕ) (count : ℕ) (rows zs : List ℕ) (r : ℕ) (next : List ℕ) → b < planChannels s → ToldOn s n b low ys count rows zs r next → ChannelsTold b ys count rows → ChannelsTold (b + 1) zs r next
+  channels-turn b ys count rows zs r next h t k =
+      let more = child-turn s n b h in
+      record {
+        within = omega arith;
+        changed = rw more (changed-more low (triplesTo s n b) (triplesOn s n b) (k .changed) (t .changed));
+        raised = record { long = t .raised .long; each = λ q l. rw (more, low-more s n b q h) (omega (arith, t .raised .each q l, k .raised .each q l, restored-append low q (triplesTo s n b) (triplesOn s n b))) };
+      }
 
-  pub channels-end : (b : ℕ) (ys : List ℕ) (count : ℕ) (now : List ℕ) → planChannels s ≤ b → low ≡ lowOf (lineOf s) n → Rows rows (λ q. greatestOf (childLows (lineOf s) n q)) → ChannelsTold b ys count now
-      → Found ys count (targetsOf (lineOf s) n) × Rows now (restored (lineOf s) n)
-  channels-end b ys count now h e lows k =
-      let all = told-over low (child-whole s n b h) (k .told) in
-      (found-whole (lineOf s) n low e (all .changed), restored-whole (lineOf s) n low e lows (all .raised))
+  pub channels-end : (b : ℕ) (ys : List ℕ) (count : ℕ) (rows : List ℕ) → planChannels s ≤ b → low ≡ lowOf (lineOf s) n → ChannelsTold b ys count rows → Found ys count (targetsOf (lineOf s) n) × Rows rows (restored (lineOf s) n)
+  channels-end b ys count rows h e k =
+      let whole = child-whole s n b h in
+      (found-whole (lineOf s) n low e (rw whole at (k .changed)), record { long = k .raised .long; each = λ q l. k .raised .each q l ∙ ap₂ max (ap greatestOf (low-whole s n b q h)) (ap (restoredOver low q) whole) ∙ restored-is (lineOf s) n q low e })

@@ -5,7 +5,6 @@ use mathlib.Core.Bool.{Bool, true, false, not, cond, _&&_, and-false}
 use mathlib.Core.List.{List, [], _∷_, _++_, map, append-assoc}
 use native.Mathlib.Numerals.{add-one}
 use native.Mathlib.Omega.{arith}
-use borrow.Author.Tests.{eq-eqb, ne-eqb}
 use lib.Dec.{leb, eqb, eqb·zero-suc, eqb·suc-zero, eqb·suc-suc}
 use lib.ListN.{length, getD, take, drop}
 use lib.Seq.{take-suc, take-all}
@@ -123,12 +122,6 @@ module _ (s : List ℕ) (n b : ℕ) where
       ∙ ap joined (map-more of t b before)
       ∙ joined-append (map of before) (keepOne t (of b) [])
       ∙ ap (λ (ts : List Target). triplesTo s n b ++ ts) (joined-one t (of b))
-
-  pub on-leaving : channelAt (planOf s) b .sender ≡ n → triplesOn s n b ≡ triples n (childLog s b)
-  on-leaving e = rw (eq-eqb (channelAt (planOf s) b .sender) n e)
-
-  pub on-other : (channelAt (planOf s) b .sender ≡ n → ⊥) → triplesOn s n b ≡ []
-  on-other h = rw (ne-eqb (channelAt (planOf s) b .sender) n h)
 
   pub child-whole : planChannels s ≤ b → triplesTo s n b ≡ childTriples (lineOf s) n
   unfolding childTriples

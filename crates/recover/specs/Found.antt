@@ -5,9 +5,10 @@ use mathlib.Core.Bool.{Bool, true, not, cond, _&&_, _||_}
 use mathlib.Core.List.{List, [], _∷_, _++_, map}
 use lib.Dec.{leb, ltb, eqb}
 use lib.ListN.{length, getD, set, take, drop}
-use Rattle.plan.specs.Plan.{planOf, planNodes, channelAt, entering, leaving}
+use Rattle.plan.specs.Plan.{planOf, planNodes, channelAt, entering}
 use Rattle.rules.specs.Lists.{keep, allOf, greatestOf}
-use Rattle.rules.specs.Line.{logLimit, Entry, Target, Line, nodeAt, laneAt, senderOf, targetLimit}
+use Rattle.rules.specs.Line.{logLimit, Entry, Target, Line, nodeAt, laneAt, senderOf, parents, targetLimit}
+use Rattle.rules.specs.Clock.{entryFor}
 use Rattle.rules.specs.Recover.{triple, triples, sameTarget, targetBefore, addTarget, sortTargets, restored, conflict, rowGoal}
 use Rattle.rules.specs.Damaged.{sameTargets}
 use Rattle.state.specs.Sizes.{pageAt, logAt}
@@ -51,9 +52,16 @@ restoredOver low parent ts = greatestOf (map (λ (t : Target). t .parentTime) (k
 
 -- ---- low clocks
 
--- The greatest entry at a place in the low clocks of a node's children.
-abbrev pub greatestLow : List ℕ → ℕ → ℕ → ℕ
-greatestLow s n place = greatestOf (map (λ (c : ℕ). getD (laneAt (lineOf s) c .low) place 0) (leaving (planOf s) n))
+-- The low clock on channel b holds nothing behind the sender's entry.
+abbrev pub NoLow : List ℕ → ℕ → Type 0
+NoLow s b = (i : ℕ) → 0 < i → i < length (laneAt (lineOf s) b .low) → getD (laneAt (lineOf s) b .low) i 0 ≡ 0
+
+-- What the low clock on channel b holds for a parent of its sender, node n; and what the channel adds to the node's restored entry for the parent.
+abbrev pub lowIn : List ℕ → ℕ → ℕ → ℕ → ℕ
+lowIn s n b parent = entryFor parent (parents (lineOf s .plan) n) (drop 1 (laneAt (lineOf s) b .low))
+
+abbrev pub lowOn : List ℕ → ℕ → ℕ → ℕ → ℕ
+lowOn s n b parent = cond (eqb (channelAt (planOf s) b .sender) n) (lowIn s n b parent) 0
 
 -- ---- targets in a lent slice, three numbers each
 
@@ -139,6 +147,11 @@ isAbove rows parent time = ltb parent rowsLong && ltb (getD rows parent 0) time
 pub record Told (low : ℕ) (ts : List Target) (xs : List ℕ) (count : ℕ) (rows ys : List ℕ) (r : ℕ) (next : List ℕ) : Type 0 where
   pub changed : Changed (addAbove low ts) xs count ys r
   pub raised : Rows next (raisedBy rows (λ q. restoredOver low q ts))
+
+-- What channel b tells of node n: its triples, and in the parents' rows what its low clock holds, too.
+pub record ToldOn (s : List ℕ) (n b low : ℕ) (xs : List ℕ) (count : ℕ) (rows ys : List ℕ) (r : ℕ) (next : List ℕ) : Type 0 where
+  pub changed : Changed (addAbove low (triplesOn s n b)) xs count ys r
+  pub raised : Rows next (raisedBy rows (λ q. max (lowOn s n b q) (restoredOver low q (triplesOn s n b))))
 
 -- ---- rows
 

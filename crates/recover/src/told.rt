@@ -9,7 +9,7 @@ ghost use Rattle.rules.specs.Recover.{lowOf, highOf, triples, restored, targets
 ghost use Rattle.state.specs.State.{lineOf};
 ghost use Rattle.buffer.specs.Ready.{Ready, OnChannel};
 ghost use Rattle.buffer.specs.Rows.{rowsLong, Rows};
-ghost use Rattle.recover.specs.Found.{LogsCounted, lowWith, entryAt, tripleOf, tripleList, triplesOn, slotsLong, Kept, Found, Told};
+ghost use Rattle.recover.specs.Found.{LogsCounted, lowWith, entryAt, tripleOf, tripleList, slotsLong, Kept, Found, Told, ToldOn};
 use crate::ENTRIES;
 use crate::LOG;
 use crate::Triple;
@@ -164,7 +164,7 @@ fn told_in(
     count
 }
 
-// On channel b: in the log at its end, if the channel leaves the node.
+// On channel b: by the low clock and in the log at its end, if the channel leaves the node.
 fn told_on(
     s: &[u8],
     n: usize,
@@ -175,11 +175,12 @@ fn told_on(
     rows: &mut [u32; 12],
 ) -> usize
     requires { ⌜ OnChannel (now s) b × LogsCounted (now s) × (n < planNodes (now s)) × Kept (now xs) start × (length (now rows) ≡ rowsLong) ⌝ }
-    ensures { λ r. ⌜ Told low (triplesOn (now (s .entry)) n b) (now (xs .entry)) start (now (rows .entry)) (now (xs .exit)) r (now (rows .exit)) ⌝ }
+    ensures { λ r. ⌜ ToldOn (now (s .entry)) n b low (now (xs .entry)) start (now (rows .entry)) (now (xs .exit)) r (now (rows .exit)) ⌝ }
 {
     if look::sender_of(s, b) != n {
         return start;
     }
+    lows::lows_on(s, n, b, rows);
     told_in(s, n, look::receiver_of(s, b), low, xs, start, rows)
 }
 
@@ -189,7 +190,6 @@ pub fn told_of(s: &[u8], n: usize, low: u32, xs: &mut [u32], rows: &mut [u32; 12
     requires { ⌜ Ready (now s) × LogsCounted (now s) × (n < planNodes (now s)) × (low ≡ lowOf (lineOf (now s)) n) × (length (now xs) ≡ slotsLong) × Rows (now rows) (λ q. 0) ⌝ }
     ensures { λ r. ⌜ Found (now (xs .exit)) r (targetsOf (lineOf (now (s .entry))) n) × Rows (now (rows .exit)) (restored (lineOf (now (s .entry))) n) ⌝ }
 {
-    lows::lows_of(s, n, rows);
     let m = look::channel_count(s);
     let mut count: usize = 0;
     let mut b: usize = 0;
