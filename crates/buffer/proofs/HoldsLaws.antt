@@ -15,7 +15,7 @@ use Rattle.rules.specs.Line.{logLimit, queueLimit, heldLimit, targetLimit, Node
 use Rattle.rules.proofs.line.LineLaws.{node-there, plan-kept, lane-there, plan-same}
 use Rattle.state.specs.Sizes.{countSize, pageAt, logAt, heldAt, targetsAt, blockAt, queueAt, stepsOfAt}
 use Rattle.state.specs.Node.{logLayout, heldListLayout, targetsLayout, nodeLayout}
-use Rattle.state.specs.Lane.{queueLayout, laneLayout, padHeard}
+use Rattle.state.specs.Lane.{queueLayout, laneLayout, padLane}
 use Rattle.state.specs.Pieces.{messageLayout, entryLayout, heldLayout, targetLayout}
 use Rattle.state.specs.State.{lineBytes, lineOf}
 use Rattle.state.specs.Fits.{TimeFits, NodeFits, LaneFits, LineFits}
@@ -186,14 +186,14 @@ module _ {s : List ℕ} {b : ℕ} (at : AtLane s b) where
   lane-fits = at .holds .fits .lane b lane-below
 
   -- The state with another lane there.
-  pub lane-over : (x : Lane) → Swapped (blockAt b) (laneLayout .write (padHeard (laneAt along b))) (laneLayout .write (padHeard x)) s (lineBytes (withLane b x along))
+  pub lane-over : (x : Lane) → Swapped (blockAt b) (laneLayout .write (padLane (laneAt along b))) (laneLayout .write (padLane x)) s (lineBytes (withLane b x along))
   lane-over x = swap-from (line-lane-swap along (at .holds .fits) b x lane-below) (at .holds .written)
 
   module _ {t : List ℕ} (x : Lane) (f : LaneFits x) (heard : length (x .heard) ≡ length (laneAt along b .heard)) (low : length (x .low) ≡ length (laneAt along b .low)) where
     pub lane-holds : t ≡ lineBytes (withLane b x along) → Holds t (withLane b x along)
     lane-holds e = holds-of (withLane b x along) e (fits-lane along (at .holds .fits) b x f heard low lane-below)
 
-    pub lane-put : {o : ℕ} {old new : List ℕ} → Swapped o old new (laneLayout .write (padHeard (laneAt along b))) (laneLayout .write (padHeard x)) → length old ≡ length new
+    pub lane-put : {o : ℕ} {old new : List ℕ} → Swapped o old new (laneLayout .write (padLane (laneAt along b))) (laneLayout .write (padLane x)) → length old ≡ length new
         → (place : ℕ) → place ≡ blockAt b + o → t ≡ put s place new → Holds t (withLane b x along)
     lane-put {new = new} w e place q r = lane-holds (r ∙ ap (λ (a : ℕ). put s a new) q ∙ sym (swap-put (swap-in (lane-over x) w) e))
 

@@ -51,7 +51,7 @@ pub fn heard_of(s: &[u8], b: usize, place: usize) -> u32
 }
 
 // The low clock's entry at a place: the sender's, and then its parents'.
-pub fn low_of(s: &[u8], b: usize, place: usize) -> u32
+pub fn low_clock_of(s: &[u8], b: usize, place: usize) -> u32
     requires { ⌜ Ready (now s) × (b < planChannels (now s)) × (place < length (laneAt (lineOf (now s)) b .low)) ⌝ }
     ensures { λ r. ⌜ r ≡ getD (laneAt (lineOf (now (s .entry))) b .low) place 0 ⌝ }
 {
@@ -102,7 +102,7 @@ pub fn clear_heard(s: &mut [u8], b: usize)
 }
 
 // Every entry of the low clock becomes 0.
-pub fn clear_low(s: &mut [u8], b: usize)
+pub fn clear_low_clock(s: &mut [u8], b: usize)
     requires { ⌜ AtLane (now s) b ⌝ }
     ensures { λ _. ⌜ LaneNow (now (s .entry)) b nothingLow (now (s .exit)) ⌝ }
 {
@@ -111,7 +111,7 @@ pub fn clear_low(s: &mut [u8], b: usize)
 }
 
 // The low clock's entry at a place, raised to a time.
-pub fn raise_low(s: &mut [u8], b: usize, place: usize, time: u32)
+pub fn raise_low_clock(s: &mut [u8], b: usize, place: usize, time: u32)
     requires { ⌜ AtLane (now s) b × (place < length (laneAt (lineOf (now s)) b .low)) ⌝ }
     ensures { λ _. ⌜ LaneNow (now (s .entry)) b (lowTo place time) (now (s .exit)) ⌝ }
 {

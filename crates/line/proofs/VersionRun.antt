@@ -14,7 +14,7 @@ use Rattle.rules.specs.Versions.{LineAlike}
 use Rattle.rules.proofs.Order.{story-plan}
 use Rattle.rules.proofs.versions.RunAlike.{run-alike}
 use Rattle.state.specs.Sizes.{planArea, tailSize}
-use Rattle.state.specs.Lane.{padHeard}
+use Rattle.state.specs.Lane.{padLane}
 use Rattle.state.specs.Fits.{LineFits}
 use Rattle.state.specs.State.{planPart, stepsPart, nodesPart, lanesPart, lineBytes, lineOf}
 use Rattle.state.proofs.SpelledLaws.{Sane, state-sane}
@@ -36,7 +36,7 @@ planIn p = planPart (p .version) (nodeCount p) (channelCount p) .write (headNumb
 -- What stands behind it.
 abbrev behindPlan : Line → List ℕ
 behindPlan l =
-    stepsPart .write (l .steps) ++ (nodesPart (nodeCount (l .plan)) .write (l .nodes) ++ lanesPart (channelCount (l .plan)) .write (map padHeard (l .lanes))) ++ replicate tailSize 0
+    stepsPart .write (l .steps) ++ (nodesPart (nodeCount (l .plan)) .write (l .nodes) ++ lanesPart (channelCount (l .plan)) .write (map padLane (l .lanes))) ++ replicate tailSize 0
 
 plan-apart : (l : Line) → LineFits l → (take planArea (lineBytes l) ≡ planIn (l .plan)) × (drop planArea (lineBytes l) ≡ behindPlan l)
 unfolding lineBytes
@@ -44,7 +44,7 @@ plan-apart l fits =
     let p = l .plan in
     let few = fitting p (fits .plan) in
     let front = planIn p in
-    let rest = stepsPart .write (l .steps) ++ (nodesPart (nodeCount p) .write (l .nodes) ++ lanesPart (channelCount p) .write (map padHeard (l .lanes))) in
+    let rest = stepsPart .write (l .steps) ++ (nodesPart (nodeCount p) .write (l .nodes) ++ lanesPart (channelCount p) .write (map padLane (l .lanes))) in
     let split = append-assoc front rest (replicate tailSize 0) in
     let long : length front ≡ planArea = plan-part-sound (p .version) (nodeCount p) (channelCount p) .sized (headNumbers p, p) ∙ plan-long (p .version) (nodeCount p) (channelCount p) (few .nodesMost) (few .channelsMost) in
     (ap (take planArea) split ∙ take-at front (rest ++ replicate tailSize 0) planArea long, ap (drop planArea) split ∙ drop-at front (rest ++ replicate tailSize 0) planArea long)
@@ -59,7 +59,7 @@ behind-of s sane = ap (drop planArea) (sym (sane .written)) ∙ plan-apart (line
 behind-alike : (k l : Line) → LineAlike k l → behindPlan k ≡ behindPlan l
 behind-alike k l same = λ i.
     stepsPart .write (same .steps i)
-    ++ (nodesPart (length (same .plan .rules i)) .write (same .nodes i) ++ lanesPart (length (same .plan .channels i)) .write (map padHeard (same .lanes i)))
+    ++ (nodesPart (length (same .plan .rules i)) .write (same .nodes i) ++ lanesPart (length (same .plan .channels i)) .write (map padLane (same .lanes i)))
     ++ replicate tailSize 0
 
 -- One of the runs.

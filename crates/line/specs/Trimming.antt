@@ -6,12 +6,12 @@ use mathlib.Core.Bool.{true}
 use mathlib.Core.List.{List}
 use lib.ListN.{length, replicate}
 use Rattle.plan.specs.Lawful.{Each, Bytes}
-use Rattle.rules.specs.Line.{nodeAt}
-use Rattle.rules.specs.Frame.{trim, frameOf}
+use Rattle.rules.specs.Line.{logLimit, up, nodeAt}
+use Rattle.rules.specs.Frame.{frameOf}
 use Rattle.rules.specs.Trimming.{WithTrims, logsAt}
 use Rattle.state.specs.State.{lineOf, stateAnswer}
 use Rattle.line.specs.Load.{loadAnswer, loadLeft}
-use Rattle.line.specs.Step.{stepAnswer, stepLeft}
+use Rattle.line.specs.Step.{stepAnswer}
 use Rattle.line.specs.Order.{stateAfter, storyOf}
 
 -- Frames that are all answered 0, from a state on.
@@ -27,5 +27,5 @@ TrimsChangeNothingOnBytes =
 -- "The freed entries are used by later steps": of every state that the check accepts.
 abbrev pub FreedAreUsedOnBytes : Type 0
 FreedAreUsedOnBytes =
-    (state : List ℕ) (n : ℕ) (f g : List ℕ) → Bytes f → Bytes g → stateAnswer state ≡ 0 → frameOf f ≡ trim n → stepAnswer state f ≡ 0
-    → (let left = stepLeft state f in length (nodeAt (lineOf left) n .log) < length (nodeAt (lineOf state) n .log) → logsAt (lineOf left) n (frameOf g) ≡ true → stepAnswer left g ≢ 21)
+    (state : List ℕ) (n : ℕ) (frame : List ℕ) → stateAnswer state ≡ 0 → nodeAt (lineOf state) n .status ≡ up → length (nodeAt (lineOf state) n .log) < logLimit → logsAt (lineOf state) n (frameOf frame) ≡ true
+    → stepAnswer state frame ≢ 21

@@ -36,7 +36,7 @@ pub fn lows_on(s: &[u8], n: usize, b: usize, rows: &mut [u32; 12])
     while left != 0 {
         let c = plan::masks::mask_next(left);
         let parent = look::sender_of(s, c as usize);
-        let low = channel_fields::low_of(s, b, place);
+        let low = channel_fields::low_clock_of(s, b, place);
         rows::raise(rows, parent as u32, low);
         left = plan::masks::without(left, c);
         place += 1;

@@ -112,7 +112,7 @@ fn wipe(s: &mut [u8], b: usize)
     channel_fields::set_taken(s, b, 0);
     channel_fields::clear_heard(s, b);
     channel_fields::clear_queue(s, b);
-    channel_fields::clear_low(s, b);
+    channel_fields::clear_low_clock(s, b);
 }
 
 fn clear(s: &mut [u8], b: usize)

@@ -88,8 +88,8 @@ exampleTable =
     ∷ record { given = answers 0 ((0 ∷ 6 ∷ 1 ∷ 2 ∷ 0 ∷ []) ∷ (0 ∷ 5 ∷ 1 ∷ 2 ∷ 0 ∷ 0 ∷ []) ∷ (0 ∷ 4 ∷ 1 ∷ 2 ∷ []) ∷ (0 ∷ 5 ∷ 0 ∷ 2 ∷ []) ∷ []); expected = replicate 4 9 }
     -- 10: version 3; 10 comes before 11
     ∷ record { given = answers 0 ((0 ∷ 5 ∷ 3 ∷ 2 ∷ 0 ∷ []) ∷ (0 ∷ 5 ∷ 0 ∷ 6 ∷ 0 ∷ []) ∷ []); expected = 10 ∷ 10 ∷ [] }
-    -- 11: kinds 0 and 9, a Feed of 5 bytes; 11 comes before 12
-    ∷ record { given = answers 0 (frame 0 0 ∷ frame 9 0 ∷ frame 1 0 ∷ []) ++ answers 1_000_000 (frame 9 0 ∷ []); expected = replicate 4 11 }
+    -- 11: kinds 0, 7 and 9, a Feed of 5 bytes; 11 comes before 12
+    ∷ record { given = answers 0 (frame 0 0 ∷ frame 7 0 ∷ frame 9 0 ∷ frame 1 0 ∷ []) ++ answers 1_000_000 (frame 9 0 ∷ []); expected = replicate 5 11 }
     -- 12: "one more Crash", before all that comes after it
     ∷ record { given = answers 1_000_000 (frame 4 1 ∷ frame 4 99 ∷ []); expected = 12 ∷ 12 ∷ [] }
     -- 13 to 18: "belt 24", "Crash 0", "Crash twice", "parent of a crashed node", "material 16", "empty belt"

@@ -201,7 +201,7 @@ unfoldable pub takenLine : ℕ → Line → Option Line
 unfolding takenLane takenReplaying takenUp endedIfComplete
 takenLine b l = takenFirst b (laneAt l b .queue) l
 
--- Crash: "the node is down and crash-marked for good; its log, clock, time, targets and held records, and its belts' messages and marks, are emptied to 0". The clock is `taken` and `heard` of its entering channels; those of its leaving channels are its children's. 2026-04, of the low clock, their `low`: "Crash empties it".
+-- Crash: "the node is down and crash-marked for good; its log, clock, time, targets and held records, and its belts' messages and marks, are emptied to 0". The clock is `taken` and `heard` of its entering channels; those of its leaving channels are its children's. So the low clock is `low` of its entering channels; 2026-04: "Crash empties it".
 unfoldable pub crashedLine : ℕ → Line → Line
 unfolding entering leaving freshLane withNode withLane
 crashedLine n l =
@@ -276,7 +276,7 @@ lineRefusal l f =
       ]
     ]
 
--- "Step 8 to 21 and then 24", "each in rising order, and the first that applies is returned"; 25 comes "after 11". 8 is of the state's bytes.
+-- "Step 8 to 21 and then 24", "each in rising order, and the first that applies is returned"; 25 comes "after 11", 26 "after 13". 8 is of the state's bytes.
 unfoldable pub refusal : Line → List ℕ → ℕ
 unfolding frameRefusal noStepsLeft frameConsole frameOf lineRefusal
 refusal l f =

@@ -8,10 +8,9 @@ use lib.ListN.{length, replicate}
 use lib.Dec.{eqb}
 use Rattle.plan.specs.Plan.{planOf}
 use Rattle.plan.specs.Check.{planRefusal}
-use Rattle.rules.specs.Line.{Line, initialLine, nodeAt, receiverOf}
+use Rattle.rules.specs.Line.{logLimit, up, Line, initialLine, nodeAt, receiverOf}
 use Rattle.rules.specs.Frame.{Frame, feed, send, take, crash, recover, trim, frameOf}
 use Rattle.rules.specs.Step.{step}
-use Rattle.rules.specs.Damaged.{damaged}
 use Rattle.rules.specs.Claim.{startOf, storyFrom}
 
 abbrev pub isTrim : Frame → Bool
@@ -38,7 +37,7 @@ TrimsChangeNothing =
     (plan : List ℕ) (before with without : List (List ℕ)) → planRefusal plan ≡ 0 → WithTrims with without
     → (let l = storyFrom (startOf (initialLine (planOf plan))) before .line in AllAccepted l with → AllAccepted l without → storyFrom (startOf l) with .receipts ≡ storyFrom (startOf l) without .receipts)
 
--- "The freed entries are used by later steps": where a Trim has made a node's log shorter, a frame that would log there next, a Feed of the node or a Take by it, is not refused with 21.
+-- Whether a frame would log at node n: a Feed of the node, or a Take by it.
 abbrev pub logsAt : Line → ℕ → Frame → Bool
 logsAt l n (feed m r) = eqb m n
 logsAt l n (send b) = false
@@ -47,7 +46,6 @@ logsAt l n (crash m) = false
 logsAt l n (recover m) = false
 logsAt l n (trim m) = false
 
+-- "The freed entries are used by later steps": of every line, whatever its logs have held before. A node that is up, as all are behind a Trim, has space while its log is shorter than 64: what would log there is not refused with 21.
 abbrev pub FreedAreUsed : Type 0
-FreedAreUsed =
-    (l : Line) (n : ℕ) (f g : List ℕ) → damaged l ≡ false → frameOf f ≡ trim n → step l f .number ≡ 0
-    → (let k = step l f .line in length (nodeAt k n .log) < length (nodeAt l n .log) → logsAt k n (frameOf g) ≡ true → step k g .number ≢ 21)
+FreedAreUsed = (l : Line) (n : ℕ) (f : List ℕ) → nodeAt l n .status ≡ up → length (nodeAt l n .log) < logLimit → logsAt l n (frameOf f) ≡ true → step l f .number ≢ 21

@@ -15,7 +15,7 @@ use Rattle.state.specs.Sizes.{countSize, pageSize, blockSize, nodeRest, 
 use Rattle.state.specs.Pieces.{messageLayout, entryLayout, heldLayout, targetLayout}
 use Rattle.state.specs.Node.{statusNumber, statusOf, crashNumber, crashOf, nodeWidths, NodeParts, nodeSeen, nodeFrom, logLayout, heldListLayout, targetsLayout, nodeParts, nodeLayout}
 use Rattle.rules.specs.Trim.{withLow}
-use Rattle.state.specs.Lane.{laneWidths, lowWidths, lowFields, queueLayout, laneLayout, withHeard, padHeard, cutHeard}
+use Rattle.state.specs.Lane.{laneWidths, lowWidths, lowFields, queueLayout, laneLayout, withHeard, padLane, cutLane}
 use Rattle.state.specs.Right.{ZerosAt, wordAt, ListRight, MessageRight, EntryRight, HeldRight, TargetRight, NodeRight, LaneRight}
 use Rattle.state.proofs.SoundLaws.{fields-sound}
 use Rattle.state.proofs.PieceLaws.{message-sound, entry-sound, held-sound, target-sound}
@@ -169,19 +169,19 @@ pad-cut (suc n) m (suc k) (x ∷ hs) e h =
 
 -- A lane on which so many are heard.
 unfoldable pub laneWith : ℕ → Layout Lane
-unfolding laneLayout padHeard cutHeard via
-laneWith count = via laneLayout padHeard (cutHeard count)
+unfolding laneLayout padLane cutLane via
+laneWith count = via laneLayout padLane (cutLane count)
 
 heard-same : (count : ℕ) (x : Lane) → length (x .heard) ≡ parentLimit → length (x .low) ≡ lowLimit
-    → (padHeard (cutHeard count x) ≡ x) ↔ (((i : ℕ) → count ≤ i → i < parentLimit → getD (x .heard) i 0 ≡ 0) × ((i : ℕ) → suc count ≤ i → i < lowLimit → getD (x .low) i 0 ≡ 0))
-unfolding padHeard cutHeard
+    → (padLane (cutLane count x) ≡ x) ↔ (((i : ℕ) → count ≤ i → i < parentLimit → getD (x .heard) i 0 ≡ 0) × ((i : ℕ) → suc count ≤ i → i < lowLimit → getD (x .low) i 0 ≡ 0))
+unfolding padLane cutLane
 heard-same count x e f =
     let same = pad-cut parentLimit parentLimit count (x .heard) e (omega arith) in
     let low = pad-cut lowLimit lowLimit (suc count) (x .low) f (omega arith) in
     (λ q. (same .0 (ap (λ (y : Lane). y .heard) q), low .0 (ap (λ (y : Lane). y .low) q)), λ (g, k) i. withLow (low .1 k i) (withHeard (same .1 g i) x))
 
-cut-fits : (count : ℕ) (x : Lane) → LaneFits x → LaneFits (cutHeard count x)
-unfolding cutHeard
+cut-fits : (count : ℕ) (x : Lane) → LaneFits x → LaneFits (cutLane count x)
+unfolding cutLane
 cut-fits count x h = record { mark = h .mark; taken = h .taken; heard = each-take TimeFits count (x .heard) (h .heard); low = each-take TimeFits (suc count) (x .low) (h .low); queue = h .queue }
 
 module _ (s : List ℕ) (k : Bytes s) (a : ℕ) (h : a + blockSize ≤ length s) where
@@ -213,7 +213,7 @@ module _ (s : List ℕ) (k : Bytes s) (a : ℕ) (h : a + blockSize ≤ length s)
       let t = take blockSize (drop a s) in
       let x = laneLayout .read t in
       let fits = lane-sound .fits t (part-bytes a blockSize s k) in
-      let split = via-at lane-sound a s padHeard (cutHeard count) (pad-fits (cutHeard count x) (cut-fits count x (fits .lane))) in
+      let split = via-at lane-sound a s padLane (cutLane count) (pad-fits (cutLane count x) (cut-fits count x (fits .lane))) in
       let heard = heard-same count x (fits .four) (fits .five) in (
         λ r.
             let v = split .0 r in

@@ -17,7 +17,7 @@ use Rattle.rules.specs.Line.{Lane, noLane}
 use Rattle.rules.proofs.steps.PlanOrder.{ordered-channels}
 use Rattle.state.specs.Sizes.{parentLimit, lowLimit}
 use Rattle.rules.specs.Trim.{withLow}
-use Rattle.state.specs.Lane.{withHeard, padHeard, cutHeard, heardCount, cutLanes}
+use Rattle.state.specs.Lane.{withHeard, padLane, cutLane, heardCount, cutLanes}
 use Rattle.state.specs.Fits.{TimeFits, LaneFits, PaddedFits}
 use Rattle.state.proofs.ListLaws.{each-append, each-replicate}
 
@@ -37,8 +37,8 @@ padding = replicate parentLimit 0
 abbrev lowPadding : List ℕ
 lowPadding = replicate lowLimit 0
 
-pub pad-fits : (x : Lane) → LaneFits x → PaddedFits (padHeard x)
-unfolding padHeard
+pub pad-fits : (x : Lane) → LaneFits x → PaddedFits (padLane x)
+unfolding padLane
 pad-fits x h = record {
   lane = record {
     mark = h .mark;
@@ -51,8 +51,8 @@ pad-fits x h = record {
   five = simp (length-take, length-append) (omega arith);
 }
 
-pub cut-pad : (x : Lane) (n : ℕ) → length (x .heard) ≡ n → length (x .low) ≡ suc n → n ≤ parentLimit → cutHeard n (padHeard x) ≡ x
-unfolding padHeard cutHeard
+pub cut-pad : (x : Lane) (n : ℕ) → length (x .heard) ≡ n → length (x .low) ≡ suc n → n ≤ parentLimit → cutLane n (padLane x) ≡ x
+unfolding padLane cutLane
 cut-pad x n e f h =
     let heard = take-take n parentLimit (x .heard ++ padding) h ∙ take-at (x .heard) padding n e in
     let low = take-take (suc n) lowLimit (x .low ++ lowPadding) (omega arith) ∙ take-at (x .low) lowPadding (suc n) f in
@@ -60,7 +60,7 @@ cut-pad x n e f h =
 
 pub cut-pads : (p : Plan) (cs : List Channel) (xs : List Lane) → length xs ≡ length cs
     → ((b : ℕ) → b < length cs → (length (getD xs b noLane .heard) ≡ heardCount p (getD cs b noChannel)) × (length (getD xs b noLane .low) ≡ suc (heardCount p (getD cs b noChannel))) × (heardCount p (getD cs b noChannel) ≤ parentLimit))
-    → cutLanes p cs (map padHeard xs) ≡ xs
+    → cutLanes p cs (map padLane xs) ≡ xs
 cut-pads p [] [] e h = refl
 cut-pads p [] (x ∷ xs) e h = let no : ⊥ = omega arith in absurd no
 cut-pads p (c ∷ cs) [] e h = let no : ⊥ = omega arith in absurd no

@@ -14,7 +14,7 @@ use Rattle.rules.specs.Line.{Node, Lane, nodeAt, laneAt, freshNode, noLane}
 use Rattle.state.specs.Sound.{Sound}
 use Rattle.state.specs.Sizes.{pageSize, planArea, stepsAt, nodePages, pageAt, laneBlocks, blockSize, blocksAt, blockAt, tailSize, stepsWidths, stepsOfAt, stepsRest}
 use Rattle.state.specs.Node.{nodeLayout}
-use Rattle.state.specs.Lane.{laneLayout, cutHeard, heardCount, cutLanes}
+use Rattle.state.specs.Lane.{laneLayout, cutLane, heardCount, cutLanes}
 use Rattle.state.specs.State.{StateParts, planPart, stepsPart, nodesPart, lanesPart, stateParts, lineOf}
 use Rattle.state.proofs.SoundLaws.{slots-sound, pair-sound, fields-sound}
 use Rattle.state.proofs.BlockLaws.{node-sound, lane-sound}
@@ -94,7 +94,7 @@ length-cut p [] xs e = refl
 length-cut p (c ∷ cs) [] e = let no : ⊥ = omega arith in absurd no
 length-cut p (c ∷ cs) (x ∷ xs) e = ap suc (length-cut p cs xs (omega arith))
 
-cut-at : (p : Plan) (cs : List Channel) (xs : List Lane) → length xs ≡ length cs → (b : ℕ) → b < length cs → getD (cutLanes p cs xs) b noLane ≡ cutHeard (heardCount p (getD cs b noChannel)) (getD xs b noLane)
+cut-at : (p : Plan) (cs : List Channel) (xs : List Lane) → length xs ≡ length cs → (b : ℕ) → b < length cs → getD (cutLanes p cs xs) b noLane ≡ cutLane (heardCount p (getD cs b noChannel)) (getD xs b noLane)
 cut-at p [] xs e b h = let no : ⊥ = omega arith in absurd no
 cut-at p (c ∷ cs) [] e b h = let no : ⊥ = omega arith in absurd no
 cut-at p (c ∷ cs) (x ∷ xs) e zero h = refl
@@ -167,11 +167,11 @@ module _ (s : List ℕ) where
         ∙ slot-at nodeLayout n (drop pageSize s) k freshNode h
         ∙ ap (λ (t : List ℕ). nodeLayout .read (take pageSize t)) (drop-drop (k * pageSize) pageSize s ∙ ap (λ (a : ℕ). drop a s) (page-start k))
 
-    pub lane-in : (b : ℕ) → b < m → laneAt (lineOf s) b ≡ cutHeard (heardCount (planOf s) (channelAt (planOf s) b)) (laneLayout .read (blockOf b s))
+    pub lane-in : (b : ℕ) → b < m → laneAt (lineOf s) b ≡ cutLane (heardCount (planOf s) (channelAt (planOf s) b)) (laneLayout .read (blockOf b s))
     unfolding laneLayout
     lane-in b h =
         let c = heardCount (planOf s) (channelAt (planOf s) b) in
         ap (λ (xs : List Lane). getD xs b noLane) line-lanes
         ∙ cut-at (planOf s) (planOf s .channels) (readSlots laneLayout m (drop blocksAt s)) lanes-given b (rw channel-count h)
-        ∙ ap (cutHeard c) (slot-at laneLayout m (drop blocksAt s) b noLane h)
-        ∙ ap (λ (t : List ℕ). cutHeard c (laneLayout .read (take blockSize t))) (drop-drop (b * blockSize) blocksAt s ∙ ap (λ (a : ℕ). drop a s) (block-start b))
+        ∙ ap (cutLane c) (slot-at laneLayout m (drop blocksAt s) b noLane h)
+        ∙ ap (λ (t : List ℕ). cutLane c (laneLayout .read (take blockSize t))) (drop-drop (b * blockSize) blocksAt s ∙ ap (λ (a : ℕ). drop a s) (block-start b))

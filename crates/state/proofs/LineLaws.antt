@@ -17,7 +17,7 @@ use Rattle.plan.proofs.FitsLaws.{fits-accepted}
 use Rattle.rules.specs.Line.{Line, freshNode, noLane}
 use Rattle.state.specs.Sound.{Sound}
 use Rattle.state.specs.Sizes.{stateSize, planArea, stepsWidths, stepsRest, nodePages, pageSize, laneBlocks, blockSize, tailSize}
-use Rattle.state.specs.Lane.{padHeard}
+use Rattle.state.specs.Lane.{padLane}
 use Rattle.state.specs.State.{StateParts, lineSeen, lineFrom, planPart, stepsPart, nodesPart, lanesPart, stateParts, stateLayout, lineBytes, lineOf}
 use Rattle.state.specs.Fits.{NodeFits, LaneFits, PaddedFits, LineFits}
 use Rattle.state.proofs.SoundLaws.{sound, fields-sound, pair-sound, via-sound, padded-sound, slots-sound}
@@ -115,7 +115,7 @@ parts-fit l f =
     let node = each-known NodeFits (l .nodes) freshNode (λ n k. f .node n (omega (arith, f .nodes))) in
     let lane = each-known LaneFits (l .lanes) noLane (λ b k. f .lane b (omega (arith, f .lanes))) in (
       (head-fits (l .plan) h, plan-body (l .plan) h),
-      (f .steps, ((f .nodes, node), (length-map (l .lanes) padHeard ∙ f .lanes, each-map LaneFits PaddedFits padHeard pad-fits (l .lanes) lane))),
+      (f .steps, ((f .nodes, node), (length-map (l .lanes) padLane ∙ f .lanes, each-map LaneFits PaddedFits padLane pad-fits (l .lanes) lane))),
     )
 
 pub line-known : (l : Line) → LineFits l → lineFrom (lineSeen l) ≡ l

@@ -12,7 +12,7 @@ use Rattle.rules.specs.Line.{logLimit, queueLimit, heldLimit, targetLimit, Mess
 use Rattle.state.specs.Sizes.{pageSize, blockSize, countSize, pageAt, blockAt, lowAt, lowLimit, statusAt, crashedAt, timeAt, logAt, entrySize, heldAt, heldSize, targetsAt, targetSize, markAt, takenAt, heardAt, parentLimit, queueAt, messageSize}
 use Rattle.state.specs.Pieces.{messageLayout, entryLayout, heldLayout, targetLayout}
 use Rattle.state.specs.Node.{statusOf, crashOf, nodeLayout}
-use Rattle.state.specs.Lane.{laneLayout, cutHeard, heardCount}
+use Rattle.state.specs.Lane.{laneLayout, cutLane, heardCount}
 use Rattle.state.specs.State.{lineOf}
 use Rattle.state.proofs.ReadLaws.{part-part, byte-part}
 use Rattle.state.proofs.FieldLaws.{low-at, countAt, status-at, crashed-at, time-at, log-count, log-at, held-count, held-at, targets-count, target-at, mark-at, taken-at, heard-at, queue-count, queue-at}
@@ -76,37 +76,37 @@ module _ (s : List ℕ) (few : Counted s) (b : ℕ) (h : b < planChannels s) whe
   abbrev count : ℕ
   count = heardCount (planOf s) (channelAt (planOf s) b)
 
-  block : {A : Type 0} (f : Lane → A) → f on ≡ f (cutHeard count (laneLayout .read (blockOf b s)))
+  block : {A : Type 0} (f : Lane → A) → f on ≡ f (cutLane count (laneLayout .read (blockOf b s)))
   block f = ap f (lane-in s few b h)
 
   block-number : (a : ℕ) → a + 4 ≤ blockSize → spelled 0 (take 4 (drop a (blockOf b s))) ≡ countAt (blockAt b + a) s
   block-number a l = ap (spelled 0) (part-part 4 a blockSize (blockAt b) s l)
 
   pub line-mark : on .mark ≡ spelled 0 (take 4 (drop (blockAt b + markAt) s))
-  unfolding cutHeard
+  unfolding cutLane
   line-mark = block (λ x. x .mark) ∙ mark-at (blockOf b s) ∙ block-number markAt (lit≤ tt)
 
   pub line-taken : on .taken ≡ spelled 0 (take 4 (drop (blockAt b + takenAt) s))
-  unfolding cutHeard
+  unfolding cutLane
   line-taken = block (λ x. x .taken) ∙ taken-at (blockOf b s) ∙ block-number takenAt (lit≤ tt)
 
   pub line-heard-at : (i : ℕ) → i < count → i < parentLimit → getD (on .heard) i 0 ≡ spelled 0 (take 4 (drop (blockAt b + (heardAt + 4 * i)) s))
-  unfolding cutHeard
+  unfolding cutLane
   line-heard-at i l q =
       block (λ x. getD (x .heard) i 0) ∙ getD-take count (laneLayout .read (blockOf b s) .heard) i 0 l ∙ heard-at (blockOf b s) i q ∙ block-number (heardAt + 4 * i) (omega arith)
 
   pub line-low-at : (i : ℕ) → i < suc count → i < lowLimit → getD (on .low) i 0 ≡ spelled 0 (take 4 (drop (blockAt b + (lowAt + 4 * i)) s))
-  unfolding cutHeard
+  unfolding cutLane
   line-low-at i l q =
       block (λ x. getD (x .low) i 0) ∙ getD-take (suc count) (laneLayout .read (blockOf b s) .low) i 0 l ∙ low-at (blockOf b s) i q ∙ block-number (lowAt + 4 * i) (omega arith)
 
   pub line-queue-count : length (on .queue) ≡ min (countAt (blockAt b + queueAt) s) queueLimit
-  unfolding cutHeard
+  unfolding cutLane
   line-queue-count = block (λ x. length (x .queue)) ∙ queue-count (blockOf b s) ∙ ap (λ (c : ℕ). min c queueLimit) (block-number queueAt (lit≤ tt))
 
   pub line-queue-at : (i : ℕ) (d : Message) → i < countAt (blockAt b + queueAt) s → i < queueLimit
       → getD (on .queue) i d ≡ messageLayout .read (take messageSize (drop (blockAt b + (queueAt + countSize + messageSize * i)) s))
-  unfolding cutHeard
+  unfolding cutLane
   line-queue-at i d c l =
       block (λ x. getD (x .queue) i d) ∙ queue-at (blockOf b s) i d (rw (block-number queueAt (lit≤ tt)) c) l
       ∙ ap (messageLayout .read) (part-part messageSize (queueAt + countSize + messageSize * i) blockSize (blockAt b) s (omega arith))

@@ -11,7 +11,7 @@ use Rattle.plan.proofs.PlanLaws.{node-count, channel-count}
 use Rattle.plan.proofs.FitsLaws.{fitting}
 use Rattle.rules.specs.Line.{Lane, laneAt}
 use Rattle.state.specs.Sizes.{parentLimit}
-use Rattle.state.specs.Lane.{laneLayout, cutHeard, heardCount}
+use Rattle.state.specs.Lane.{laneLayout, cutLane, heardCount}
 use Rattle.state.specs.State.{lineOf}
 use Rattle.state.proofs.HeardLaws.{heard-few}
 use Rattle.state.proofs.FieldLaws.{heard-four, low-five}
@@ -25,7 +25,7 @@ module _ (s : List ℕ) (fits : planFits (planOf s) ≡ true) where
   few-heard b h = heard-few (planOf s) fits b (rw channel-count h)
 
   pub heard-long : (b : ℕ) → b < planChannels s → length (laneAt (lineOf s) b .heard) ≡ heardCount (planOf s) (channelAt (planOf s) b)
-  unfolding cutHeard
+  unfolding cutLane
   heard-long b h =
       let count : ℕ = heardCount (planOf s) (channelAt (planOf s) b) in
       ap (λ (x : Lane). length (x .heard)) (lane-in s fits-counted b h)
@@ -33,7 +33,7 @@ module _ (s : List ℕ) (fits : planFits (planOf s) ≡ true) where
       ∙ omega (arith, heard-four (blockOf b s), few-heard b h)
 
   pub low-long : (b : ℕ) → b < planChannels s → length (laneAt (lineOf s) b .low) ≡ suc (heardCount (planOf s) (channelAt (planOf s) b))
-  unfolding cutHeard
+  unfolding cutLane
   low-long b h =
       let count : ℕ = heardCount (planOf s) (channelAt (planOf s) b) in
       ap (λ (x : Lane). length (x .low)) (lane-in s fits-counted b h)

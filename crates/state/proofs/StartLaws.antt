@@ -15,7 +15,7 @@ use Rattle.rules.specs.Line.{Lane, freshNode, freshLane, initialLine, parents, 
 use Rattle.state.specs.Sizes.{stateSize, pageSize, blockSize, stepsWidths, stepsSize, planArea, stepsRest, nodePages, laneBlocks, tailSize, parentLimit, lowLimit}
 use Rattle.state.specs.Node.{nodeLayout}
 use Rattle.rules.specs.Trim.{withLow}
-use Rattle.state.specs.Lane.{laneLayout, withHeard, padHeard}
+use Rattle.state.specs.Lane.{laneLayout, withHeard, padLane}
 use Rattle.state.specs.State.{stepsPart, nodesPart, lanesPart, lineBytes}
 use Rattle.state.proofs.ListLaws.{zeros-many, zeros-append, all-zero, take-replicate}
 use Rattle.state.proofs.LineLaws.{line-long}
@@ -65,17 +65,17 @@ empty-written : laneLayout .write emptyLane ≡ replicate blockSize 0
 unfolding laneLayout
 empty-written = refl
 
-fresh-padded : (p : Plan) (c : Channel) → padHeard (freshLane p c 0) ≡ emptyLane
-unfolding padHeard freshLane
+fresh-padded : (p : Plan) (c : Channel) → padLane (freshLane p c 0) ≡ emptyLane
+unfolding padLane freshLane
 fresh-padded p c = let n = length (parents p (c .sender)) in λ i. withLow (low-zero (suc n) i) (withHeard (padded-zero n i) emptyLane)
 
-pub fresh-lane : (p : Plan) (c : Channel) → laneLayout .write (padHeard (freshLane p c 0)) ≡ replicate blockSize 0
+pub fresh-lane : (p : Plan) (c : Channel) → laneLayout .write (padLane (freshLane p c 0)) ≡ replicate blockSize 0
 fresh-lane p c = ap (laneLayout .write) (fresh-padded p c) ∙ empty-written
 
-lanes-zero : (p : Plan) (cs : List Channel) → Zeros (writeSlots laneLayout (length cs) (map padHeard (map (λ (c : Channel). freshLane p c 0) cs)))
+lanes-zero : (p : Plan) (cs : List Channel) → Zeros (writeSlots laneLayout (length cs) (map padLane (map (λ (c : Channel). freshLane p c 0) cs)))
 lanes-zero p [] = tt
 lanes-zero p (c ∷ cs) =
-    zeros-append (laneLayout .write (padHeard (freshLane p c 0))) (writeSlots laneLayout (length cs) (map padHeard (map (λ (d : Channel). freshLane p d 0) cs)))
+    zeros-append (laneLayout .write (padLane (freshLane p c 0))) (writeSlots laneLayout (length cs) (map padLane (map (λ (d : Channel). freshLane p d 0) cs)))
     (rw (fresh-lane p c) (zeros-many blockSize)) (lanes-zero p cs)
 
 steps-zero : Zeros (stepsPart .write (onlyCount 0))
@@ -86,11 +86,11 @@ nodes-part-zero : (n : ℕ) → Zeros (nodesPart n .write (replicate n freshNode
 unfolding nodesPart
 nodes-part-zero n = padded-zeros (slots n nodeLayout) ((nodePages - n) * pageSize) (replicate n freshNode) (nodes-zero n)
 
-lanes-part-zero : (p : Plan) → Zeros (lanesPart (channelCount p) .write (map padHeard (map (λ (c : Channel). freshLane p c 0) (p .channels))))
+lanes-part-zero : (p : Plan) → Zeros (lanesPart (channelCount p) .write (map padLane (map (λ (c : Channel). freshLane p c 0) (p .channels))))
 unfolding lanesPart
 lanes-part-zero p =
     let m = channelCount p in
-    padded-zeros (slots m laneLayout) ((laneBlocks - m) * blockSize) (map padHeard (map (λ (c : Channel). freshLane p c 0) (p .channels))) (lanes-zero p (p .channels))
+    padded-zeros (slots m laneLayout) ((laneBlocks - m) * blockSize) (map padLane (map (λ (c : Channel). freshLane p c 0) (p .channels))) (lanes-zero p (p .channels))
 
 -- ---- the whole
 
@@ -100,7 +100,7 @@ behind-plan p =
     let n = nodeCount p in
     let m = channelCount p in
     let xs = replicate n freshNode in
-    let ls = map padHeard (map (λ (c : Channel). freshLane p c 0) (p .channels)) in
+    let ls = map padLane (map (λ (c : Channel). freshLane p c 0) (p .channels)) in
     zeros-behind (planLayout (p .version) n m) (pair stepsPart (pair (nodesPart n) (lanesPart m))) (planArea - planSize (p .version) n m) tailSize (headNumbers p, p) (onlyCount 0, (xs, ls))
     (pair-zeros stepsPart (pair (nodesPart n) (lanesPart m)) (onlyCount 0) (xs, ls) steps-zero
     (pair-zeros (nodesPart n) (lanesPart m) xs ls (nodes-part-zero n) (lanes-part-zero p)))

@@ -17,7 +17,7 @@ use Rattle.rules.specs.Line.{Lane, Line}
 use Rattle.state.specs.Sound.{Sound}
 use Rattle.state.specs.Sizes.{stateSize, pageSize, planArea, stepsAt, stepsRest, nodePages, pageAt, laneBlocks, blockSize, blocksAt, blockAt, tailAt, tailSize, stepsWidths, stepsSize}
 use Rattle.state.specs.Node.{nodeLayout}
-use Rattle.state.specs.Lane.{laneLayout, padHeard, cutHeard, heardCount, cutLanes}
+use Rattle.state.specs.Lane.{laneLayout, padLane, cutLane, heardCount, cutLanes}
 use Rattle.state.specs.State.{StateParts, planPart, stepsPart, nodesPart, lanesPart, stateParts, stateLayout, lineBytes, lineOf}
 use Rattle.state.specs.Right.{ZerosAt, NodeRight, LaneRight, StateRight}
 use Rattle.state.proofs.SoundLaws.{pair-sound, slots-sound, fields-sound}
@@ -87,7 +87,7 @@ lanes-more p c cs m a s =
     )
 
 abbrev lanesOf : Plan → List Channel → ℕ → List ℕ → List Lane
-lanesOf p cs m s = map padHeard (cutLanes p cs (readSlots laneLayout m s))
+lanesOf p cs m s = map padLane (cutLanes p cs (readSlots laneLayout m s))
 
 lanes-written : (p : Plan) (cs : List Channel) (m : ℕ) → length cs ≡ m → (a : ℕ) (s : List ℕ) → WrittenAt (slots m laneLayout) (lanesOf p cs m (drop a s)) a s ↔ LanesRight p cs m a s
 unfolding slots laneLayout laneWith
@@ -95,11 +95,11 @@ lanes-written p [] zero e a s = (λ q b h. (let no : ⊥ = omega arith in absurd
 lanes-written p [] (suc m) e a s = let no : ⊥ = omega arith in absurd no
 lanes-written p (c ∷ cs) zero e a s = let no : ⊥ = omega arith in absurd no
 lanes-written p (c ∷ cs) (suc m) e a s =
-    let first = laneLayout .write (padHeard (cutHeard (heardCount p c) (laneLayout .read (take blockSize (drop a s))))) in
+    let first = laneLayout .write (padLane (cutLane (heardCount p c) (laneLayout .read (take blockSize (drop a s))))) in
     let behind = writeSlots laneLayout m (lanesOf p cs m (drop (a + blockSize) s)) in
     let split : suc m * blockSize ≡ blockSize + m * blockSize = suc-mul m blockSize ∙ add-comm (m * blockSize) blockSize in
     let rest = lanes-written p cs m (omega arith) (a + blockSize) s in
-    let cut = append-cut first behind (take (blockSize + m * blockSize) (drop a s)) blockSize (lane-sound .sized (padHeard (cutHeard (heardCount p c) (laneLayout .read (take blockSize (drop a s)))))) in
+    let cut = append-cut first behind (take (blockSize + m * blockSize) (drop a s)) blockSize (lane-sound .sized (padLane (cutLane (heardCount p c) (laneLayout .read (take blockSize (drop a s)))))) in
     let parts = Iff·trans cut (Iff·and (same-part first (part-first a blockSize (m * blockSize) s)) (Iff·trans (same-part behind (part-second a blockSize (m * blockSize) s)) rest)) in
     let whole : first ++ writeSlots laneLayout m (lanesOf p cs m (drop blockSize (drop a s))) ≡ first ++ behind = ap (λ (u : List ℕ). first ++ writeSlots laneLayout m (lanesOf p cs m u)) (drop-drop blockSize a s) in
     let back = lanes-more p c cs m a s in (

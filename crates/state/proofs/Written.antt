@@ -15,7 +15,7 @@ use Rattle.rules.specs.Line.{Entry, Held, Target, Message, Status, Node, Lane, 
 use Rattle.state.specs.Sizes.{stepsAt, stepsRest, pageSize, pageAt, nodePages, blockSize, lowAt, lowLimit, blockAt, laneBlocks, tailSize, statusAt, crashedAt, timeAt, logAt, heldAt, targetsAt, nodeRest, markAt, takenAt, heardAt, parentLimit, queueAt, laneRest, stepsWidths, stepsOfAt, countSize}
 use Rattle.state.specs.Node.{statusNumber, crashNumber, nodeWidths, nodeHeadNumbers, logLayout, heldListLayout, targetsLayout, nodeLayout}
 use Rattle.rules.specs.Trim.{withLow, withLog}
-use Rattle.state.specs.Lane.{heardWidths, laneWidths, lowWidths, lowFields, withHeard, padHeard, queueLayout, laneLayout, heardCount}
+use Rattle.state.specs.Lane.{heardWidths, laneWidths, lowWidths, lowFields, withHeard, padLane, queueLayout, laneLayout, heardCount}
 use Rattle.state.specs.State.{planPart, stepsPart, nodesPart, lanesPart, lineBytes}
 use Rattle.state.specs.Fits.{TimeFits, NodeFits, LaneFits, LineFits}
 use Rattle.state.specs.Changes.{withStatus, withCrashed, withTime, withHeld, withTargets, withMark, withTaken, withQueue, nothingHeard, nothingLow}
@@ -148,7 +148,7 @@ module _ (x : Lane) where
   numbers y = y .mark ∷ y .taken ∷ fourHeard (y .heard)
 
   abbrev block : Lane → List ℕ
-  block y = laneLayout .write (padHeard y)
+  block y = laneLayout .write (padLane y)
 
   abbrev end : List ℕ
   end = replicate laneRest 0
@@ -160,16 +160,16 @@ module _ (x : Lane) where
   queued = queueLayout .write (x .queue) ++ writeFields lowWidths (fiveLow (x .low))
 
   pub lane-mark : (v : ℕ) → Swapped markAt (bytesOf 4 (x .mark)) (bytesOf 4 v) (block x) (block (withMark v x))
-  unfolding laneLayout padHeard
+  unfolding laneLayout padLane
   lane-mark v = swap-front (swap-front (field-set laneWidths (numbers x) 0 v (lit< tt) (omega arith)) queued) end
 
   pub lane-taken : (v : ℕ) → Swapped takenAt (bytesOf 4 (x .taken)) (bytesOf 4 v) (block x) (block (withTaken v x))
-  unfolding laneLayout padHeard
+  unfolding laneLayout padLane
   lane-taken v = swap-front (swap-front (field-set laneWidths (numbers x) 1 v (lit< tt) (omega arith)) queued) end
 
   -- All that is heard.
   pub lane-heard : (hs : List ℕ) → Swapped heardAt (writeFields heardWidths (fourHeard (x .heard))) (writeFields heardWidths (fourHeard hs)) (block x) (block (withHeard hs x))
-  unfolding laneLayout padHeard
+  unfolding laneLayout padLane
   lane-heard hs =
       swap-front
       (swap-front
@@ -190,13 +190,13 @@ module _ (x : Lane) where
   lane-heard-none = rw (four-none (x .heard)) at (lane-heard (replicate (length (x .heard)) 0))
 
   pub lane-queue : (v : List Message) → Swapped queueAt (queueLayout .write (x .queue)) (queueLayout .write v) (block x) (block (withQueue v x))
-  unfolding laneLayout padHeard
+  unfolding laneLayout padLane
   lane-queue v =
       swap-front (swap-behind (swap-front (swap-whole (queueLayout .write (x .queue)) (queueLayout .write v)) lowed) (writeFields laneWidths (numbers x)) queueAt (fields-sound laneWidths .sized (numbers x))) end
 
   -- All of the low clock's part, one number of it, and none.
   pub lane-low : (ks : List ℕ) → Swapped lowAt (writeFields lowWidths (fiveLow (x .low))) (writeFields lowWidths (fiveLow ks)) (block x) (block (withLow ks x))
-  unfolding laneLayout padHeard lowFields
+  unfolding laneLayout padLane lowFields
   lane-low ks =
       swap-front
       (swap-behind
@@ -265,7 +265,7 @@ module _ (l : Line) (fits : LineFits l) where
   noded = nodesPart n .write (l .nodes)
 
   abbrev laned : List ℕ
-  laned = lanesPart m .write (map padHeard (l .lanes))
+  laned = lanesPart m .write (map padLane (l .lanes))
 
   planned-long : length planned ≡ stepsAt
   planned-long = plan-part-sound (l .plan .version) n m .sized (headNumbers (l .plan), l .plan) ∙ plan-long (l .plan .version) n m few-nodes few-channels
@@ -299,12 +299,12 @@ module _ (l : Line) (fits : LineFits l) where
       (pageAt k) (let same : stepsAt + (pageSize - stepsAt + pageSize * k) ≡ pageAt k = omega arith in same)
 
   pub line-lane-swap : (b : ℕ) (x : Lane) → b < channelCount (l .plan)
-      → Swapped (blockAt b) (laneLayout .write (padHeard (laneAt l b))) (laneLayout .write (padHeard x)) (lineBytes l) (lineBytes (withLane b x l))
+      → Swapped (blockAt b) (laneLayout .write (padLane (laneAt l b))) (laneLayout .write (padLane x)) (lineBytes l) (lineBytes (withLane b x l))
   unfolding lineBytes lanesPart withLane
   line-lane-swap b x h =
-      let long : length (map padHeard (l .lanes)) ≡ m = length-map (l .lanes) padHeard ∙ fits .lanes in
-      let slot = slot-set lane-sound m (map padHeard (l .lanes)) b (padHeard x) (padHeard noLane) (omega arith) (omega arith) in
-      let part = swap-front (rw (map-set padHeard (l .lanes) b x, List·getD-map padHeard (l .lanes) b noLane) at slot) (replicate ((laneBlocks - m) * blockSize) 0) in
+      let long : length (map padLane (l .lanes)) ≡ m = length-map (l .lanes) padLane ∙ fits .lanes in
+      let slot = slot-set lane-sound m (map padLane (l .lanes)) b (padLane x) (padLane noLane) (omega arith) (omega arith) in
+      let part = swap-front (rw (map-set padLane (l .lanes) b x, List·getD-map padLane (l .lanes) b noLane) at slot) (replicate ((laneBlocks - m) * blockSize) 0) in
       swap-at
       (swap-front (swap-behind (swap-behind (swap-behind part noded (nodePages * pageSize) noded-long) stepped (pageSize - stepsAt) stepped-long) planned stepsAt planned-long) (replicate tailSize 0))
       (blockAt b) (let same : stepsAt + (pageSize - stepsAt + (nodePages * pageSize + blockSize * b)) ≡ blockAt b = omega arith in same)

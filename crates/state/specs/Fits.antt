@@ -63,7 +63,7 @@ pub record PaddedFits (x : Lane) : Type 0 where
   pub four : length (x .heard) ≡ parentLimit
   pub five : length (x .low) ≡ lowLimit
 
--- A node for each rule, a lane for each channel, an entry heard for each parent of its sender.
+-- A node for each rule, a lane for each channel, an entry heard for each parent of its sender, and in the low clock one more.
 pub record LineFits (l : Line) : Type 0 where
   pub plan : planFits (l .plan) ≡ true
   pub steps : FieldsFit stepsWidths (l .steps)

@@ -46,7 +46,7 @@ unfoldable pub laneParts : Layout LaneParts
 unfolding laneFields queueLayout lowFields pair
 laneParts = pair laneFields (pair queueLayout lowFields)
 
--- A lane with four heard.
+-- A lane with four heard and five numbers of the low clock.
 unfoldable pub laneLayout : Layout Lane
 unfolding laneParts via padded
 laneLayout = padded laneRest (via laneParts laneSeen laneFrom)
@@ -55,11 +55,11 @@ laneLayout = padded laneRest (via laneParts laneSeen laneFrom)
 abbrev pub withHeard : List ℕ → Lane → Lane
 withHeard hs x = record { mark = x .mark; taken = x .taken; heard = hs; queue = x .queue; low = x .low }
 
-unfoldable pub padHeard : Lane → Lane
-padHeard x = withLow (take lowLimit (x .low ++ replicate lowLimit 0)) (withHeard (take parentLimit (x .heard ++ replicate parentLimit 0)) x)
+unfoldable pub padLane : Lane → Lane
+padLane x = withLow (take lowLimit (x .low ++ replicate lowLimit 0)) (withHeard (take parentLimit (x .heard ++ replicate parentLimit 0)) x)
 
-unfoldable pub cutHeard : ℕ → Lane → Lane
-cutHeard n x = withLow (take (suc n) (x .low)) (withHeard (take n (x .heard)) x)
+unfoldable pub cutLane : ℕ → Lane → Lane
+cutLane n x = withLow (take (suc n) (x .low)) (withHeard (take n (x .heard)) x)
 
 -- How many are heard on a channel.
 unfoldable pub heardCount : Plan → Channel → ℕ
@@ -69,7 +69,7 @@ heardCount p c = length (parents p (c .sender))
 abbrev pub cutLanes : Plan → List Channel → List Lane → List Lane
 cutLanes p [] xs = []
 cutLanes p (c ∷ cs) [] = []
-cutLanes p (c ∷ cs) (x ∷ xs) = cutHeard (heardCount p c) x ∷ cutLanes p cs xs
+cutLanes p (c ∷ cs) (x ∷ xs) = cutLane (heardCount p c) x ∷ cutLanes p cs xs
 
 -- The offsets add up.
 pub heard-end : heardAt + parentLimit * countSize ≡ queueAt

@@ -10,7 +10,7 @@ use Rattle.rules.specs.Line.{Node, Lane, Line}
 use Rattle.rules.specs.Damaged.{damaged}
 use Rattle.state.specs.Sizes.{stateSize, pageSize, planArea, stepsWidths, stepsRest, nodePages, laneBlocks, blockSize, tailSize}
 use Rattle.state.specs.Node.{nodeLayout}
-use Rattle.state.specs.Lane.{laneLayout, padHeard, cutHeard, heardCount, cutLanes}
+use Rattle.state.specs.Lane.{laneLayout, padLane, cutLane, heardCount, cutLanes}
 
 -- The parts of the state of a line whose plan is of a version and has N nodes and M channels: each is followed by what it leaves unused.
 unfoldable pub planPart : ℕ → ℕ → ℕ → Layout (List ℕ × Plan)
@@ -33,7 +33,7 @@ abbrev pub StateParts : Type 0
 StateParts = (List ℕ × Plan) × (List ℕ × (List Node × List Lane))
 
 abbrev pub lineSeen : Line → StateParts
-lineSeen l = ((headNumbers (l .plan), l .plan), (l .steps, (l .nodes, map padHeard (l .lanes))))
+lineSeen l = ((headNumbers (l .plan), l .plan), (l .steps, (l .nodes, map padLane (l .lanes))))
 
 abbrev pub lineFrom : StateParts → Line
 lineFrom p = record { plan = p .0 .1; steps = p .1 .0; nodes = p .1 .1 .0; lanes = cutLanes (p .0 .1) (p .0 .1 .channels) (p .1 .1 .1) }
@@ -43,7 +43,7 @@ unfolding planPart stepsPart nodesPart lanesPart pair padded
 stateParts version n m = padded tailSize (pair (planPart version n m) (pair stepsPart (pair (nodesPart n) (lanesPart m))))
 
 unfoldable pub stateLayout : ℕ → ℕ → ℕ → Layout Line
-unfolding stateParts padHeard cutHeard heardCount via
+unfolding stateParts padLane cutLane heardCount via
 stateLayout version n m = via (stateParts version n m) lineSeen lineFrom
 
 -- A line's bytes, and the line that bytes hold: the plan's head says which version it is, and how many nodes and channels there are.

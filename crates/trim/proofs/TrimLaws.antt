@@ -13,7 +13,7 @@ use Rattle.rules.specs.Step.{effect}
 use Rattle.rules.proofs.line.LanesLaws.{lanes-node, lanes-plan}
 use Rattle.state.specs.State.{lineOf}
 use Rattle.buffer.specs.Holds.{Holds, AtNode, NodeNow, Undamaged, Did}
-use Rattle.buffer.proofs.HoldsLaws.{holds-nodes, onward, onward-node}
+use Rattle.buffer.proofs.HoldsLaws.{holds-nodes, onward, onward-node, node-same, lane-same}
 use Rattle.trim.specs.Trimmed.{trimAnswer, raisedOn}
 use Rattle.trim.proofs.AnswerLaws.{trim-number, trim-inside}
 use Rattle.trim.proofs.RunLaws.{leading-front, behind-rest}
@@ -23,6 +23,11 @@ lanes-first : (f : ℕ → Lane → Lane) (bs : List ℕ) (n : ℕ) (x : Node) (
 unfolding withNode withLane
 lanes-first f [] n x l = refl
 lanes-first f (b ∷ bs) n x l = lanes-first f bs n x (withLane b (f b (laneAt l b)) l)
+
+-- Channels that stay as they are.
+lanes-left : (f : ℕ → Lane → Lane) → ((b : ℕ) (x : Lane) → f b x ≡ x) → (bs : List ℕ) (l : Line) → withLanes f bs l ≡ l
+lanes-left f h [] l = refl
+lanes-left f h (b ∷ bs) l = ap (withLanes f bs) (ap (λ (x : Lane). withLane b x l) (h b (laneAt l b)) ∙ lane-same b l) ∙ lanes-left f h bs l
 
 module _ (l : Line) (n count : ℕ) (run : count ≡ length (leading (droppable l n) (nodeAt l n .log))) where
   abbrev raised : Line
@@ -39,6 +44,12 @@ module _ (l : Line) (n count : ℕ) (run : count ≡ length (leading (droppable 
       ∙ ap (λ (es : List Entry). withLanes (λ (b : ℕ). lowRaised (parents (l .plan) (senderOf l b)) (senderOf l b) es) (entering (l .plan) n) (withNode n (withLog (behind (droppable l n) log) (nodeAt l n)) l))
       (ap (λ (k : ℕ). take k log) run ∙ leading-front (droppable l n) log)
 
+-- Where no entry goes, nothing changes.
+nothing-goes : (l : Line) (n : ℕ) → 0 ≡ length (leading (droppable l n) (nodeAt l n .log)) → l ≡ trimmedLine n l
+unfolding raisedOn lowRaised
+nothing-goes l n run =
+    sym (node-same n l) ∙ ap (λ (k : Line). withNode n (withLog (drop 0 (nodeAt k n .log)) (nodeAt k n)) k) (sym (lanes-left (raisedOn l n 0) (λ b x. refl) (entering (l .plan) n) l)) ∙ trimmed-is l n 0 run
+
 module _ (s : List ℕ) (n : ℕ) (whole : Undamaged s) where
   pub trim-refused : (r : ℕ) → r ≡ trimAnswer (lineOf s) n → r ≢ 0 → Did s (trim n) s r
   trim-refused r is d = record { number = trim-number (lineOf s) n ∙ sym is; refused = λ q. refl; done = λ q. absurd (d q) }
@@ -54,6 +65,15 @@ module _ (s : List ℕ) (n : ℕ) (whole : Undamaged s) where
         number = trim-number (lineOf s) n ∙ is;
         refused = λ q. absurd (q refl);
         done = λ q. (trimmedLine n (lineOf s), (refl, subst (Holds u) (ap (λ (k : Line). withNode n (withLog (drop count (nodeAt k n .log)) (nodeAt k n)) k) (lanes .same) ∙ trimmed-is (lineOf s) n count run) (node .holds)));
+      }
+
+  pub trim-idle : trimAnswer (lineOf s) n ≡ 0 → 0 ≡ length (leading (droppable (lineOf s) n) (nodeAt (lineOf s) n .log)) → Did s (trim n) s 0
+  unfolding effect
+  trim-idle is run =
+      record {
+        number = trim-number (lineOf s) n ∙ is;
+        refused = λ q. refl;
+        done = λ q. (trimmedLine n (lineOf s), (refl, subst (Holds s) (nothing-goes (lineOf s) n run) (whole .holds)));
       }
 
   pub trim-next : (count : ℕ) (t : List ℕ) → Holds t (withLanes (raisedOn (lineOf s) n count) (entering (lineOf s .plan) n) (lineOf s)) → AtNode s n → count ≤ length (nodeAt (lineOf s) n .log)

@@ -164,13 +164,13 @@ fn raise_by(s: &mut [u8], t: &[u8; 156], b: usize, sender: usize, e: Logged)
     if look::index(e.made.from) != sender + 1 {
         return;
     }
-    channel_fields::raise_low(s, b, 0, e.made.time);
+    channel_fields::raise_low_clock(s, b, 0, e.made.time);
     if e.before.from == 0 {
         return;
     }
     let code = table::joined(s, t, look::index(e.before.from - 1), sender);
     if code != 255 {
-        channel_fields::raise_low(s, b, 1 + code / 32, e.before.time);
+        channel_fields::raise_low_clock(s, b, 1 + code / 32, e.before.time);
     }
 }
 
@@ -214,6 +214,9 @@ pub fn trim(s: &mut [u8], n: usize) -> u32
     let mut floors = [0u32; 12];
     floors_of(s, &joins, &mut floors);
     let count = run_of(s, n, &floors);
+    if count == 0 {
+        return 0;
+    }
     raise_channels(s, &joins, n, count);
     node_fields::drop_entries(s, n, count);
     0

@@ -121,7 +121,7 @@ passed l frame e =
       leads = q;
     }
 
--- A frame of console c that gets as far as 24: steps are left, no number from 13 to 21 applies, and it leads nowhere.
+-- A frame of console c that gets as far as 24: steps are left, no number from 13 to 21 and not 26 applies, and it leads nowhere.
 pub record Unplaced (l : Line) (c : ℕ) (f : Frame) : Type 0 where
   pub console : c < consoleCount
   pub steps-left : stepsFrom l c < stepLimit

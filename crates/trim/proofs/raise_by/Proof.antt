@@ -32,29 +32,29 @@ returns c =
     let raised = raisedBy (a .s .now) (a .b) at (originIs (a .e .made)) (originIs (a .e .before)) in
     lane-now raised at (lane-kept (a .s .now) (a .b) at (raised (laneAt (lineOf (a .s .now)) (a .b))) (sym (raised-other (a .s .now) (a .b) at (a .e .made .from) (a .e .made .time) (originIs (a .e .before)) other)))
 
-raise-low-requires : tie.Need-raise-low-requires
-raise-low-requires c κs = let first = c .before .before .before .before in (first .pre .0, omega (arith, low-counted (first .args .s .now) (first .args .b) (first .pre .0)))
+raise-low-clock-requires : tie.Need-raise-low-clock-requires
+raise-low-clock-requires c κs = let first = c .before .before .before .before in (first .pre .0, omega (arith, low-counted (first .args .s .now) (first .args .b) (first .pre .0)))
 
 returns-2 : tie.Need-returns-2
 returns-2 c =
     let first = c .before .before .before .before .before .before .before .before .before in
     let a = first .args in
     let own : a .e .made .from ≡ channelAt (planOf (a .s .now)) (a .b) .sender + 1 = omega (arith, c .before .before .before .before .before .before .before .index .ensures .0, c .before .before .before .before .before .before .if1 .left, first .pre .2) in
-    lane-as (raised-fed (a .s .now) (a .b) (first .pre .0) (a .e .made .from) (a .e .made .time) own (a .e .before .from) (a .e .before .time) (c .if2 .taken)) (c .before .before .before .before .raise-low .ensures)
+    lane-as (raised-fed (a .s .now) (a .b) (first .pre .0) (a .e .made .from) (a .e .made .time) own (a .e .before .from) (a .e .before .time) (c .if2 .taken)) (c .before .before .before .before .raise-low-clock .ensures)
 
 joined-requires : tie.Need-joined-requires
 joined-requires c κs =
     let first = c .before .before .before .before .before .before .before .before .before .before .before .before in
-    let raised = c .before .before .before .before .before .before .before .raise-low .ensures in
+    let raised = c .before .before .before .before .before .before .before .raise-low-clock .ensures in
     (raised .on .holds .ready, table-kept (later (first .pre .0) raised .plan) (first .pre .1))
 
-raise-low-requires-2 : tie.Need-raise-low-requires-2
-raise-low-requires-2 c κs =
+raise-low-clock-requires-2 : tie.Need-raise-low-clock-requires-2
+raise-low-clock-requires-2 c κs =
     let first = c .before .before .before .before .before .before .before .before .before .before .before .before .before .before .before in
     let a = first .args in
     let at = first .pre .0 in
     let s = a .s .now in
-    let raised = c .before .before .before .before .before .before .before .before .before .before .raise-low .ensures in
+    let raised = c .before .before .before .before .before .before .before .before .before .before .raise-low-clock .ensures in
     let is = rw (later at raised .plan, c .before .before .before .index2 .ensures .0, first .pre .2) at (c .before .before .joined .ensures) in
     let found = coded s (at .holds .ready) (a .e .before .from - 1) (channelAt (planOf s) (a .b) .sender) (c .before .before .joined .result) is (c .before .if3 .taken) in
     let long = ap (λ (x : Lane). length (x .low)) (lane-after at (lowTo 0 (a .e .made .time) (laneAt (lineOf s) (a .b))) (raised .holds)) ∙ length-set (laneAt (lineOf s) (a .b) .low) 0 (max (getD (laneAt (lineOf s) (a .b) .low) 0 0) (a .e .made .time)) in
@@ -66,11 +66,11 @@ returns-3 c =
     let a = first .args in
     let at = first .pre .0 in
     let s = a .s .now in
-    let raised = c .before .before .before .before .before .before .before .before .before .before .before .before .before .raise-low .ensures in
+    let raised = c .before .before .before .before .before .before .before .before .before .before .before .before .before .raise-low-clock .ensures in
     let is = rw (later at raised .plan, c .before .before .before .before .before .before .index2 .ensures .0, first .pre .2) at (c .before .before .before .before .before .joined .ensures) in
     let own : a .e .made .from ≡ channelAt (planOf s) (a .b) .sender + 1 = omega (arith, c .before .before .before .before .before .before .before .before .before .before .before .before .before .before .before .before .index .ensures .0, c .before .before .before .before .before .before .before .before .before .before .before .before .before .before .before .if1 .left, first .pre .2) in
     let found = coded s (at .holds .ready) (a .e .before .from - 1) (channelAt (planOf s) (a .b) .sender) (c .before .before .before .before .before .joined .result) is (c .before .before .before .before .if3 .taken) in
-    lane-as (raised-placed s (a .b) at (a .e .made .from) (a .e .made .time) own (a .e .before .from) (a .e .before .time) (c .before .before .before .before .before .before .before .before .before .if2 .left) (c .before .before .before .before .before .joined .result / 32) (found .placed)) (lane-then at raised (c .before .before .raise-low2 .ensures))
+    lane-as (raised-placed s (a .b) at (a .e .made .from) (a .e .made .time) own (a .e .before .from) (a .e .before .time) (c .before .before .before .before .before .before .before .before .before .if2 .left) (c .before .before .before .before .before .joined .result / 32) (found .placed)) (lane-then at raised (c .before .before .raise-low-clock2 .ensures))
 
 returns-4 : tie.Need-returns-4
 returns-4 c =
@@ -78,7 +78,7 @@ returns-4 c =
     let a = first .args in
     let at = first .pre .0 in
     let s = a .s .now in
-    let raised = c .before .before .before .before .before .before .before .before .before .raise-low .ensures in
+    let raised = c .before .before .before .before .before .before .before .before .before .raise-low-clock .ensures in
     let is = rw (later at raised .plan, c .before .before .index2 .ensures .0, first .pre .2) at (c .before .joined .ensures) in
     let own : a .e .made .from ≡ channelAt (planOf s) (a .b) .sender + 1 = omega (arith, c .before .before .before .before .before .before .before .before .before .before .before .before .index .ensures .0, c .before .before .before .before .before .before .before .before .before .before .before .if1 .left, first .pre .2) in
     let lost = not-placed s (at .holds .ready) (a .e .before .from - 1) (channelAt (planOf s) (a .b) .sender) (c .before .joined .result) is (c .if3 .left) in
@@ -91,14 +91,14 @@ raise-by-spec =
     (λ c κs. search needs)
     add-if1
     returns
-    raise-low-requires
+    raise-low-clock-requires
     (λ c. search needs)
     returns-2
     (λ c. search needs)
     (λ c κs. search needs)
     joined-requires
     (λ c. search needs)
-    raise-low-requires-2
+    raise-low-clock-requires-2
     (λ c. search needs)
     returns-3
     (λ c. search needs)

@@ -3,7 +3,7 @@ use native.Mathlib.Omega.{arith}
 use borrow.Author.Needs.{needs}
 use lib.ListN.{getD-replicate}
 use Rattle.buffer.specs.Table.{emptyTable}
-use Rattle.trim.proofs.TrimLaws.{trim-refused, trim-on, trim-next, trim-done}
+use Rattle.trim.proofs.TrimLaws.{trim-refused, trim-on, trim-idle, trim-next, trim-done}
 use Rattle.trim.proofs.trim.Statement.{statement}
 use Rattle.trim.proofs.trim.Tie as tie
 
@@ -21,19 +21,25 @@ run-of-requires : tie.Need-run-of-requires
 run-of-requires c κs = let first = c .before .before .before .before .before .before .before .before .before .before .before .before .before in (trim-on (first .args .s .now) (first .args .n) (first .pre) (sym (c .before .before .before .before .before .before .before .before .before .before .refusal .ensures) ∙ c .before .before .before .before .before .before .before .before .before .if1 .left), c .before .before .floors-of .ensures)
 
 raise-channels-requires : tie.Need-raise-channels-requires
-raise-channels-requires c κs = let first = c .before .before .before .before .before .before .before .before .before .before .before .before .before .before .before .before in (trim-on (first .args .s .now) (first .args .n) (first .pre) (sym (c .before .before .before .before .before .before .before .before .before .before .before .before .before .refusal .ensures) ∙ c .before .before .before .before .before .before .before .before .before .before .before .before .if1 .left), c .before .before .before .before .before .before .before .before .before .fill .ensures, c .before .before .run-of .ensures .1)
+raise-channels-requires c κs = let first = c .before .before .before .before .before .before .before .before .before .before .before .before .before .before .before .before .before in (trim-on (first .args .s .now) (first .args .n) (first .pre) (sym (c .before .before .before .before .before .before .before .before .before .before .before .before .before .before .refusal .ensures) ∙ c .before .before .before .before .before .before .before .before .before .before .before .before .before .if1 .left), c .before .before .before .before .before .before .before .before .before .before .fill .ensures, c .before .before .before .run-of .ensures .1)
 
 drop-entries-requires : tie.Need-drop-entries-requires
 drop-entries-requires c κs =
-    let first = c .before .before .before .before .before .before .before .before .before .before .before .before .before .before .before .before .before .before .before .before in
+    let first = c .before .before .before .before .before .before .before .before .before .before .before .before .before .before .before .before .before .before .before .before .before in
     let a = first .args in
-    trim-next (a .s .now) (a .n) (first .pre) (c .before .before .before .before .before .before .run-of .result) (c .before .before .before .raise-channels .last .0) (c .before .before .before .raise-channels .ensures) (trim-on (a .s .now) (a .n) (first .pre) (sym (c .before .before .before .before .before .before .before .before .before .before .before .before .before .before .before .before .before .refusal .ensures) ∙ c .before .before .before .before .before .before .before .before .before .before .before .before .before .before .before .before .if1 .left)) (c .before .before .before .before .before .before .run-of .ensures .1)
+    trim-next (a .s .now) (a .n) (first .pre) (c .before .before .before .before .before .before .before .run-of .result) (c .before .before .before .raise-channels .last .0) (c .before .before .before .raise-channels .ensures) (trim-on (a .s .now) (a .n) (first .pre) (sym (c .before .before .before .before .before .before .before .before .before .before .before .before .before .before .before .before .before .before .refusal .ensures) ∙ c .before .before .before .before .before .before .before .before .before .before .before .before .before .before .before .before .before .if1 .left)) (c .before .before .before .before .before .before .before .run-of .ensures .1)
 
 returns-2 : tie.Need-returns-2
 returns-2 c =
-    let first = c .before .before .before .before .before .before .before .before .before .before .before .before .before .before .before .before .before .before .before .before .before .before .before in
+    let first = c .before .before .before .before .before .before .before .before .before .before .before .before .before .before .before in
     let a = first .args in
-    trim-done (a .s .now) (a .n) (first .pre) (sym (c .before .before .before .before .before .before .before .before .before .before .before .before .before .before .before .before .before .before .before .before .refusal .ensures) ∙ c .before .before .before .before .before .before .before .before .before .before .before .before .before .before .before .before .before .before .before .if1 .left) (c .before .before .before .before .before .before .before .before .before .run-of .result) (c .before .before .before .before .before .before .before .before .before .run-of .ensures .0) (c .before .before .before .before .before .before .raise-channels .last .0) (c .before .before .before .before .before .before .raise-channels .ensures) (c .before .before .drop-entries .last .0) (c .before .before .drop-entries .ensures)
+    trim-idle (a .s .now) (a .n) (first .pre) (sym (c .before .before .before .before .before .before .before .before .before .before .before .before .refusal .ensures) ∙ c .before .before .before .before .before .before .before .before .before .before .before .if1 .left) (sym (c .if2 .taken) ∙ c .before .run-of .ensures .0)
+
+returns-3 : tie.Need-returns-3
+returns-3 c =
+    let first = c .before .before .before .before .before .before .before .before .before .before .before .before .before .before .before .before .before .before .before .before .before .before .before .before in
+    let a = first .args in
+    trim-done (a .s .now) (a .n) (first .pre) (sym (c .before .before .before .before .before .before .before .before .before .before .before .before .before .before .before .before .before .before .before .before .before .refusal .ensures) ∙ c .before .before .before .before .before .before .before .before .before .before .before .before .before .before .before .before .before .before .before .before .if1 .left) (c .before .before .before .before .before .before .before .before .before .before .run-of .result) (c .before .before .before .before .before .before .before .before .before .before .run-of .ensures .0) (c .before .before .before .before .before .before .raise-channels .last .0) (c .before .before .before .before .before .before .raise-channels .ensures) (c .before .before .drop-entries .last .0) (c .before .before .drop-entries .ensures)
 
 pub trim-spec : {M : Type 1} → statement M
 trim-spec =
@@ -45,7 +51,9 @@ trim-spec =
     fill-requires
     floors-of-requires
     run-of-requires
+    (λ c. search needs)
+    returns-2
     raise-channels-requires
     drop-entries-requires
     (λ c. search needs)
-    returns-2)
+    returns-3)

@@ -37,8 +37,8 @@ sender-of-requires c κs =
     let x = next (planChannels (first .args .s .now)) (t .left) (c .mask-next .result) (t .inv .channels) (t .inv .rest) (c .before .loop-test .taken) (c .mask-next .ensures) in
     record { ready = first .pre .0 .ready; below = x .below }
 
-low-of-requires : tie.Need-low-of-requires Inv-loop μ-loop
-low-of-requires c κs =
+low-clock-of-requires : tie.Need-low-clock-of-requires Inv-loop μ-loop
+low-clock-of-requires c κs =
     let asked = c .before in
     let t = asked .before .before .loop in
     let first = asked .before .before .before .before .before .before .before in
@@ -69,7 +69,7 @@ loop-less c = let asked = c .before .before .before .before .before in omega (ar
 loop-again : tie.Need-loop-again Inv-loop μ-loop
 loop-again c =
     let raised = c .before .raise in
-    let low = c .before .before .before .low-of in
+    let low = c .before .before .before .low-clock-of in
     let sender = c .before .before .before .before .sender-of in
     let asked = c .before .before .before .before .before in
     let t = asked .before .before .loop in
@@ -98,7 +98,7 @@ lows-on-spec =
     (λ c κs. tt)
     cast-sender-of
     sender-of-requires
-    low-of-requires
+    low-clock-of-requires
     (λ c. omega (arith, c .before .before .sender-of .ensures .1, c .before .before .before .before .before .before .before .before .before .before .pre .0 .ready .nodes))
     (λ c κs. c .before .before .before .before .before .loop .inv .long)
     without-requires

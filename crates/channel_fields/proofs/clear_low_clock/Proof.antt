@@ -1,15 +1,15 @@
 use borrow.Author.Needs.{needs}
 use Rattle.channel_fields.proofs.LaneWrites.{low-cleared}
-use Rattle.channel_fields.proofs.clear_low.Statement.{statement}
-use Rattle.channel_fields.proofs.clear_low.Tie as tie
+use Rattle.channel_fields.proofs.clear_low_clock.Statement.{statement}
+use Rattle.channel_fields.proofs.clear_low_clock.Tie as tie
 
 returns : tie.Need-returns
 returns c =
     let start = c .before .before .before .before .before in
     low-cleared (start .args .s .now) (c .before .before .fill-zero .last .0) (start .args .b) (start .pre) (c .before .before .fill-zero .ensures)
 
-pub clear-low-spec : {M : Type 1} → statement M
-clear-low-spec =
+pub clear-low-clock-spec : {M : Type 1} → statement M
+clear-low-clock-spec =
     tie.close
     (tie.spec
     (λ c. search needs)

@@ -3,8 +3,8 @@ use native.Mathlib.Omega.{arith}
 use borrow.Author.Needs.{needs}
 use Rattle.channel_fields.proofs.LaneReads.{low-five, low-word}
 use Rattle.channel_fields.proofs.LaneWrites.{low-raised, low-left}
-use Rattle.channel_fields.proofs.raise_low.Statement.{statement}
-use Rattle.channel_fields.proofs.raise_low.Tie as tie
+use Rattle.channel_fields.proofs.raise_low_clock.Statement.{statement}
+use Rattle.channel_fields.proofs.raise_low_clock.Tie as tie
 
 mul-at-2 : tie.Need-mul-at-2
 mul-at-2 c = let start = c .before in omega (arith, start .pre .1, low-five (start .args .s .now) (start .args .b) (start .pre .0 .holds .ready) (start .pre .0 .below))
@@ -42,8 +42,8 @@ returns-2 c =
     let entry = c .before .get32 .ensures ∙ low-word (a .s .now) (a .b) (at .holds .ready) (at .below) (a .place) (start .pre .1) in
     low-left (a .s .now) (a .b) at (a .place) (a .time) (omega (arith, c .if1 .left, entry))
 
-pub raise-low-spec : {M : Type 1} → statement M
-raise-low-spec =
+pub raise-low-clock-spec : {M : Type 1} → statement M
+raise-low-clock-spec =
     tie.close
     (tie.spec
     (λ c. search needs)
