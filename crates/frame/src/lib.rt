@@ -1,4 +1,4 @@
-// Frames (document 01, "Clocks and steps"; document 02, 2026-01): the refusals 9 to 11 and 25, whose frame it is, and what it asks, read once.
+// Frames (document 01, "Clocks and steps"; document 02, 2026-01 and 2026-04): the refusals 9 to 11 and 25, whose frame it is, and what it asks, read once.
 ghost use mathlib.Core.Path.{_≡_};
 ghost use mathlib.Core.Bool.{cond};
 ghost use Prim.Native.Nat.{_+_, _≤_, _<_};

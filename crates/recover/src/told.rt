@@ -1,4 +1,4 @@
-// What the children's clocks and logs tell of a node: low, high, the restored entries and the targets.
+// What the children's clocks, low clocks and logs tell of a node: low, high, the restored entries and the targets.
 ghost use mathlib.Core.Path.{_≡_};
 ghost use mathlib.Core.Bool.{cond, false};
 ghost use Prim.Native.Nat.{_+_, _-_, _≤_, _<_, max};

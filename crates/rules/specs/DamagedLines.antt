@@ -257,10 +257,11 @@ trials =
     ∷ trial (node 1 (marked true) (node 2 (marked true) (initialLine chain))) (23 ∷ [])
     ∷ trial (lane 3 (moved 1 0) fallen) (24 ∷ [])
     ∷ trial (lane 0 (moved 0 1) fallen) (24 ∷ [])
-    -- a low clock at the clock, and above it, in either layer
+    -- a low clock at the clock, and above it, in either layer, and of a node that is down
     ∷ trial (lane 2 (keeps (2 ∷ 1 ∷ 0 ∷ [])) ended) []
     ∷ trial (lane 2 (keeps (3 ∷ 1 ∷ 0 ∷ [])) ended) (25 ∷ [])
     ∷ trial (lane 2 (keeps (2 ∷ 2 ∷ 0 ∷ [])) ended) (25 ∷ [])
+    ∷ trial (lane 0 (keeps (1 ∷ [])) fallen) (25 ∷ [])
     -- times of nodes and channels past the steps; a marked sink beside a marked node
     ∷ trial (steps 1 begun) (6 ∷ 19 ∷ [])
     ∷ trial (node 3 (marked true) begun) (14 ∷ 23 ∷ [])

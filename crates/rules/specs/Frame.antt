@@ -1,4 +1,4 @@
--- Frames and their refusals 9 to 11 and 25 (document 01, "Clocks and steps"; document 02, 2026-01).
+-- Frames and their refusals 9 to 11 and 25 (document 01, "Clocks and steps"; document 02, 2026-01 and 2026-04).
 use Prim.Native.Nat.{ℕ, _+_}
 use mathlib.Core.Bool.{Bool, true, false, cond, not, _&&_, _||_}
 use mathlib.Core.List.{List, [], _∷_}

@@ -1,4 +1,4 @@
--- What Recover finds of node B in its children's clocks and logs (document 01, kind 5). Here b is the node B and c a channel.
+-- What Recover finds of node B in its children's clocks, low clocks and logs (document 01, kind 5; document 02, 2026-04). Here b is the node B and c a channel.
 use Prim.Native.Nat.{ℕ}
 use mathlib.Core.Bool.{Bool, true, false, cond, _&&_, _||_}
 use mathlib.Core.List.{List, [], _∷_, _++_, map}

@@ -6,7 +6,8 @@ use mathlib.Core.List.{List, [], _∷_, _++_, map}
 use lib.ListN.{take, drop, set, replicate}
 use Rattle.plan.specs.declared.Rule.the-variants.{Keep}
 use Rattle.plan.specs.declared.Record.{Record}
-use Rattle.rules.specs.Line.{fed, made, up, down, replay, Line, freshNode, initialLine, onlyCount}
+use Rattle.rules.specs.Line.{fed, made, Entry, up, down, replay, Node, Line, freshNode, initialLine, onlyCount}
+use Rattle.rules.specs.Marked.{channel}
 use Rattle.state.specs.Node.{nodeLayout}
 use Rattle.state.specs.State.{lineBytes, lineOf, stateAnswer}
 
@@ -134,6 +135,30 @@ replaying-targets = refl
 pub replaying-block : take 48 (drop 53_248 (lineBytes replaying)) ≡ 0 ∷ 0 ∷ 0 ∷ 1 ∷ 0 ∷ 0 ∷ 0 ∷ 2 ∷ 0 ∷ 0 ∷ 0 ∷ 0 ∷ 0 ∷ 0 ∷ 0 ∷ 0 ∷ 0 ∷ 0 ∷ 0 ∷ 0 ∷ 0 ∷ 0 ∷ 0 ∷ 0 ∷ 0 ∷ 0 ∷ 0 ∷ 1 ∷ 0 ∷ 0 ∷ 0 ∷ 7 ∷ 1 ∷ 0 ∷ 0 ∷ 250 ∷ 0 ∷ 0 ∷ 0 ∷ 7 ∷ 3 ∷ 0 ∷ 0 ∷ 0 ∷ 9 ∷ 0 ∷ 0 ∷ 0 ∷ []
 unfolding lineBytes replaying
 replaying-block = refl
+
+-- A low clock (2026-04): on 0 to 1 to 2 a piece has gone all the way, and node 2 has dropped it.
+unfoldable pub dropped : Line
+dropped =
+    let logs : List Entry → Node = λ es. record { status = up; crashed = false; time = 1; log = es; held = []; targets = [] } in
+    record {
+      plan = record { version = 1; rules = Keep ∷ Keep ∷ Keep ∷ []; channels = channel 0 1 65535 ∷ channel 1 2 65535 ∷ [] };
+      steps = onlyCount 6;
+      nodes = logs (record { what = piece; time = 1; origin = fed; before = fed } ∷ []) ∷ logs (record { what = piece; time = 1; origin = made 0 1; before = fed } ∷ []) ∷ logs [] ∷ [];
+      lanes = record { mark = 1; taken = 1; heard = []; queue = []; low = 0 ∷ [] } ∷ record { mark = 1; taken = 1; heard = 1 ∷ []; queue = []; low = 1 ∷ 1 ∷ [] } ∷ [];
+    }
+
+pub dropped-read : lineOf (lineBytes dropped) ≡ dropped
+unfolding lineBytes lineOf dropped
+dropped-read = refl
+
+pub dropped-low : take 24 (drop 53_756 (lineBytes dropped)) ≡ 0 ∷ 0 ∷ 0 ∷ 1 ∷ 0 ∷ 0 ∷ 0 ∷ 1 ∷ replicate 16 0
+unfolding lineBytes dropped
+dropped-low = refl
+
+-- As it is; with an entry above the clock's; with one for a second parent, which the sender has not; with an unused byte.
+pub dropped-answers : map (λ (change : ℕ × ℕ). stateAnswer (set (lineBytes dropped) (change .0) (change .1))) ((53_763, 1) ∷ (53_763, 2) ∷ (53_767, 1) ∷ (53_776, 1) ∷ []) ≡ 0 ∷ 8 ∷ 8 ∷ 8 ∷ []
+unfolding lineBytes stateAnswer dropped
+dropped-answers = refl
 
 -- A node that is down: its status and its crash mark.
 pub down-page : nodeLayout .write (record { status = down; crashed = true; time = 0; log = []; held = []; targets = [] }) ≡ 1 ∷ 1 ∷ replicate 4_094 0
