@@ -1,7 +1,5 @@
 -- Trims change nothing that anybody receives, and make space, on bytes.
-use Prim.Native.Nat.{ℕ}
 use mathlib.Core.Path.{_≡_, sym, ap, _∙_}
-use mathlib.Core.List.{List}
 use Rattle.plan.specs.Plan.{planOf}
 use Rattle.rules.specs.Line.{Line, initialLine}
 use Rattle.rules.specs.Claim.{Story, startOf, storyFrom}

@@ -22,7 +22,7 @@ use Rattle.state.proofs.ListLaws.{each-append, each-split}
 use Rattle.state.proofs.Swapped.{Swapped, swap-in, counts-long, more-put, cleared-put, front-gone-put}
 use Rattle.state.proofs.Written.{node-status, node-crashed, node-time, node-log, node-held, node-targets}
 use Rattle.state.proofs.OffsetLaws.{line-log-at, line-held-at, line-target-at}
-use Rattle.buffer.specs.Holds.{Holds, AtNode, NodeNow}
+use Rattle.buffer.specs.Holds.{AtNode, NodeNow}
 use Rattle.buffer.proofs.ReadyLaws.{counted}
 use Rattle.buffer.proofs.HoldsLaws.{node-fits, node-over, node-holds, node-put, node-now, node-log-counted, node-held-counted, node-targets-counted}
 

@@ -3,7 +3,7 @@ ghost use mathlib.Core.Path.{_≡_};
 ghost use mathlib.Core.Bool.{true, not, _||_, false};
 ghost use mathlib.Core.List.{List};
 ghost use lib.Dec.{eqb};
-ghost use Prim.Native.Nat.{_+_, _-_, _≤_, _<_};
+ghost use Prim.Native.Nat.{_≤_, _<_};
 ghost use lib.ListN.{length};
 ghost use Rattle.plan.specs.Plan.{planOf, channelAt};
 ghost use Rattle.rules.specs.Line.{Target};

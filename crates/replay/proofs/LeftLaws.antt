@@ -15,7 +15,7 @@ use Rattle.state.specs.Changes.{withStatus, withTime, withHeld, withTargets, mo
 use Rattle.state.specs.State.{lineOf}
 use Rattle.buffer.specs.Nothing.{noHeld}
 use Rattle.buffer.specs.Holds.{Holds, AtNode, NodeNow}
-use Rattle.buffer.proofs.HoldsLaws.{Onward, onward, onward-node, node-onward, node-after, node-then, node-same}
+use Rattle.buffer.proofs.HoldsLaws.{Onward, onward, onward-node, node-after, node-then, node-same}
 use Rattle.replay_table.specs.Ends.{entryFrom, loggedFrom}
 use Rattle.replay.specs.After.{First, takenNow, heldMore, endedNode, Loggable}
 

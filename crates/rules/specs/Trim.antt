@@ -1,6 +1,6 @@
 -- Trim the logs (document 02, 2026-04): floor times, the run of a log that Trim drops, and the low clock that is kept of it.
 use Prim.Native.Nat.{ℕ, max}
-use mathlib.Core.Bool.{Bool, true, false, cond, _&&_}
+use mathlib.Core.Bool.{Bool, true, false, _&&_}
 use mathlib.Core.List.{List, [], _∷_, _++_, map}
 use lib.Dec.{leb, eqb}
 use Rattle.plan.specs.Plan.{entering, leaving}

@@ -1,5 +1,5 @@
 -- Sizes and offsets in the state's bytes, each named once (docs/LAYOUT.md has them as a table).
-use Prim.Native.Nat.{ℕ, _+_, _*_, _-_}
+use Prim.Native.Nat.{ℕ, _+_, _*_}
 use mathlib.Core.Path.{_≡_, refl}
 use mathlib.Core.List.{List, [], _∷_}
 use Rattle.plan.specs.Layout.{sumOf}

@@ -1,5 +1,5 @@
 -- Floor times, found channel by channel.
-use Prim.Native.Nat.{ℕ, zero, suc, _+_, _-_, _/_, min, _≤_, _<_}
+use Prim.Native.Nat.{ℕ, zero, suc, _+_, _/_, min, _≤_, _<_}
 use mathlib.Core.Path.{_≡_, refl, sym, ap, subst, _∙_}
 use mathlib.Core.Logic.{_≢_, inl, inr}
 use mathlib.Core.Bool.{Bool, true, false, cond}
@@ -12,7 +12,6 @@ use borrow.Author.Tests.{eqb-true, eqb-false, eq-eqb, ne-eqb}
 use Rattle.basics.specs.Bools.{below-or-not}
 use Rattle.plan.specs.Plan.{Plan, planOf, planChannels, channelAt, channelCount, entering, leaving}
 use Rattle.plan.proofs.PlanLaws.{channel-count}
-use Rattle.rules.specs.Lists.{joined}
 use Rattle.rules.specs.Line.{Line, nodeAt, laneAt, senderOf, receiverOf, parents}
 use Rattle.rules.specs.Clock.{entryFor}
 use Rattle.rules.specs.Trim.{entriesFor, floorTime}

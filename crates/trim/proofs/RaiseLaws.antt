@@ -1,21 +1,19 @@
 -- The low clock's part on a channel, raised by the entries of a run.
-use Prim.Native.Nat.{ℕ, zero, suc, _+_, _-_, _^_, max, _≤_, _<_}
+use Prim.Native.Nat.{ℕ, zero, suc, _+_, _-_, _^_, max, _<_}
 use mathlib.Core.Path.{_≡_, refl, sym, ap, subst, _∙_}
-use mathlib.Core.Bool.{Bool, true, false, cond}
 use mathlib.Core.Logic.{_≢_}
 use mathlib.Core.List.{List, [], _∷_, _++_, map}
-use mathlib.Core.Option.{Option, none, some}
+use mathlib.Core.Option.{none, some}
 use native.Mathlib.Numerals.{add-one}
 use native.Mathlib.Omega.{arith}
-use lib.Dec.{eqb}
-use lib.ListN.{length, getD, set, take, drop, length-set, length-drop}
+use lib.ListN.{length, getD, set, take, drop, length-drop}
 use lib.Seq.{take-suc}
 use borrow.Author.Tests.{eq-eqb, ne-eqb}
 use Rattle.plan.specs.Plan.{Plan, planOf, planChannels, channelAt, entering}
 use Rattle.plan.specs.Mask.{planMask}
 use Rattle.plan.proofs.MaskLaws.{entering-rise, mask-few}
 use Rattle.plan.proofs.PlanLaws.{channel-count}
-use Rattle.rules.specs.Line.{Origin, fed, made, Entry, Node, Lane, Line, nodeAt, laneAt, senderOf, parents, withLane, withLanes}
+use Rattle.rules.specs.Line.{Origin, Entry, Node, Lane, Line, nodeAt, laneAt, senderOf, parents, withLane, withLanes}
 use Rattle.rules.specs.Clock.{raiseHeard}
 use Rattle.rules.specs.Trim.{lowBy, lowAfter, lowRaised, withLow}
 use Rattle.rules.proofs.line.LineLaws.{plan-same, node-kept}
@@ -23,7 +21,6 @@ use Rattle.rules.proofs.line.Joins.{entering-in}
 use Rattle.buffer.proofs.MaskWalk.{Left, Next, left-none}
 use Rattle.state.specs.Pieces.{originFrom}
 use Rattle.state.specs.State.{lineOf}
-use Rattle.state.specs.Lane.{heardCount}
 use Rattle.state.proofs.InPlace.{line-plan}
 use Rattle.state.proofs.PlanFitting.{low-long}
 use Rattle.items.specs.Items.{placeFrom}
@@ -35,7 +32,7 @@ use Rattle.buffer.specs.Holds.{Holds, AtNode, AtLane, LaneNow}
 use Rattle.buffer.specs.Table.{Table}
 use Rattle.buffer.proofs.ReadyLaws.{heard-entering}
 use Rattle.buffer.proofs.OriginLaws.{origin-none, origin-some}
-use Rattle.buffer.proofs.HoldsLaws.{Onward, onward-node, lane-onward, lane-then, lane-now}
+use Rattle.buffer.proofs.HoldsLaws.{Onward, lane-onward, lane-then, lane-now}
 use Rattle.channel_fields.proofs.LaneWrites.{lane-kept}
 use Rattle.channel_fields.specs.Raised.{lowTo}
 use Rattle.channel_fields.proofs.RaisedLaws.{raise-fed, raise-unplaced, raise-placed}

@@ -1,11 +1,10 @@
 -- What Trim answers, floor times found channel by channel, and the low clock raised.
-use Prim.Native.Nat.{ℕ, min, _<_}
-use mathlib.Core.Path.{_≡_}
+use Prim.Native.Nat.{ℕ, min}
 use mathlib.Core.Bool.{Bool, true, false, cond, _&&_}
 use mathlib.Core.List.{List}
 use mathlib.Core.Option.{Option, none, some}
 use lib.Dec.{leb, eqb}
-use lib.ListN.{length, getD, take}
+use lib.ListN.{getD, take}
 use Rattle.plan.specs.Plan.{nodeCount, entering}
 use Rattle.rules.specs.Line.{Origin, fed, made, Entry, Lane, Line, nodeAt, laneAt, senderOf, parents}
 use Rattle.rules.specs.Trim.{lowRaised}

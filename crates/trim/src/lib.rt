@@ -1,9 +1,7 @@
 // Trim on the bytes of a state (document 02, 2026-04). Nothing is written before the answer is known to be 0: a refusal leaves the state as it came.
 ghost use mathlib.Core.Path.{_≡_};
-ghost use mathlib.Core.Bool.{_&&_};
 ghost use Prim.Native.Nat.{_≤_, _<_, min};
-ghost use lib.ListN.{length, getD, set, take};
-ghost use lib.Dec.{leb};
+ghost use lib.ListN.{length, getD, set};
 ghost use Rattle.plan.specs.Plan.{planOf, planChannels, channelAt, entering};
 ghost use Rattle.rules.specs.Line.{nodeAt, senderOf, parents, withLanes};
 ghost use Rattle.rules.specs.Trim.{floorTime, droppable, leading, lowBy, withLow};

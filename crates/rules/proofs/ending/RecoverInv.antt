@@ -3,7 +3,7 @@ use Prim.Native.Nat.{ℕ, _<_, _≤_}
 use mathlib.Core.Path.{_≡_, refl, sym, ap, subst, _∙_}
 use mathlib.Core.Logic.{_≢_, inl, inr}
 use mathlib.Core.Bool.{Bool, true, false, true≢false, cond}
-use mathlib.Core.List.{List, [], _∷_, _++_, map}
+use mathlib.Core.List.{List, [], _∷_, map}
 use mathlib.Core.Option.{none, some}
 use native.Mathlib.Omega.{arith}
 use native.Mathlib.Decide.{ℕ-discrete}
@@ -12,7 +12,7 @@ use lib.Dec.{eqb, ltb}
 use borrow.Author.Tests.{eq-eqb, ne-eqb, lt-ltb, ltb-true}
 use Rattle.plan.specs.Plan.{channelAt, nodeCount, channelCount, isSink}
 use Rattle.rules.specs.Lists.{keep, isEmpty}
-use Rattle.rules.specs.Line.{logLimit, Message, Entry, Held, Target, Status, up, down, replay, Node, Lane, Line, nodeAt, laneAt, withNode, freshLane, parents}
+use Rattle.rules.specs.Line.{logLimit, Message, Held, Target, Status, up, down, replay, Node, Lane, Line, nodeAt, laneAt, withNode, freshLane, parents}
 use Rattle.rules.specs.Clock.{messageOf, entryFor}
 use Rattle.rules.specs.Recover.{lowOf, targetsOf, restored, recovered, statusOf, rowGoal, conflict}
 use Rattle.rules.specs.Replay.{endedIfComplete}
@@ -24,7 +24,7 @@ use Rattle.rules.proofs.lists.Counts.{keep-fewer}
 use Rattle.rules.proofs.lists.Options.{some-same, none-some}
 use Rattle.rules.proofs.histories.Witness.{Taken, none}
 use Rattle.rules.proofs.line.LineLaws.{node-there, node-else}
-use Rattle.rules.proofs.histories.Ghost.{Event, Ghost, eventTime, inputOf, entryOf, takesMessage, put, logPut}
+use Rattle.rules.proofs.histories.Ghost.{Event, Ghost, eventTime, inputOf, takesMessage, put, logPut}
 use Rattle.rules.proofs.histories.Passing.{passing, goesOn, heldOf}
 use Rattle.rules.proofs.ending.Kept.{cuts-at}
 use Rattle.rules.proofs.line.Joins.{no-source}

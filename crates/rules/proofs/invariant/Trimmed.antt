@@ -1,14 +1,14 @@
 -- The line after a Trim, node by node and lane by lane: the node's log without the run, and the low clock on the channels that enter it.
 use Prim.Native.Nat.{ℕ, _<_}
-use mathlib.Core.Path.{_≡_, refl, sym, ap, _∙_}
+use mathlib.Core.Path.{_≡_, refl, ap, _∙_}
 use mathlib.Core.Logic.{_≢_, inl, inr}
 use mathlib.Core.Bool.{Bool, true, false}
 use mathlib.Core.List.{List, [], _∷_, _++_, map}
 use native.Mathlib.Decide.{ℕ-discrete}
 use lib.ListN.{length}
 use Rattle.plan.specs.Plan.{channelAt, nodeCount, channelCount, entering}
-use Rattle.rules.specs.Line.{Entry, Node, Lane, Line, nodeAt, laneAt, senderOf, parents, withNode, withLanes}
-use Rattle.rules.specs.Trim.{droppable, leading, behind, lowAfter, lowRaised, withLog, trimmedLine}
+use Rattle.rules.specs.Line.{Entry, Node, Lane, Line, nodeAt, laneAt, senderOf, parents, withNode}
+use Rattle.rules.specs.Trim.{droppable, leading, behind, lowRaised, withLog, trimmedLine}
 use Rattle.rules.proofs.lists.Members.{In, in-none, in-first}
 use Rattle.rules.proofs.line.LineLaws.{node-there, node-else, nodes-long}
 use Rattle.rules.proofs.line.LanesLaws.{lanes-in, lanes-away, lanes-count}

@@ -1,5 +1,5 @@
 -- While a node replays, some step on a channel that enters it is accepted and leaves less to do, or brings it up.
-use Prim.Native.Nat.{ℕ, suc, max, _<_}
+use Prim.Native.Nat.{ℕ, max, _<_}
 use mathlib.Core.Path.{_≡_, refl, sym, ap, subst, _∙_}
 use mathlib.Core.Logic.{_≢_, _⊎_, inl, inr}
 use mathlib.Core.Bool.{Bool, true, false}
@@ -13,7 +13,7 @@ use borrow.Author.Tests.{leb-false, lt-leb, le-leb, lt-ltb, ltb-true, eq-eqb}
 use Rattle.plan.specs.Plan.{Plan, channelAt, channelCount, entering}
 use Rattle.rules.specs.Lists.{isEmpty}
 use Rattle.rules.specs.Line.{stepLimit, consoleCount, stepsFrom, queueLimit, Message, Entry, up, down, replay, Lane, Line, noLane, nodeAt, laneAt, withLane, oneMore, counted, senderOf, receiverOf, parents}
-use Rattle.rules.specs.Frame.{Frame, send, take, Caller, consoleOf}
+use Rattle.rules.specs.Frame.{send, take, Caller, consoleOf}
 use Rattle.rules.specs.Clock.{messageOf, sentOn, raiseHeard}
 use Rattle.rules.specs.Recover.{rowGoal, rowComplete, rowsComplete}
 use Rattle.rules.specs.Replay.{endedIfComplete}

@@ -10,7 +10,7 @@ use lib.Dec.{leb}
 use borrow.Author.Tests.{leb-true}
 use Rattle.plan.specs.Plan.{channelAt, channelCount, leaving, isSink}
 use Rattle.rules.specs.Lists.{isEmpty, joined, leastOf}
-use Rattle.rules.specs.Line.{made, Message, Line, nodeAt, laneAt, parents}
+use Rattle.rules.specs.Line.{Message, Line, nodeAt, laneAt, parents}
 use Rattle.rules.specs.Clock.{entryFor}
 use Rattle.rules.specs.Recover.{childTimes, lowOf, restored}
 use Rattle.rules.specs.Trim.{entriesFor, floorTime}
@@ -18,7 +18,7 @@ use Rattle.rules.specs.Plain.{Act, Receipt}
 use Rattle.rules.proofs.lists.Rising.{until}
 use Rattle.rules.proofs.lists.Members.{In, here, there, in-some, keep-in, in-map, map-in, in-left, in-right, in-joined, in-least}
 use Rattle.rules.proofs.histories.Witness.{Taken}
-use Rattle.rules.proofs.histories.Ghost.{Ghost, inputOf, sentOf, put, got}
+use Rattle.rules.proofs.histories.Ghost.{Ghost, inputOf, put}
 use Rattle.rules.proofs.line.Joins.{in-leaving, leaving-in, some-leaves, no-source}
 use Rattle.rules.proofs.invariant.Inv.{timeOf, Leaves, UnmarkedEnd, UnmarkedChildren, heardOn, Inv}
 use Rattle.rules.proofs.invariant.InvLaws.{reached-goes}

@@ -1,9 +1,9 @@
 -- Trim keeps the invariant: histories do not move, and what is gone from the log is up to the floor times.
-use Prim.Native.Nat.{ℕ, suc, _<_, _≤_}
+use Prim.Native.Nat.{ℕ, _<_, _≤_}
 use mathlib.Core.Path.{_≡_, refl, sym, ap, subst, _∙_}
 use mathlib.Core.Logic.{_≢_, _⊎_, inl, inr}
-use mathlib.Core.Bool.{Bool, true, false, _&&_}
-use mathlib.Core.List.{List, [], _∷_, _++_, map, append-assoc}
+use mathlib.Core.Bool.{Bool, true, false}
+use mathlib.Core.List.{List, _++_, map, append-assoc}
 use native.Mathlib.Omega.{arith}
 use native.Mathlib.Decide.{ℕ-discrete}
 use lib.ListN.{length, drop}
@@ -12,27 +12,26 @@ use borrow.Author.Tests.{leb-true}
 use Rattle.basics.specs.Bools.{both-true}
 use Rattle.plan.specs.Plan.{channelAt, nodeCount, channelCount, isSource, isSink}
 use Rattle.rules.specs.Lists.{keep}
-use Rattle.rules.specs.Line.{made, Message, Entry, Target, Status, up, down, replay, Node, Lane, Line, nodeAt, laneAt, parents, senderOf}
+use Rattle.rules.specs.Line.{made, Message, Entry, Target, up, replay, Node, Lane, Line, nodeAt, laneAt, parents, senderOf}
 use Rattle.rules.specs.Clock.{messageOf, entryFor}
 use Rattle.rules.specs.Recover.{lowOf, childTriples, restored}
 use Rattle.rules.specs.Replay.{passedOn}
-use Rattle.rules.specs.Trim.{floorTime, senderBelow, droppable, leading, behind, lowAfter, lowRaised, withLog, trimmedLine}
+use Rattle.rules.specs.Trim.{floorTime, senderBelow, droppable, leading, behind, lowAfter, lowRaised, trimmedLine}
 use Rattle.rules.specs.Plain.{Act, Receipt}
 use Rattle.rules.proofs.lists.ListLaws.{keep-append, map-append}
 use Rattle.rules.proofs.lists.Rising.{until, past, Within, past-none, past-past}
 use Rattle.rules.proofs.lists.Members.{In, keep-in, in-map, map-in, in-left, in-right, append-in, within-by}
-use Rattle.rules.proofs.histories.Witness.{Taken}
-use Rattle.rules.proofs.histories.Ghost.{Event, tookAt, Ghost, inputOf, eventTime, eventOrigin, entryOf, takesMessage, put, logPut}
+use Rattle.rules.proofs.histories.Ghost.{Event, tookAt, Ghost, entryOf, takesMessage, put, logPut}
 use Rattle.rules.proofs.histories.Passing.{passing}
 use Rattle.rules.proofs.histories.Carried.{taken-event}
 use Rattle.rules.proofs.line.Joins.{no-source}
-use Rattle.rules.proofs.ending.Targets.{in-triples-at, triples-at-in, low-below, low-above, low-least, low-same, low-restored}
+use Rattle.rules.proofs.ending.Targets.{in-triples-at, triples-at-in, low-below, low-above, low-same, low-restored}
 use Rattle.rules.proofs.ending.Children.{made-parts, triples-from, is-parent}
-use Rattle.rules.proofs.invariant.Inv.{timeOf, isUp, Enters, Leaves, UnmarkedChildren, lowOn, Logged, Nodes, Events, Channels, Ends, Room, logPassing, HasRoom, Inv}
-use Rattle.rules.proofs.invariant.InvLaws.{up-not-replay, not-up-inside, if-marked}
+use Rattle.rules.proofs.invariant.Inv.{timeOf, Enters, Leaves, UnmarkedChildren, lowOn, Logged, Nodes, Events, Channels, Ends, Room, logPassing, HasRoom, Inv}
+use Rattle.rules.proofs.invariant.InvLaws.{up-not-replay, not-up-inside}
 use Rattle.rules.proofs.invariant.Stays.{heard-same, marks-stay}
 use Rattle.rules.proofs.invariant.Logs.{restored-rises}
-use Rattle.rules.proofs.invariant.Trimmed.{leading-behind, leading-true, leading-map, behind-map, run, rest, lower, nodeAfter, trimmed, trimmed-is, trimmed-shape, trimmed-node, trimmed-else, trimmed-enters, trimmed-beside, node-same, lane-same}
+use Rattle.rules.proofs.invariant.Trimmed.{leading-behind, leading-true, leading-map, behind-map, run, rest, trimmed, trimmed-is, trimmed-shape, trimmed-node, trimmed-else, trimmed-enters, trimmed-beside, node-same, lane-same}
 use Rattle.rules.proofs.invariant.Lows.{after-long, after-above, after-holds, after-from}
 use Rattle.rules.proofs.steps.Floors.{floor-entry, own-took, children-of, restored-floor}
 

@@ -14,7 +14,7 @@ use Rattle.rules.specs.Lists.{anyOf}
 use Rattle.rules.specs.Line.{stepLimit, consoleCount, stepsFrom, Message, Entry, Status, up, down, replay, Line, nodeAt, laneAt, isUp, isDown, isReplay}
 use Rattle.rules.specs.Frame.{Frame, feed, send, take, crash, recover, trim, frameConsole, frameOf, badFrameLength, badFrameVersion, badKind, badConsole}
 use Rattle.rules.specs.Recover.{rowGoal, rowComplete}
-use Rattle.rules.specs.Step.{isNothing, noStepsLeft, noSuch, notAllUp, someStopped, wrongNode, nodeDown, endDown, wrongStatus, neighbourCrashed, besideCrashed, badRecord, sendable, nothingThere, queueFull, rowDone, noSpace, effect, noPlacing, lineRefusal, refusal, accepted, step}
+use Rattle.rules.specs.Step.{isNothing, noStepsLeft, noSuch, someStopped, wrongNode, nodeDown, endDown, wrongStatus, neighbourCrashed, besideCrashed, badRecord, sendable, nothingThere, queueFull, rowDone, noSpace, effect, noPlacing, lineRefusal, refusal, accepted, step}
 use Rattle.rules.proofs.lists.ListLaws.{some-first}
 use Rattle.rules.proofs.lists.Members.{none-any, in-up-to}
 use Rattle.rules.proofs.lists.Options.{nothing-none, something-there}

@@ -39,7 +39,7 @@ use Rattle.rules.proofs.steps.CrashInv as CrashInv
 use Rattle.rules.proofs.ending.RecoverInv as RecoverInv
 use Rattle.rules.proofs.theorem.StepInv.{up-or-replay, sender-gives, taken-is, again-is}
 use Rattle.rules.proofs.theorem.Unmoved.{effect-steps}
-use Rattle.rules.specs.Trim.{droppable, lowRaised, withLog}
+use Rattle.rules.specs.Trim.{droppable, lowRaised}
 use Rattle.rules.proofs.invariant.Trimmed.{leading-behind, run, rest, trimmed, trimmed-is, trimmed-node, trimmed-else, node-same, lane-same}
 use Rattle.rules.proofs.theorem.Accepted.{can-trim, Passed, passed, step-accepted, can-feed, can-send, CanTake, can-take, can-crash, CanRecover, can-recover}
 

@@ -4,18 +4,16 @@ use mathlib.Core.Path.{_≡_, refl, sym, ap, _∙_}
 use mathlib.Core.Bool.{Bool, true, false, cond}
 use mathlib.Core.List.{List, [], _∷_, _++_, map}
 use mathlib.Core.Option.{Option, none, some}
-use lib.ListN.{length, getD, set}
+use lib.ListN.{getD, set}
 use lib.Dec.{leb, eqb}
 use Rattle.plan.specs.declared.Record.{Record}
-use Rattle.plan.specs.Plan.{Plan, channelAt, entering, leaving}
+use Rattle.plan.specs.Plan.{channelAt, entering, leaving}
 use Rattle.plan.specs.Mask.{taking}
 use Rattle.rules.specs.Lists.{keep, allOf, joined, greatestOf}
-use Rattle.rules.specs.Line.{Message, Entry, Held, Origin, fed, made, Status, up, Node, Lane, Line, freshNode, noLane, nodeAt, laneAt, withNode, withLane, withLanes, parents, senderOf, receiverOf, counted}
-use Rattle.rules.specs.Clock.{logged, sentOn, takenFrom}
-use Rattle.rules.specs.Recover.{childTimes, lowOf, highOf, rowGoal, rowComplete, rowsComplete}
-use Rattle.rules.specs.Replay.{passedOn, holding, fixedAt, floorOf, itemOf, heldByRow, itemsByRow, isHeld, placedLog, placing, nodePlaced, replayEnd, endedIfComplete}
-use Rattle.rules.specs.Step.{madeBy, takenLane, takenUp, takenReplaying}
-use Rattle.rules.proofs.lists.Members.{In, map-same}
+use Rattle.rules.specs.Line.{Held, up, Node, Lane, Line, freshNode, noLane, nodeAt, laneAt, withNode, withLane, withLanes}
+use Rattle.rules.specs.Recover.{childTimes, highOf, rowGoal, rowComplete, rowsComplete}
+use Rattle.rules.specs.Replay.{fixedAt, floorOf, itemOf, heldByRow, itemsByRow, isHeld, placedLog, placing, nodePlaced, replayEnd}
+use Rattle.rules.proofs.lists.Members.{map-same}
 use Rattle.rules.proofs.lists.Options.{some-same, none-some}
 use Rattle.rules.proofs.undamaged.Restored.{all-same}
 
@@ -70,23 +68,6 @@ module _ (k u : Line) (alike : strip k ≡ strip u) where
 
   pub same-plan : k .plan ≡ u .plan
   same-plan = ap (λ (s : Line). s .plan) alike
-
--- A message taken from its channel.
-pub strip-taken : (b : ℕ) (m : Message) (rest : List Message) (l : Line) → strip (takenLane b m rest l) ≡ withLane b (thin (takenFrom (parents (l .plan) (senderOf l b)) m rest (laneAt (strip l) b))) (strip l)
-unfolding takenLane takenFrom
-strip-taken b m rest l =
-    strip-lane b (takenFrom (parents (l .plan) (senderOf l b)) m rest (laneAt l b)) l
-    ∙ ap (λ (s : Lane). withLane b (thin (takenFrom (parents (l .plan) (senderOf l b)) m rest s)) (strip l)) (sym (lane-strip l b))
-
--- A node that logs.
-pub strip-logged : (n : ℕ) (what : Record) (origin before : Origin) (l : Line) → strip (withNode n (logged what origin before (nodeAt l n)) l) ≡ withNode n (bare (logged what origin before (nodeAt (strip l) n))) (strip l)
-unfolding logged
-strip-logged n what origin before l =
-    strip-node n (logged what origin before (nodeAt l n)) l ∙ ap (λ (x : Node). withNode n (bare (logged what origin before x)) (strip l)) (sym (node-strip l n))
-
-pub strip-held : (n : ℕ) (h : Held) (l : Line) → strip (withNode n (holding h (nodeAt l n)) l) ≡ withNode n (bare (holding h (nodeAt (strip l) n))) (strip l)
-unfolding holding
-strip-held n h l = strip-node n (holding h (nodeAt l n)) l ∙ ap (λ (x : Node). withNode n (bare (holding h x)) (strip l)) (sym (node-strip l n))
 
 -- The end of a replay reads no log.
 module _ (b : ℕ) (l : Line) where

@@ -1,7 +1,7 @@
 -- The freed entries are used by later steps.
 use Prim.Native.Nat.{ℕ, _<_}
 use mathlib.Core.Path.{_≡_, sym, _∙_}
-use mathlib.Core.Bool.{true, false, true≢false}
+use mathlib.Core.Bool.{true, true≢false}
 use lib.ListN.{length}
 use borrow.Author.Tests.{eqb-true, lt-leb}
 use Rattle.rules.specs.Line.{logLimit, up, Line, nodeAt, receiverOf}

@@ -1,36 +1,33 @@
 -- The steps other than Trim, taken by a line and by the same with more trimmed.
-use Prim.Native.Nat.{ℕ, suc, max, _<_, _≤_}
+use Prim.Native.Nat.{ℕ, suc, _<_, _≤_}
 use mathlib.Core.Path.{_≡_, refl, sym, ap, subst, fun-ext, _∙_}
-use mathlib.Core.Logic.{_≢_, _⊎_, inl, inr}
+use mathlib.Core.Logic.{_≢_, inl, inr}
 use mathlib.Core.Bool.{Bool, true, false, true≢false}
-use mathlib.Core.List.{List, [], _∷_, _++_, map, append-assoc, cons≢nil}
+use mathlib.Core.List.{List, [], _∷_, _++_, append-assoc, cons≢nil}
 use mathlib.Core.Option.{Option, none, some}
 use native.Mathlib.Omega.{arith}
 use native.Mathlib.Decide.{ℕ-discrete}
-use lib.ListN.{length}
 use Rattle.basics.specs.Update.{changed, changed-there, changed-else}
 use Rattle.plan.specs.declared.Record.{Record}
-use Rattle.plan.specs.Rule.{applied}
-use Rattle.plan.specs.Plan.{Plan, ruleAt, channelAt, nodeCount, channelCount, entering, leaving, isSource, isSink}
+use Rattle.plan.specs.Plan.{channelAt, nodeCount, channelCount, entering, leaving, isSink}
 use Rattle.rules.specs.Lists.{isEmpty}
-use Rattle.rules.specs.Line.{Origin, fed, made, Message, Entry, Held, Target, Status, up, down, replay, Node, Lane, Line, nodeAt, laneAt, parents, senderOf, receiverOf, withNode, withLane, withLanes, freshLane}
+use Rattle.rules.specs.Line.{Origin, Message, Entry, Held, Target, down, Node, Lane, Line, nodeAt, laneAt, parents, senderOf, receiverOf, withNode, withLane, withLanes, freshLane}
 use Rattle.rules.specs.Clock.{logged, nextToSend, sentOn, takenFrom}
 use Rattle.rules.specs.Recover.{lowOf, targetsOf, conflict, rowsComplete, restored, statusOf, recovered}
 use Rattle.rules.specs.Replay.{passedOn, holding, replayEnd, endedIfComplete}
 use Rattle.rules.specs.Trim.{lowAfter}
-use Rattle.rules.specs.Step.{madeBy, sendable, takenLane, takenUp, takenReplaying, crashedLine, recoveredLine}
+use Rattle.rules.specs.Step.{madeBy, sendable, takenLane, takenReplaying, crashedLine, recoveredLine}
 use Rattle.rules.specs.Plain.{Act, Receipt}
 use Rattle.rules.proofs.lists.Members.{In, in-none, in-left}
 use Rattle.rules.proofs.lists.Options.{some-same, none-some}
-use Rattle.rules.proofs.line.LineLaws.{node-there, nodes-long, lanes-long}
 use Rattle.rules.proofs.histories.Ghost.{Ghost}
-use Rattle.rules.proofs.invariant.Inv.{Enters, Leaves, Ordered, Shape, UnmarkedChildren, Inv}
+use Rattle.rules.proofs.invariant.Inv.{Enters, Leaves, Shape, UnmarkedChildren, Inv}
 use Rattle.rules.proofs.invariant.InvLaws.{up-not-down, replay-not-down, marked-unless-up}
 use Rattle.rules.proofs.invariant.MarkedLaws.{at-ends, parent-unmarked, child-unmarked, own}
 use Rattle.rules.proofs.invariant.Stays.{moved}
 use Rattle.rules.proofs.undamaged.Crashed.{emptied, crashedAfter, crashed-is, crashed-node, crashed-else, crashed-enters, crashed-leaves, crashed-beside}
 use Rattle.rules.proofs.undamaged.Restored.{restoredNode, restoredLine, recovered-is, restored-node, restored-else, restored-shape, restored-enters, restored-leaves, restored-beside}
-use Rattle.rules.proofs.trimming.Alike.{bare, thin, strip, node-strip, same-node, same-lane, strip-node, strip-lanes, complete-strip, placedAs, EndAlike, end-alike}
+use Rattle.rules.proofs.trimming.Alike.{bare, thin, strip, same-node, same-lane, strip-node, strip-lanes, complete-strip, placedAs, end-alike}
 use Rattle.rules.proofs.trimming.Restores.{Thinner, next-skips, low-alike, targets-alike, restored-alike}
 use Rattle.rules.proofs.trimming.Phases.{shape-alike, thinner-by, thinner-lane, thinner-node}
 

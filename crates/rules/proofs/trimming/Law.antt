@@ -1,41 +1,36 @@
 -- Trims change nothing that anybody receives.
-use Prim.Native.Nat.{ℕ, suc, _<_, _≤_}
+use Prim.Native.Nat.{ℕ, _<_}
 use mathlib.Core.Path.{_≡_, refl, sym, ap, subst, _∙_}
-use mathlib.Core.Logic.{_≢_, _⊎_, inl, inr}
-use mathlib.Core.Bool.{Bool, true, false, true≢false}
+use mathlib.Core.Logic.{inl, inr}
+use mathlib.Core.Bool.{true, true≢false}
 use mathlib.Core.List.{List, [], _∷_, _++_, append-assoc}
-use mathlib.Core.Option.{Option, none, some}
+use mathlib.Core.Option.{Option, some}
 use native.Mathlib.Omega.{arith}
 use native.Mathlib.Decide.{ℕ-discrete}
 use lib.ListN.{length, replicate}
-use lib.Dec.{eqb}
-use borrow.Author.Tests.{eq-eqb}
-use Rattle.plan.specs.Plan.{Plan, planOf, channelAt, nodeCount, channelCount}
-use Rattle.plan.specs.Check.{planRefusal}
+use Rattle.plan.specs.Plan.{Plan, planOf, channelAt, nodeCount}
 use Rattle.plan.specs.Record.{recordLayout}
-use Rattle.rules.specs.Line.{fed, made, Message, Entry, Status, up, down, replay, Node, Lane, Line, initialLine, nodeAt, laneAt, senderOf, receiverOf, isReplay, counted, oneMore, withLane}
+use Rattle.rules.specs.Line.{fed, made, Message, Entry, down, Node, Lane, Line, initialLine, nodeAt, laneAt, senderOf, isReplay, counted, oneMore, withLane}
 use Rattle.rules.specs.Frame.{Frame, feed, send, take, crash, recover, trim, frameConsole, frameOf}
-use Rattle.rules.specs.Trim.{droppable, leading, trimmedLine}
-use Rattle.rules.specs.Replay.{endedIfComplete}
-use Rattle.rules.specs.Step.{madeBy, sendable, sentLine, fedLine, replaying, takenLane, takenUp, takenReplaying, takenFirst, takenLine, crashedLine, effect, refusal, accepted, step}
+use Rattle.rules.specs.Trim.{trimmedLine}
+use Rattle.rules.specs.Step.{madeBy, sendable, sentLine, fedLine, takenLane, takenUp, takenReplaying, takenFirst, takenLine, crashedLine, effect, refusal, accepted, step}
 use Rattle.rules.specs.Plain.{Act, Receipt}
 use Rattle.rules.specs.Claim.{Story, startOf, ifZero, told, storyFrom, firstReceipt, receiptOf}
-use Rattle.rules.specs.Trimming.{isTrim, WithTrims, no-more, alike, put-in, AllAccepted, TrimsChangeNothing}
-use Rattle.rules.proofs.lists.ListLaws.{nil-right, append-cancel}
-use Rattle.rules.proofs.lists.Members.{In, in-none}
+use Rattle.rules.specs.Trimming.{isTrim, WithTrims, no-more, alike, put-in, TrimsChangeNothing}
+use Rattle.rules.proofs.lists.ListLaws.{nil-right}
+use Rattle.rules.proofs.lists.Members.{in-none}
 use Rattle.rules.proofs.lists.Options.{some-same}
-use Rattle.rules.proofs.histories.Ghost.{Ghost}
-use Rattle.rules.proofs.invariant.Inv.{isUp, Shape, Inv}
-use Rattle.rules.proofs.invariant.InvLaws.{up-not-down, replay-not-down}
+use Rattle.rules.proofs.invariant.Inv.{Shape}
+use Rattle.rules.proofs.invariant.InvLaws.{replay-not-down}
 use Rattle.rules.proofs.invariant.Stays.{moved, shape-beside}
-use Rattle.rules.proofs.invariant.Trimmed.{run, rest, trimmed-is, trimmed-node}
+use Rattle.rules.proofs.invariant.Trimmed.{rest}
 use Rattle.rules.proofs.theorem.Accepted.{Passed, passed, can-feed, can-send, CanSend, can-take, CanTake, can-crash, can-recover, can-trim, CanTrim, step-accepted, step-refused}
 use Rattle.rules.proofs.theorem.StepInv.{up-or-replay, first-up, first-again, sender-sends}
 use Rattle.rules.proofs.restart.NeverUnplaced.{again-here}
 use Rattle.rules.proofs.restart.Known.{Known, known-start, known-step, known-all}
-use Rattle.rules.proofs.trimming.Alike.{strip, same-node, same-lane, same-plan}
+use Rattle.rules.proofs.trimming.Alike.{same-node, same-lane, same-plan}
 use Rattle.rules.proofs.trimming.Restores.{Thinner}
-use Rattle.rules.proofs.trimming.Phases.{shape-alike, thinner-by}
+use Rattle.rules.proofs.trimming.Phases.{thinner-by}
 use Rattle.rules.proofs.trimming.Trims.{trim-one, trim-both, trimmed-stops}
 use Rattle.rules.proofs.trimming.Kinds.{ended-thinner, logs-thinner, sends-thinner, sendable-alike, takes-thinner, holds-thinner, crash-thinner, recover-thinner}
 

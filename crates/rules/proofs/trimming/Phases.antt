@@ -1,22 +1,20 @@
 -- A line and the same with more trimmed stay so when both change in the same way: a lane, a node, a Trim.
-use Prim.Native.Nat.{ℕ, suc, _<_, _≤_}
+use Prim.Native.Nat.{ℕ, _<_, _≤_}
 use mathlib.Core.Path.{_≡_, refl, sym, ap, subst, _∙_}
 use mathlib.Core.Logic.{_≢_, _⊎_, inl, inr}
-use mathlib.Core.Bool.{Bool, true, false}
-use mathlib.Core.List.{List, [], _∷_, _++_, map}
+use mathlib.Core.List.{List, _++_}
 use native.Mathlib.Omega.{arith}
 use native.Mathlib.Decide.{ℕ-discrete}
 use lib.ListN.{length, length-map}
 use Rattle.plan.specs.Plan.{channelAt, nodeCount, channelCount}
-use Rattle.rules.specs.Line.{made, Entry, Status, up, down, replay, Node, Lane, Line, nodeAt, laneAt, parents, senderOf, receiverOf, withNode, withLane}
-use Rattle.rules.specs.Recover.{restored}
+use Rattle.rules.specs.Line.{Entry, down, Node, Lane, Line, nodeAt, laneAt, parents, senderOf, receiverOf, withNode, withLane}
 use Rattle.rules.specs.Trim.{lowAfter}
 use Rattle.rules.proofs.lists.Members.{In}
 use Rattle.rules.proofs.line.LineLaws.{node-there, node-else, lane-there, lane-else}
-use Rattle.rules.proofs.invariant.Inv.{Leaves, Shape, UnmarkedChildren}
+use Rattle.rules.proofs.invariant.Inv.{Leaves, Shape}
 use Rattle.rules.proofs.invariant.Stays.{moved}
 use Rattle.rules.proofs.invariant.Logs.{Grows, restored-grows}
-use Rattle.rules.proofs.trimming.Alike.{bare, thin, strip, same-node, same-lane, same-plan, strip-node, strip-lane}
+use Rattle.rules.proofs.trimming.Alike.{bare, thin, strip, same-plan, strip-node, strip-lane}
 use Rattle.rules.proofs.trimming.Restores.{Thinner}
 
 -- The shape of the other line.

@@ -1,33 +1,33 @@
 -- A line and the same with more of its logs trimmed: what Recover finds is the same.
-use Prim.Native.Nat.{ℕ, suc, _<_, _≤_}
+use Prim.Native.Nat.{ℕ, _<_, _≤_}
 use mathlib.Core.Path.{_≡_, refl, sym, ap, subst, _∙_}
-use mathlib.Core.Logic.{_≢_, _⊎_, inl, inr}
-use mathlib.Core.Bool.{Bool, true, false}
+use mathlib.Core.Logic.{_≢_, inl, inr}
+use mathlib.Core.Bool.{Bool, false}
 use mathlib.Core.List.{List, [], _∷_, _++_, map, append-assoc}
 use native.Mathlib.Omega.{arith}
-use lib.ListN.{length, drop}
-use lib.Dec.{ltb, leb}
+use lib.ListN.{drop}
+use lib.Dec.{ltb}
 use borrow.Author.Tests.{le-ltb}
 use Rattle.plan.specs.declared.Channel.{Channel}
-use Rattle.plan.specs.Plan.{channelAt, nodeCount, channelCount, leaving, isSink}
+use Rattle.plan.specs.Plan.{channelAt, channelCount, leaving, isSink}
 use Rattle.rules.specs.Lists.{keep, joined}
-use Rattle.rules.specs.Line.{made, Message, Entry, Target, Origin, Status, up, down, replay, Node, Lane, Line, nodeAt, laneAt, parents, senderOf, receiverOf}
-use Rattle.rules.specs.Clock.{messageOf, entryFor, nextToSend}
+use Rattle.rules.specs.Line.{made, Entry, Target, down, Node, Lane, Line, nodeAt, laneAt, parents, senderOf, receiverOf}
+use Rattle.rules.specs.Clock.{entryFor, nextToSend}
 use Rattle.rules.specs.Recover.{lowOf, triple, triples, childTriples, targetsOf, sortTargets, restored}
 use Rattle.rules.specs.Trim.{lowAfter}
 use Rattle.rules.specs.Plain.{Act, Receipt}
 use Rattle.rules.proofs.lists.ListLaws.{keep-append}
-use Rattle.rules.proofs.lists.Members.{In, here, there, in-none, keep-in, in-left, in-right, append-in, in-map, map-in}
+use Rattle.rules.proofs.lists.Members.{In, here, there, in-left, in-right, append-in}
 use Rattle.rules.proofs.histories.Witness.{Taken}
 use Rattle.rules.proofs.histories.Ghost.{Ghost, inputOf}
-use Rattle.rules.proofs.line.Joins.{leaving-in, in-leaving}
-use Rattle.rules.proofs.ending.Targets.{triples-entry, TripleAt, in-triples-at, triples-at-in, low-below, low-least, low-same, low-restored, triple-restored, restored-cases, lowThrough}
+use Rattle.rules.proofs.line.Joins.{leaving-in}
+use Rattle.rules.proofs.ending.Targets.{triples-entry, in-triples-at, triples-at-in, low-least, low-same, low-restored, triple-restored, restored-cases, lowThrough}
 use Rattle.rules.proofs.ending.Children.{Child, triples-from, is-parent}
-use Rattle.rules.proofs.invariant.Inv.{Enters, Leaves, UnmarkedEnd, UnmarkedChildren, Inv}
+use Rattle.rules.proofs.invariant.Inv.{Leaves, UnmarkedEnd, UnmarkedChildren, Inv}
 use Rattle.rules.proofs.invariant.Stays.{moved}
 use Rattle.rules.proofs.invariant.Lows.{after-above, after-holds, after-from}
 use Rattle.rules.proofs.steps.Floors.{child-of}
-use Rattle.rules.proofs.trimming.Alike.{strip, same-node, same-lane}
+use Rattle.rules.proofs.trimming.Alike.{strip, same-lane}
 
 -- k is u with more trimmed: alike but for counts, logs and low clocks, and what is gone in k is up to the entries that a step may ask for.
 pub record Thinner (k u : Line) : Type 0 where

@@ -6,23 +6,23 @@ use mathlib.Core.Bool.{Bool, true, false, _&&_}
 use mathlib.Core.List.{List, [], _∷_, _++_, map, append-assoc, cons≢nil}
 use native.Mathlib.Omega.{arith}
 use native.Mathlib.Decide.{ℕ-discrete}
-use lib.ListN.{length, getD, set}
+use lib.ListN.{getD, set}
 use lib.Dec.{leb}
 use borrow.Author.Tests.{leb-true}
 use Rattle.basics.specs.Bools.{both-true}
 use Rattle.basics.specs.Update.{changed, changed-there, changed-else}
-use Rattle.plan.specs.Plan.{Plan, channelAt, nodeCount, channelCount, entering, leaving}
+use Rattle.plan.specs.Plan.{channelAt, nodeCount, channelCount, entering, leaving}
 use Rattle.rules.specs.Lists.{joined, leastOf}
-use Rattle.rules.specs.Line.{Origin, fed, made, Entry, Status, up, down, Node, Lane, Line, freshNode, noLane, nodeAt, laneAt, parents, senderOf, receiverOf, withNode, withLane, withLanes}
+use Rattle.rules.specs.Line.{Origin, fed, made, Entry, up, Node, Lane, Line, freshNode, noLane, nodeAt, laneAt, parents, senderOf, receiverOf, withNode, withLane, withLanes}
 use Rattle.rules.specs.Clock.{entryFor}
 use Rattle.rules.specs.Recover.{restored}
-use Rattle.rules.specs.Trim.{entriesFor, floorTime, senderBelow, droppable, leading, behind, lowBy, lowAfter, lowRaised, withLog, trimmedLine}
+use Rattle.rules.specs.Trim.{entriesFor, floorTime, senderBelow, droppable, leading, behind, lowBy, lowAfter, lowRaised, trimmedLine}
 use Rattle.rules.specs.Plain.{Act, Receipt}
-use Rattle.rules.proofs.lists.Members.{In, map-same, in-left, in-right, append-in}
+use Rattle.rules.proofs.lists.Members.{In, map-same, in-right, append-in}
 use Rattle.rules.proofs.histories.Ghost.{Ghost}
-use Rattle.rules.proofs.invariant.Inv.{Enters, Leaves, Shape, UnmarkedEnd, UnmarkedChildren, Inv}
+use Rattle.rules.proofs.invariant.Inv.{Enters, Shape, UnmarkedChildren, Inv}
 use Rattle.rules.proofs.invariant.Stays.{moved}
-use Rattle.rules.proofs.invariant.Trimmed.{leading-behind, leading-true, run, rest, lower, nodeAfter, trimmed, trimmed-is, trimmed-node, trimmed-else, trimmed-enters, trimmed-beside, node-same, lane-same}
+use Rattle.rules.proofs.invariant.Trimmed.{leading-behind, leading-true, run, rest, lower, nodeAfter, trimmed, trimmed-is, trimmed-node, trimmed-else, trimmed-enters, trimmed-beside}
 use Rattle.rules.proofs.steps.Floors.{floor-entry, restored-floor}
 use Rattle.rules.proofs.steps.TrimInv as TrimInv
 use Rattle.rules.proofs.trimming.Alike.{bare, thin, strip, node-strip, lane-strip, strip-node, strip-lanes, same-node, same-lane}

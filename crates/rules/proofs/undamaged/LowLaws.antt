@@ -1,13 +1,13 @@
 -- The low clock beside the clock: it stays below where the clock rises, and where what raises it is covered by the clock.
 use Prim.Native.Nat.{ℕ, zero, suc, max, _≤_}
-use mathlib.Core.Path.{_≡_, refl, sym, ap, _∙_}
+use mathlib.Core.Path.{_≡_, refl}
 use mathlib.Core.Logic.{inl, inr}
-use mathlib.Core.Bool.{Bool, true, false, cond, _&&_, _||_}
+use mathlib.Core.Bool.{Bool, true, false, cond, _&&_}
 use mathlib.Core.List.{List, [], _∷_}
 use native.Mathlib.Omega.{arith}
-use lib.ListN.{length, drop, replicate}
+use lib.ListN.{length, replicate}
 use lib.Dec.{ltb, eqb}
-use borrow.Author.Tests.{ltb-false, le-ltb, eqb-true, eq-eqb}
+use borrow.Author.Tests.{ltb-false, le-ltb, eqb-true}
 use Rattle.basics.specs.Bools.{neither-true}
 use Rattle.rules.specs.Line.{Origin, fed, made, Entry}
 use Rattle.rules.specs.Clock.{raiseHeard, entryFor}

@@ -2,16 +2,15 @@
 use Prim.Native.Nat.{ℕ, _<_, _≤_}
 use mathlib.Core.Path.{_≡_, refl, sym, ap, subst, _∙_}
 use mathlib.Core.Logic.{_≢_, inl, inr}
-use mathlib.Core.Bool.{Bool, true, false, _&&_, true≢false}
-use mathlib.Core.List.{List, [], _∷_, map}
+use mathlib.Core.Bool.{Bool, true, false, true≢false}
+use mathlib.Core.List.{List, [], _∷_}
 use mathlib.Core.Option.{none, some}
 use native.Mathlib.Omega.{arith}
 use native.Mathlib.Decide.{ℕ-discrete}
 use lib.ListN.{length, drop}
-use lib.Dec.{leb, eqb}
 use borrow.Author.Tests.{ltb-false}
 use Rattle.plan.specs.Plan.{nodeCount, channelAt}
-use Rattle.rules.specs.Lists.{keep, isEmpty}
+use Rattle.rules.specs.Lists.{isEmpty}
 use Rattle.rules.specs.Line.{targetLimit, Origin, made, Target, Status, up, down, replay, Node, Lane, Line, nodeAt, laneAt, freshLane, counted, isDown, acceptedSteps, parents}
 use Rattle.rules.specs.Frame.{recover}
 use Rattle.rules.specs.Recover.{childTriples, lowOf, restored, targetsOf, conflict, rowsComplete, recovered, statusOf, triples}

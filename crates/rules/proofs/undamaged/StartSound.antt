@@ -3,9 +3,9 @@ use Prim.Native.Nat.{ℕ, zero, suc, _<_, _≤_}
 use mathlib.Core.Path.{_≡_, refl, sym, ap, _∙_}
 use mathlib.Core.Logic.{inl, inr}
 use mathlib.Core.Bool.{true, false, true≢false}
-use mathlib.Core.List.{List, [], _∷_, map}
+use mathlib.Core.List.{List, _∷_}
 use native.Mathlib.Omega.{arith}
-use lib.ListN.{replicate, length, getD, replicate, length-replicate, length-map, getD-replicate}
+use lib.ListN.{replicate, length, replicate, length-replicate, length-map, getD-replicate}
 use Rattle.plan.specs.Lawful.{Bytes}
 use Rattle.plan.specs.declared.Channel.{Channel}
 use Rattle.plan.specs.Plan.{Plan, planOf, nodeCount, channelCount, channelAt, noChannel}

@@ -1,27 +1,26 @@
 -- Trim keeps a line sound: its log gets shorter, and what raises the low clock is covered by the clock.
-use Prim.Native.Nat.{ℕ, suc, _<_, _≤_}
+use Prim.Native.Nat.{ℕ, _<_, _≤_}
 use mathlib.Core.Path.{_≡_, refl, sym, ap, subst, _∙_}
-use mathlib.Core.Logic.{_≢_, inl, inr}
+use mathlib.Core.Logic.{inl, inr}
 use mathlib.Core.Bool.{Bool, true, false, _||_}
-use mathlib.Core.List.{List, [], _∷_, _++_, map}
+use mathlib.Core.List.{List, _∷_, map}
 use mathlib.Core.Option.{some}
 use native.Mathlib.Omega.{arith}
 use native.Mathlib.Decide.{ℕ-discrete}
 use lib.ListN.{length, length-append}
-use Rattle.plan.specs.Plan.{channelAt, nodeCount, channelCount}
-use Rattle.rules.specs.Line.{Origin, fed, made, Entry, Held, Status, up, down, replay, Node, Lane, Line, nodeAt, laneAt, parents, senderOf, receiverOf, isDown, counted, acceptedSteps}
+use Rattle.plan.specs.Plan.{channelAt, channelCount}
+use Rattle.rules.specs.Line.{Origin, fed, made, Entry, Held, Status, Node, Lane, Line, nodeAt, laneAt, parents, senderOf, isDown, counted, acceptedSteps}
 use Rattle.rules.specs.Frame.{trim}
-use Rattle.rules.specs.Trim.{droppable, leading, behind, lowAfter, lowRaised, withLog, trimmedLine}
+use Rattle.rules.specs.Trim.{droppable, behind, lowRaised, withLog}
 use Rattle.rules.specs.Step.{endDown, effect}
 use Rattle.rules.specs.Replay.{entryAt}
 use Rattle.rules.specs.Damaged.{workedOn, pastHeard, lowWrong}
 use Rattle.rules.proofs.lists.Rising.{Rises, none, more, Within, none-in, more-in, rises-lower}
 use Rattle.rules.proofs.lists.Members.{In, in-left, in-right, append-in}
 use Rattle.rules.proofs.lists.Options.{some-same}
-use Rattle.rules.proofs.invariant.Inv.{Enters, Shape, Ordered}
+use Rattle.rules.proofs.invariant.Inv.{Enters, Shape}
 use Rattle.rules.proofs.invariant.InvLaws.{up-not-replay}
-use Rattle.rules.proofs.invariant.Stays.{moved}
-use Rattle.rules.proofs.invariant.Trimmed.{leading-behind, run, rest, lower, nodeAfter, trimmed, trimmed-is, trimmed-shape, trimmed-node, trimmed-else, trimmed-enters, trimmed-beside, node-same, lane-same}
+use Rattle.rules.proofs.invariant.Trimmed.{leading-behind, run, rest, lower, nodeAfter, trimmed, trimmed-is, trimmed-shape, trimmed-node, trimmed-else, trimmed-enters, trimmed-beside, node-same}
 use Rattle.rules.proofs.invariant.Lows.{after-long}
 use Rattle.rules.proofs.theorem.Accepted.{Passed, CanTrim, can-trim}
 use Rattle.rules.proofs.theorem.Unmoved.{effect-steps}

@@ -1,7 +1,6 @@
 use Prim.Native.Nat.{_-_, _≤_}
-use mathlib.Core.Path.{_≡_, _∙_}
+use mathlib.Core.Path.{_≡_}
 use native.Mathlib.Omega.{arith}
-use borrow.Author.Needs.{needs}
 use Rattle.plan.specs.Plan.{planChannels}
 use Rattle.state.specs.State.{lineOf}
 use Rattle.buffer.specs.Rows.{Rows}

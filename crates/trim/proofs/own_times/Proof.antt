@@ -1,7 +1,6 @@
 use Prim.Native.Nat.{_-_}
 use mathlib.Core.Path.{sym, _∙_}
 use native.Mathlib.Omega.{arith}
-use borrow.Author.Needs.{needs}
 use Rattle.rules.specs.Line.{nodeAt}
 use Rattle.state.specs.State.{lineOf}
 use Rattle.state.proofs.InPlace.{nodes-counted}

@@ -1,13 +1,12 @@
-use Prim.Native.Nat.{ℕ, _-_, _+_, _≤_, _<_}
+use Prim.Native.Nat.{ℕ, _-_, _≤_, _<_}
 use mathlib.Core.Path.{_≡_, sym, ap, _∙_}
 use mathlib.Core.Logic.{inl, inr}
 use mathlib.Core.Bool.{true, false}
 use native.Mathlib.Omega.{arith}
-use borrow.Author.Needs.{needs}
 use borrow.Author.Tests.{not-true, not-false}
-use lib.ListN.{length, getD}
+use lib.ListN.{getD}
 use Rattle.basics.specs.Bools.{below-or-not}
-use Rattle.rules.specs.Line.{Entry, nodeAt}
+use Rattle.rules.specs.Line.{nodeAt}
 use Rattle.rules.specs.Trim.{droppable}
 use Rattle.state.specs.State.{lineOf}
 use Rattle.state.proofs.InPlace.{nodes-counted}
