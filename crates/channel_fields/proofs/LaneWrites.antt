@@ -42,12 +42,6 @@ module _ (s : List ℕ) (b : ℕ) (at : AtLane s b) where
       let most : max (getD (x .heard) i 0) v ≡ getD (x .heard) i 0 = omega arith in
       lane-now (heardTo i v) at (lane-kept s b at (heardTo i v x) (ap (λ (hs : List ℕ). withHeard hs x) (ap (set (x .heard) i) most ∙ set-getD (x .heard) i 0)))
 
-  pub low-left : (i v : ℕ) → v ≤ getD (laneAt (lineOf s) b .low) i 0 → LaneNow s b (lowTo i v) s
-  low-left i v h =
-      let x = laneAt (lineOf s) b in
-      let most : max (getD (x .low) i 0) v ≡ getD (x .low) i 0 = omega arith in
-      lane-now (lowTo i v) at (lane-kept s b at (lowTo i v x) (ap (λ (ks : List ℕ). withLow ks x) (ap (set (x .low) i) most ∙ set-getD (x .low) i 0)))
-
 each-set : (P : ℕ → Type 0) (xs : List ℕ) (i x : ℕ) → Each P xs → P x → Each P (set xs i x)
 each-set P [] i x h p = tt
 each-set P (y ∷ xs) zero x h p = (p, h .1)
@@ -99,12 +93,11 @@ module _ (s t : List ℕ) (b : ℕ) (at : AtLane s b) where
   low-fits : (ks : List ℕ) → Each TimeFits ks → LaneFits (withLow ks on)
   low-fits ks each = record { mark = fit .mark; taken = fit .taken; heard = fit .heard; queue = fit .queue; low = each }
 
-  pub low-raised : (i v : ℕ) → i < length (on .low) → i < lowLimit → TimeFits v → getD (on .low) i 0 < v → t ≡ put s (blockAt b + lowAt + 4 * i) (bytesOf 4 v) → LaneNow s b (lowTo i v) t
-  low-raised i v inside few h later r =
-      let most : v ≡ max (getD (on .low) i 0) v = omega arith in
-      lane-now (lowTo i v) at (subst (λ (k : ℕ). Holds t (withLane b (withLow (set (on .low) i k) on) (lineOf s))) most
-      (lane-put at (withLow (set (on .low) i v) on) (low-fits (set (on .low) i v) (each-set TimeFits (on .low) i v (fit .low) h)) refl
-      (length-set (on .low) i v) (lane-low-at on i v inside few) (counts-long 4 (getD (on .low) i 0) v) (blockAt b + lowAt + 4 * i) (omega arith) r))
+  pub low-raised : (i v : ℕ) → i < length (on .low) → i < lowLimit → TimeFits (max (getD (on .low) i 0) v) → t ≡ put s (blockAt b + lowAt + 4 * i) (bytesOf 4 (max (getD (on .low) i 0) v)) → LaneNow s b (lowTo i v) t
+  low-raised i v inside few h r =
+      let most = max (getD (on .low) i 0) v in
+      lane-now (lowTo i v) at (lane-put at (lowTo i v on) (low-fits (set (on .low) i most) (each-set TimeFits (on .low) i most (fit .low) h)) refl
+      (length-set (on .low) i most) (lane-low-at on i most inside few) (counts-long 4 (getD (on .low) i 0) most) (blockAt b + lowAt + 4 * i) (omega arith) r)
 
   pub low-cleared : t ≡ take (blockAt b + lowAt) s ++ replicate (blockAt b + laneRestAt - (blockAt b + lowAt)) 0 ++ drop (blockAt b + laneRestAt) s → LaneNow s b nothingLow t
   low-cleared r =

@@ -116,9 +116,8 @@ pub fn raise_low_clock(s: &mut [u8], b: usize, place: usize, time: u32)
     ensures { λ _. ⌜ LaneNow (now (s .entry)) b (lowTo place time) (now (s .exit)) ⌝ }
 {
     let at = layout::BLOCKS + layout::BLOCK * b + layout::LOW + 4 * place;
-    if bytes::get32(s, at) < time {
-        bytes::put32(s, at, time);
-    }
+    let low = bytes::get32(s, at);
+    bytes::put32(s, at, bytes::greater(low, time));
 }
 
 // The queue emptied: its count and the slots used become 0.

@@ -1,8 +1,9 @@
-use mathlib.Core.Path.{_∙_}
+use Prim.Native.Nat.{ℕ, max}
+use mathlib.Core.Path.{ap, _∙_}
 use native.Mathlib.Omega.{arith}
 use borrow.Author.Needs.{needs}
 use Rattle.channel_fields.proofs.LaneReads.{low-five, low-word}
-use Rattle.channel_fields.proofs.LaneWrites.{low-raised, low-left}
+use Rattle.channel_fields.proofs.LaneWrites.{low-raised}
 use Rattle.channel_fields.proofs.raise_low_clock.Statement.{statement}
 use Rattle.channel_fields.proofs.raise_low_clock.Tie as tie
 
@@ -29,18 +30,10 @@ returns c =
     let start = c .before .before .before .before .before .before .before .before in
     let a = start .args in
     let at = start .pre .0 in
-    let entry = c .before .before .before .before .before .get32 .ensures ∙ low-word (a .s .now) (a .b) (at .holds .ready) (at .below) (a .place) (start .pre .1) in
     let few = low-five (a .s .now) (a .b) (at .holds .ready) (at .below) in
-    let later = rw entry at (c .before .before .before .before .if1 .taken) in
-    low-raised (a .s .now) (c .before .before .put32 .last .0) (a .b) at (a .place) (a .time) (start .pre .1) (omega arith) (omega arith) later (c .before .before .put32 .ensures)
-
-returns-2 : tie.Need-returns-2
-returns-2 c =
-    let start = c .before .before .before .before in
-    let a = start .args in
-    let at = start .pre .0 in
-    let entry = c .before .get32 .ensures ∙ low-word (a .s .now) (a .b) (at .holds .ready) (at .below) (a .place) (start .pre .1) in
-    low-left (a .s .now) (a .b) at (a .place) (a .time) (omega (arith, c .if1 .left, entry))
+    let entry = c .before .before .before .before .before .get32 .ensures ∙ low-word (a .s .now) (a .b) (at .holds .ready) (at .below) (a .place) (start .pre .1) in
+    let most = c .before .before .before .greater .ensures ∙ ap (λ (k : ℕ). max k (a .time)) entry in
+    low-raised (a .s .now) (c .before .before .put32 .last .0) (a .b) at (a .place) (a .time) (start .pre .1) (omega arith) (omega (arith, entry)) (rw most at (c .before .before .put32 .ensures))
 
 pub raise-low-clock-spec : {M : Type 1} → statement M
 raise-low-clock-spec =
@@ -52,8 +45,7 @@ raise-low-clock-spec =
     mul-at-2
     add-at-3
     get32-requires
+    (λ c κs. search needs)
     put32-requires
     (λ c. search needs)
-    returns
-    (λ c. search needs)
-    returns-2)
+    returns)
