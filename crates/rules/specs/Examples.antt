@@ -8,9 +8,10 @@ use Rattle.plan.specs.declared.Rule.the-variants.{Keep}
 use Rattle.plan.specs.Plan.{Plan}
 use Rattle.plan.specs.Check.{planRefusal}
 use Rattle.rules.specs.Lists.{keep, joined}
-use Rattle.rules.specs.Line.{fed, made, Node, Lane, laneAt, withSteps, initialLine, onlyCount}
+use Rattle.rules.specs.Line.{fed, made, Entry, Node, Lane, laneAt, withSteps, initialLine, onlyCount}
 use Rattle.rules.specs.Frame.{console, frameFrom}
 use Rattle.rules.specs.Clock.{raiseHeard, takenFrom}
+use Rattle.rules.specs.Trim.{lowAfter}
 use Rattle.rules.specs.Plain.{Receipt}
 use Rattle.rules.specs.Claim.{Story, startOf, storyFrom, told}
 use Rattle.rules.specs.Marked.{channel, feedFrame, frame, moved, replayPlan, replayBegun, replayAfter}
@@ -74,6 +75,10 @@ unfolding storyOn
 loggedOn p frames =
     let s = storyOn p (onlyCount 0) frames in
     s .numbers ++ map (λ (x : Node). length (x .log)) (s .line .nodes)
+
+-- An entry made from node s's message at a time, which was made from another's.
+abbrev madeFrom : ℕ → ℕ → ℕ → ℕ → Entry
+madeFrom s t q u = record { what = record { piece = 1; material = 1; mass = 0 }; time = 1; origin = made s t; before = made q u }
 
 abbrev clockNumbers : Lane → List ℕ
 clockNumbers s = s .mark ∷ s .taken ∷ s .heard
@@ -148,6 +153,8 @@ exampleTable =
     ∷ record { given = answersOn pair 0 (joined (replicate 64 (feedFrame 0 1 1 ∷ moved 0)) ++ feedFrame 0 1 1 ∷ frame 6 0 ∷ feedFrame 0 1 1 ∷ moved 0 ++ frame 6 1 ∷ frame 3 0 ∷ []); expected = replicate 192 0 ++ 21 ∷ 0 ∷ 0 ∷ 0 ∷ 21 ∷ 0 ∷ 0 ∷ [] }
     -- "Dropped entries are kept as the node's low clock": what node 2's entry was made from, and what that was made from
     ∷ record { given = laneAt (storyOn chain (onlyCount 0) (feedFrame 0 1 1 ∷ moved 0 ++ moved 1 ++ moved 2 ++ frame 6 2 ∷ []) .line) 1 .low; expected = 1 ∷ 1 ∷ [] }
+    -- "the greatest time for each parent and, through it, for each of its parents": not the last, and nothing of another sender's
+    ∷ record { given = joined (map (λ (s : ℕ). lowAfter (7 ∷ 8 ∷ []) s (madeFrom 2 3 8 4 ∷ madeFrom 2 1 8 2 ∷ madeFrom 5 9 7 9 ∷ []) (1 ∷ 6 ∷ 0 ∷ [])) (2 ∷ 5 ∷ [])); expected = 3 ∷ 6 ∷ 4 ∷ 9 ∷ 9 ∷ 0 ∷ [] }
     -- "Recover starts the restored entries from the children's low clocks": node 3's log is empty, and node 2 asks for nothing again; "Crash empties it"
     ∷ record { given = joined (map (λ (s : Lane). clockNumbers s ++ s .low) (drop 1 (storyOn chain (onlyCount 0) (feedFrame 0 1 1 ∷ moved 0 ++ moved 1 ++ moved 2 ++ frame 6 2 ∷ frame 6 3 ∷ frame 4 2 ∷ frame 5 2 ∷ []) .line .lanes))); expected = 1 ∷ 1 ∷ 0 ∷ 0 ∷ 0 ∷ 1 ∷ 1 ∷ 1 ∷ 1 ∷ 1 ∷ [] }
     ∷ []

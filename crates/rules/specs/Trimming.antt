@@ -1,5 +1,5 @@
 -- 2026-04: "In demand 3's lists, which later laws on runs mean too, trimming at whatever moment it is accepted changes nothing that anybody receives by a list of steps that are all accepted both with and without it, even where crashes follow."
-use Prim.Native.Nat.{ℕ, _<_}
+use Prim.Native.Nat.{ℕ, _+_, _<_}
 use mathlib.Core.Path.{_≡_}
 use mathlib.Core.Logic.{_≢_}
 use mathlib.Core.Bool.{Bool, true, false}
@@ -10,6 +10,7 @@ use Rattle.plan.specs.Plan.{planOf}
 use Rattle.plan.specs.Check.{planRefusal}
 use Rattle.rules.specs.Line.{logLimit, up, Line, initialLine, nodeAt, receiverOf}
 use Rattle.rules.specs.Frame.{Frame, feed, send, take, crash, recover, trim, frameOf}
+use Rattle.rules.specs.Trim.{droppable, leading}
 use Rattle.rules.specs.Step.{step}
 use Rattle.rules.specs.Claim.{startOf, storyFrom}
 
@@ -46,6 +47,10 @@ logsAt l n (crash m) = false
 logsAt l n (recover m) = false
 logsAt l n (trim m) = false
 
--- "The freed entries are used by later steps": of every line, whatever its logs have held before. A node that is up, as all are behind a Trim, has space while its log is shorter than 64: what would log there is not refused with 21.
+-- "The freed entries are used by later steps." A Trim that is accepted makes the log shorter by the run that it drops.
+abbrev pub TrimFrees : Type 0
+TrimFrees = (l : Line) (n : ℕ) (f : List ℕ) → frameOf f ≡ trim n → step l f .number ≡ 0 → length (nodeAt (step l f .line) n .log) + length (leading (droppable l n) (nodeAt l n .log)) ≡ length (nodeAt l n .log)
+
+-- And of every line, whatever its logs have held before: a node that is up, as all are behind a Trim, has space while its log is shorter than 64: what would log there is not refused with 21.
 abbrev pub FreedAreUsed : Type 0
 FreedAreUsed = (l : Line) (n : ℕ) (f : List ℕ) → nodeAt l n .status ≡ up → length (nodeAt l n .log) < logLimit → logsAt l n (frameOf f) ≡ true → step l f .number ≢ 21
