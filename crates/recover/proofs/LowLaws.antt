@@ -14,28 +14,25 @@ use Rattle.plan.specs.declared.Channel.{Channel}
 use Rattle.plan.specs.Plan.{Plan, planOf, planChannels, channelAt, entering, leaving}
 use Rattle.plan.specs.Mask.{planMask}
 use Rattle.plan.proofs.FitsLaws.{fitting}
-use Rattle.plan.proofs.MaskLaws.{entering-rise, mask-few}
 use Rattle.plan.proofs.PlanLaws.{channel-count}
 use Rattle.rules.specs.Lists.{greatestOf}
 use Rattle.rules.specs.Line.{laneAt, parents}
 use Rattle.rules.specs.Clock.{entryFor}
-use Rattle.rules.specs.Recover.{childLows}
+use Rattle.rules.specs.Recover.{lowThrough, childLows}
 use Rattle.rules.proofs.lists.ListLaws.{map-more}
 use Rattle.rules.proofs.lists.Members.{In, here, there}
-use Rattle.rules.proofs.line.Joins.{entering-in}
 use Rattle.rules.proofs.steps.PlanOrder.{ordered-channels}
-use Rattle.items.proofs.Lookup.{Apart, beside, entering-apart}
+use Rattle.items.proofs.Lookup.{senders, Apart, beside, entering-apart}
 use Rattle.state.specs.Sizes.{blockAt, lowAt, lowLimit}
 use Rattle.state.specs.Right.{wordAt}
 use Rattle.state.specs.State.{lineOf}
 use Rattle.state.proofs.InPlace.{line-plan}
-use Rattle.state.proofs.PlanFitting.{low-long}
 use Rattle.channel_fields.proofs.LaneReads.{low-five, low-word}
 use Rattle.buffer.specs.Ready.{OnChannel}
-use Rattle.buffer.proofs.ReadyLaws.{heard-entering}
-use Rattle.buffer.proofs.MaskWalk.{Left, Next, left-none}
+use Rattle.buffer.proofs.ReadyLaws.{low-entering}
+use Rattle.buffer.proofs.MaskWalk.{Left, Next, left-none, left-entering}
 use Rattle.buffer.specs.Rows.{rowsLong, Rows}
-use Rattle.recover.specs.Found.{NoLow, lowIn, lowOn, raisedAt, raisedBy}
+use Rattle.recover.specs.Found.{NoLow, childLow, raisedAt, raisedBy}
 use Rattle.recover.proofs.ChildLaws.{leavingTo, numbers-turn, leaving-whole, high-snoc}
 
 -- ---- a low clock that holds nothing
@@ -62,15 +59,12 @@ entry-zero q (p ∷ ps) (h ∷ hs) z = one (eqb p q) (z 0 (omega arith)) (entry-
     one true e f = e
     one false e f = f
 
-pub lows-none : (s : List ℕ) (n b : ℕ) (rows : List ℕ) → length rows ≡ rowsLong → NoLow s b → Rows rows (raisedBy rows (lowIn s n b))
+pub lows-none : (s : List ℕ) (n b : ℕ) (rows : List ℕ) → length rows ≡ rowsLong → NoLow s b → Rows rows (raisedBy rows (λ q. lowThrough (lineOf s) n q b))
 lows-none s n b rows long none =
     let low : List ℕ = laneAt (lineOf s) b .low in
     record { long = long; each = λ q h. omega (arith, entry-zero q (parents (lineOf s .plan) n) (drop 1 low) (λ i l. getD-drop 1 low i 0 ∙ none (1 + i) (omega arith) (omega (arith, length-drop 1 low)))) }
 
 -- ---- the entry for a parent
-
-abbrev pub senders : Plan → List ℕ → List ℕ
-senders p bs = map (λ (b : ℕ). channelAt p b .sender) bs
 
 module _ (p : Plan) (q : ℕ) where
   -- It stands where the parent does among the senders.
@@ -97,7 +91,7 @@ pub record LowsTo (s : List ℕ) (n b : ℕ) (start : List ℕ) (left place : �
   pub apart : Apart (planOf s) channels
   pub placed : place + length channels ≡ suc (length (entering (planOf s) n))
   pub long : length rows ≡ rowsLong
-  pub each : (q : ℕ) → q < rowsLong → max (getD rows q 0) (lowComing s b place channels q) ≡ raisedBy start (lowIn s n b) q
+  pub each : (q : ℕ) → q < rowsLong → max (getD rows q 0) (lowComing s b place channels q) ≡ raisedBy start (λ q. lowThrough (lineOf s) n q b) q
 
 apart-first : (p : Plan) {b : ℕ} {bs : List ℕ} → Apart p (b ∷ bs) → ((c : ℕ) → In c bs → channelAt p c .sender ≢ channelAt p b .sender) × Apart p bs
 apart-first p (beside d r) = (d, r)
@@ -106,21 +100,15 @@ module _ (s : List ℕ) (n b : ℕ) (on : OnChannel s b) (from : channelAt (plan
   abbrev low : List ℕ
   low = laneAt (lineOf s) b .low
 
-  -- The low clock has an entry for the node and one for each of its parents.
   lows-long : length low ≡ suc (length (entering (planOf s) n))
-  lows-long = low-long s (on .ready .fits) b (on .below) ∙ ap suc (sym (heard-entering s b on) ∙ ap (λ (k : ℕ). length (entering (planOf s) k)) from)
+  lows-long = low-entering s b on ∙ ap (λ (k : ℕ). suc (length (entering (planOf s) k))) from
 
   pub lows-start : (mask : ℕ) → mask ≡ planMask s (entering (planOf s) n) → mask < 2 ^ 32 → length start ≡ rowsLong → LowsTo s n b start mask 1 start
   unfolding parents
   lows-start mask e small long =
       record {
         channels = entering (planOf s) n;
-        rest = record {
-          rise = entering-rise (planOf s) n;
-          is = e ∙ mask-few s (on .ready .channels) (entering (planOf s) n);
-          small = small;
-          inside = λ c i. omega (arith, entering-in (planOf s) n c i .0, channel-count s);
-        };
+        rest = left-entering s n mask (on .ready) e small;
         apart = entering-apart (planOf s) (ordered-channels (planOf s) (fitting (planOf s) (on .ready .fits) .channels)) n;
         placed = omega arith;
         long = long;
@@ -147,7 +135,7 @@ module _ (s : List ℕ) (n b : ℕ) (on : OnChannel s b) (from : channelAt (plan
         }
       where
         one : (q : ℕ) → q < rowsLong → ((d : ℕ) → In d (x .rest) → channelAt (planOf s) d .sender ≢ channelAt (planOf s) c .sender) → (t : Bool) → eqb (channelAt (planOf s) c .sender) q ≡ t
-            → max (getD next q 0) (lowComing s b (place + 1) (x .rest) q) ≡ raisedBy start (lowIn s n b) q
+            → max (getD next q 0) (lowComing s b (place + 1) (x .rest) q) ≡ raisedBy start (λ q. lowThrough (lineOf s) n q b) q
         one q h away true e =
             let was = rw (x .first) at (k .each q h) in
             let raised = rw (is, entry, e) at (r .each q h) in
@@ -159,7 +147,7 @@ module _ (s : List ℕ) (n b : ℕ) (on : OnChannel s b) (from : channelAt (plan
             let turn = rw e at (entry-turn (planOf s) q c (x .rest) low place lows-there) in
             rw (add-one place) (omega (arith, was, raised, turn))
 
-  pub lows-end : (place : ℕ) (rows : List ℕ) → LowsTo s n b start 0 place rows → Rows rows (raisedBy start (lowIn s n b))
+  pub lows-end : (place : ℕ) (rows : List ℕ) → LowsTo s n b start 0 place rows → Rows rows (raisedBy start (λ q. lowThrough (lineOf s) n q b))
   lows-end place rows k = record { long = k .long; each = λ q h. (let all = rw (left-none (planChannels s) (k .channels) (k .rest)) at (k .each q h) in omega (arith, all)) }
 
 -- ---- channel by channel
@@ -167,13 +155,13 @@ module _ (s : List ℕ) (n b : ℕ) (on : OnChannel s b) (from : channelAt (plan
 module _ (s : List ℕ) (n b q : ℕ) where
   -- What the low clocks on the channels before b hold for a parent.
   abbrev pub lowsBefore : List ℕ
-  lowsBefore = map (λ (c : ℕ). lowIn s n c q) (leavingTo (planOf s) n b)
+  lowsBefore = map (lowThrough (lineOf s) n q) (leavingTo (planOf s) n b)
 
 module _ (s : List ℕ) (n b q : ℕ) where
-  pub low-more : b < planChannels s → greatestOf (lowsBefore s n (b + 1) q) ≡ max (greatestOf (lowsBefore s n b q)) (lowOn s n b q)
+  pub low-more : b < planChannels s → greatestOf (lowsBefore s n (b + 1) q) ≡ max (greatestOf (lowsBefore s n b q)) (childLow s n b q)
   low-more h =
       let t : Bool = eqb (channelAt (planOf s) b .sender) n in
-      let low : ℕ → ℕ = λ c. lowIn s n c q in
+      let low : ℕ → ℕ = lowThrough (lineOf s) n q in
       ap (λ (bs : List ℕ). greatestOf (map low bs)) (numbers-turn (planOf s) (λ (c : Channel). eqb (c .sender) n) b (rw channel-count h))
       ∙ ap greatestOf (map-more low t b (leavingTo (planOf s) n b))
       ∙ high-snoc (lowsBefore s n b q) t (low b)
@@ -186,5 +174,5 @@ module _ (s : List ℕ) (n b q : ℕ) where
   pub low-whole : planChannels s ≤ b → lowsBefore s n b q ≡ childLows (lineOf s) n q
   unfolding childLows
   low-whole h =
-      let low : ℕ → ℕ = λ c. lowIn s n c q in
+      let low : ℕ → ℕ = lowThrough (lineOf s) n q in
       ap (map low) (leaving-whole (planOf s) n b (rw channel-count h)) ∙ sym (ap (λ (p : Plan). map low (leaving p n)) (line-plan s))

@@ -10,12 +10,12 @@ use lib.ListN.{length, getD, take}
 use Rattle.plan.specs.Plan.{planOf, planChannels, channelAt}
 use Rattle.rules.specs.Line.{Entry, Target}
 use Rattle.rules.specs.Lists.{greatestOf}
-use Rattle.rules.specs.Recover.{lowOf, triples, restored, addTarget, targetsOf}
+use Rattle.rules.specs.Recover.{lowOf, lowThrough, triples, restored, addTarget, targetsOf}
 use Rattle.state.specs.State.{lineOf}
 use Rattle.recover.specs.declared.Triple.{Triple}
 use Rattle.buffer.specs.Nothing.{noEntry}
 use Rattle.buffer.specs.Rows.{rowsLong, Rows}
-use Rattle.recover.specs.Found.{tripleOf, tripleList, childLog, triplesOn, restoredOver, lowIn, target, slotsLong, Kept, Changed, addAbove, Found, raisedAt, raisedBy, Told, ToldOn}
+use Rattle.recover.specs.Found.{tripleOf, tripleList, childLog, triplesOn, restoredOver, target, slotsLong, Kept, Changed, addAbove, Found, raisedAt, raisedBy, Told, ToldOn}
 use Rattle.recover.proofs.TripleLaws.{triples-turn, triples-whole, triplesTo, child-turn, child-whole, restored-append, restored-is}
 use Rattle.recover.proofs.LowLaws.{lowsBefore, low-more, low-whole}
 use Rattle.recover.proofs.FoundLaws.{no-change, changed-as, above-one, above-none, changed-more, found-whole}
@@ -67,7 +67,7 @@ module _ (s : List ℕ) (n b low : ℕ) (xs : List ℕ) (count : ℕ) (rows : Li
       let other = ne-eqb (channelAt (planOf s) b .sender) n h in
       record { changed = rw other (no-change xs count k); raised = rw other (record { long = long; each = λ q l. omega arith }) }
 
-  pub told-child : (mid ys : List ℕ) (r : ℕ) (next : List ℕ) → channelAt (planOf s) b .sender ≡ n → Rows mid (raisedBy rows (lowIn s n b)) → Told low (triples n (childLog s b)) xs count mid ys r next
+  pub told-child : (mid ys : List ℕ) (r : ℕ) (next : List ℕ) → channelAt (planOf s) b .sender ≡ n → Rows mid (raisedBy rows (λ q. lowThrough (lineOf s) n q b)) → Told low (triples n (childLog s b)) xs count mid ys r next
       → ToldOn s n b low xs count rows ys r next
   told-child mid ys r next e lows t =
       let same = eq-eqb (channelAt (planOf s) b .sender) n e in

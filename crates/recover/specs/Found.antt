@@ -7,9 +7,8 @@ use lib.Dec.{leb, ltb, eqb}
 use lib.ListN.{length, getD, set, take, drop}
 use Rattle.plan.specs.Plan.{planOf, planNodes, channelAt, entering}
 use Rattle.rules.specs.Lists.{keep, allOf, greatestOf}
-use Rattle.rules.specs.Line.{logLimit, Entry, Target, Line, nodeAt, laneAt, senderOf, parents, targetLimit}
-use Rattle.rules.specs.Clock.{entryFor}
-use Rattle.rules.specs.Recover.{triple, triples, sameTarget, targetBefore, addTarget, sortTargets, restored, conflict, rowGoal}
+use Rattle.rules.specs.Line.{logLimit, Entry, Target, Line, nodeAt, laneAt, senderOf, targetLimit}
+use Rattle.rules.specs.Recover.{lowThrough, triple, triples, sameTarget, targetBefore, addTarget, sortTargets, restored, conflict, rowGoal}
 use Rattle.rules.specs.Damaged.{sameTargets}
 use Rattle.state.specs.Sizes.{pageAt, logAt}
 use Rattle.state.specs.Right.{wordAt}
@@ -56,12 +55,9 @@ restoredOver low parent ts = greatestOf (map (λ (t : Target). t .parentTime) (k
 abbrev pub NoLow : List ℕ → ℕ → Type 0
 NoLow s b = (i : ℕ) → 0 < i → i < length (laneAt (lineOf s) b .low) → getD (laneAt (lineOf s) b .low) i 0 ≡ 0
 
--- What the low clock on channel b holds for a parent of its sender, node n; and what the channel adds to the node's restored entry for the parent.
-abbrev pub lowIn : List ℕ → ℕ → ℕ → ℕ → ℕ
-lowIn s n b parent = entryFor parent (parents (lineOf s .plan) n) (drop 1 (laneAt (lineOf s) b .low))
-
-abbrev pub lowOn : List ℕ → ℕ → ℕ → ℕ → ℕ
-lowOn s n b parent = cond (eqb (channelAt (planOf s) b .sender) n) (lowIn s n b parent) 0
+-- What the low clock on channel b adds to node n's restored entry for a parent: nothing, if another node sends on it.
+abbrev pub childLow : List ℕ → ℕ → ℕ → ℕ → ℕ
+childLow s n b parent = cond (eqb (channelAt (planOf s) b .sender) n) (lowThrough (lineOf s) n parent b) 0
 
 -- ---- targets in a lent slice, three numbers each
 
@@ -151,7 +147,7 @@ pub record Told (low : ℕ) (ts : List Target) (xs : List ℕ) (count : ℕ) (ro
 -- What channel b tells of node n: its triples, and in the parents' rows what its low clock holds, too.
 pub record ToldOn (s : List ℕ) (n b low : ℕ) (xs : List ℕ) (count : ℕ) (rows ys : List ℕ) (r : ℕ) (next : List ℕ) : Type 0 where
   pub changed : Changed (addAbove low (triplesOn s n b)) xs count ys r
-  pub raised : Rows next (raisedBy rows (λ q. max (lowOn s n b q) (restoredOver low q (triplesOn s n b))))
+  pub raised : Rows next (raisedBy rows (λ q. max (childLow s n b q) (restoredOver low q (triplesOn s n b))))
 
 -- ---- rows
 

@@ -3,9 +3,11 @@ ghost use mathlib.Core.Path.{_≡_};
 ghost use mathlib.Core.Bool.{true};
 ghost use lib.ListN.{length};
 ghost use Rattle.plan.specs.Plan.{planOf, channelAt};
+ghost use Rattle.rules.specs.Recover.{lowThrough};
+ghost use Rattle.state.specs.State.{lineOf};
 ghost use Rattle.buffer.specs.Ready.{OnChannel};
 ghost use Rattle.buffer.specs.Rows.{rowsLong, Rows};
-ghost use Rattle.recover.specs.Found.{NoLow, lowIn, raisedBy};
+ghost use Rattle.recover.specs.Found.{NoLow, raisedBy};
 use crate::rows;
 use buffer::bytes;
 use buffer::layout;
@@ -26,7 +28,7 @@ fn no_low(s: &[u8], b: usize) -> bool
 // What the low clock of a child holds for a node's parents through the node, on the channel b to the child, in the parents' rows.
 pub fn lows_on(s: &[u8], n: usize, b: usize, rows: &mut [u32; 12])
     requires { ⌜ OnChannel (now s) b × (channelAt (planOf (now s)) b .sender ≡ n) × (length (now rows) ≡ rowsLong) ⌝ }
-    ensures { λ _. ⌜ Rows (now (rows .exit)) (raisedBy (now (rows .entry)) (lowIn (now (s .entry)) n b)) ⌝ }
+    ensures { λ _. ⌜ Rows (now (rows .exit)) (raisedBy (now (rows .entry)) (λ q. lowThrough (lineOf (now (s .entry))) n q b)) ⌝ }
 {
     if no_low(s, b) {
         return;

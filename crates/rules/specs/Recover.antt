@@ -38,10 +38,13 @@ unfoldable pub childTriples : Line → ℕ → List Target
 unfolding leaving
 childTriples l b = joined (map (λ (c : ℕ). triples b (nodeAt l (channelAt (l .plan) c .receiver) .log)) (leaving (l .plan) b))
 
--- What the children's low clocks hold for a parent of B, through B.
+-- What the children's low clocks hold for a parent of B, through B: one child's, at the end of channel c, and all.
+abbrev pub lowThrough : Line → ℕ → ℕ → ℕ → ℕ
+lowThrough l b parent c = entryFor parent (parents (l .plan) b) (drop 1 (laneAt l c .low))
+
 unfoldable pub childLows : Line → ℕ → ℕ → List ℕ
 unfolding leaving parents
-childLows l b parent = map (λ (c : ℕ). entryFor parent (parents (l .plan) b) (drop 1 (laneAt l c .low))) (leaving (l .plan) b)
+childLows l b parent = map (lowThrough l b parent) (leaving (l .plan) b)
 
 -- "the restored entry is the greatest A-time in children's log entries made from B's messages with B-time at most low, 0 if none". 2026-04: "Recover starts the restored entries from the children's low clocks".
 unfoldable pub restored : Line → ℕ → ℕ → ℕ

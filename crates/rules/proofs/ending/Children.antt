@@ -6,15 +6,13 @@ use mathlib.Core.Bool.{true}
 use mathlib.Core.List.{List, [], map}
 use native.Mathlib.Omega.{arith}
 use native.Mathlib.Decide.{decLe}
-use lib.ListN.{drop}
 use lib.Dec.{leb}
 use borrow.Author.Tests.{le-leb, leb-true}
 use Rattle.plan.specs.Rule.{applied}
 use Rattle.plan.specs.Plan.{ruleAt, channelAt, channelCount}
 use Rattle.rules.specs.Lists.{greatestOf}
 use Rattle.rules.specs.Line.{made, Message, Entry, Target, Line, nodeAt, laneAt, parents}
-use Rattle.rules.specs.Clock.{entryFor}
-use Rattle.rules.specs.Recover.{lowOf, childTriples, restored, targetsOf}
+use Rattle.rules.specs.Recover.{lowOf, childTriples, lowThrough, restored, targetsOf}
 use Rattle.rules.specs.Replay.{passedOn}
 use Rattle.rules.proofs.lists.Rising.{until}
 use Rattle.rules.proofs.lists.Members.{In, in-none, in-keep, keep-in, in-map, map-in, in-left, in-right, append-in, greatest-in}
@@ -123,7 +121,7 @@ module _ (l : Line) (g : Ghost) (n : ℕ) (ordered : Ordered (l .plan)) (own : T
 
   -- An event that has reached a child is in its log, or is gone from it; what is gone is up to low, and what it was made from is in the low clock.
   reached-logged : (b : ℕ) (m : Message) (t : ℕ) → In (tookAt b m t) (g n) → (r : Reached l n m t)
-      → In (targetFrom (l .plan) b m t) (childTriples l n) ⊎ ((t ≤ lowOf l n) × (m .time ≤ entryFor (channelAt (l .plan) b .sender) (parents (l .plan) n) (drop 1 (laneAt l (r .channel) .low))))
+      → In (targetFrom (l .plan) b m t) (childTriples l n) ⊎ ((t ≤ lowOf l n) × (m .time ≤ lowThrough l n (channelAt (l .plan) b .sender) (r .channel)))
   reached-logged b m t i r =
       let c : ℕ = r .channel in
       let k : ℕ = channelAt (l .plan) c .receiver in
@@ -133,7 +131,7 @@ module _ (l : Line) (g : Ghost) (n : ℕ) (ordered : Ordered (l .plan)) (own : T
       elim (append-in (logs .gone) (subst (λ (es : List Event). In (tookAt c x at) es) (logs .split) j)) [
         | inl w ↦ inr (
           low-reached (λ d h s. logs .input-reached c x at w d (h, s ∙ sym (r .leaves)) (children d h s .unmarked)) (r .on-plan) (r .leaves),
-          subst (λ (a : ℕ). m .time ≤ entryFor (channelAt (l .plan) b .sender) (parents (l .plan) a) (drop 1 (laneAt l (r .channel) .low))) (r .leaves) (logs .low-of c (r .on-plan, refl) x at w (channelAt (l .plan) b .sender) (m .time) (subst (λ (a : ℕ). In (channelAt (l .plan) b .sender) (parents (l .plan) a)) (sym (r .leaves)) (is-parent b m t i)) refl),
+          subst (λ (a : ℕ). m .time ≤ lowThrough l a (channelAt (l .plan) b .sender) (r .channel)) (r .leaves) (logs .low-of c (r .on-plan, refl) x at w (channelAt (l .plan) b .sender) (m .time) (subst (λ (a : ℕ). In (channelAt (l .plan) b .sender) (parents (l .plan) a)) (sym (r .leaves)) (is-parent b m t i)) refl),
         )
         | inr w ↦ inl (in-triples-at l n (targetFrom (l .plan) b m t)
             (record {
@@ -169,7 +167,7 @@ module _ (l : Line) (g : Ghost) (n : ℕ) (ordered : Ordered (l .plan)) (own : T
         | inl z ↦ inl z
         | inr (inl (c, on, leaves, q)) ↦
             (let logs = children c on leaves .logs in
-            let is : restored l n a ≡ lowOn l c a = q ∙ ap (λ (x : ℕ). entryFor a (parents (l .plan) x) (drop 1 (laneAt l c .low))) (sym leaves) in
+            let is : restored l n a ≡ lowOn l c a = q ∙ ap (λ (x : ℕ). lowThrough l x a c) (sym leaves) in
             elim (logs .low-from c (on, refl) a) [
               | inl z ↦ inl (is ∙ z)
               | inr (x, at, w, made-of) ↦

@@ -12,7 +12,7 @@ use Rattle.plan.specs.Plan.{Plan, channelAt, channelCount, leaving, isSink}
 use Rattle.rules.specs.Lists.{keep, joined, greatestOf, leastOf}
 use Rattle.rules.specs.Line.{Origin, fed, made, Entry, Target, Line, nodeAt, laneAt, parents}
 use Rattle.rules.specs.Clock.{entryFor}
-use Rattle.rules.specs.Recover.{childTimes, lowOf, highOf, triple, triples, childTriples, childLows, sameTarget, targetBefore, addTarget, sortTargets, targetsOf, restored}
+use Rattle.rules.specs.Recover.{childTimes, lowOf, highOf, triple, triples, childTriples, lowThrough, childLows, sameTarget, targetBefore, addTarget, sortTargets, targetsOf, restored}
 use Rattle.rules.proofs.lists.Members.{In, here, there, in-none, in-first, in-some, in-keep, keep-in, in-map, map-in, in-left, in-right, append-in, in-joined, joined-in, map-same, in-greatest, greatest-in, in-least, least-above, least-greatest}
 use Rattle.rules.proofs.lists.ListLaws.{nil-right}
 use Rattle.rules.proofs.line.Joins.{in-leaving, leaving-in, some-leaves}
@@ -179,9 +179,6 @@ triples-snoc n [] e q = nil-right (triple n (e .origin) (e .before)) ∙ q
 triples-snoc n (d ∷ log) e q = ap (λ (ts : List Target). triple n (d .origin) (d .before) ++ ts) (triples-snoc n log e q)
 
 -- A restored entry: what the children's low clocks hold, and the triples up to low; the greatest of them.
-abbrev pub lowThrough : Line → ℕ → ℕ → ℕ → ℕ
-lowThrough l n a c = entryFor a (parents (l .plan) n) (drop 1 (laneAt l c .low))
-
 module _ (l : Line) (n a : ℕ) where
   abbrev restoring : Target → Bool
   restoring u = eqb (u .parent) a && leb (u .time) (lowOf l n)
@@ -189,7 +186,7 @@ module _ (l : Line) (n a : ℕ) where
   abbrev rows : List ℕ
   rows = map (λ (u : Target). u .parentTime) (keep restoring (childTriples l n))
 
-  pub low-restored : (c : ℕ) → c < channelCount (l .plan) → channelAt (l .plan) c .sender ≡ n → entryFor a (parents (l .plan) n) (drop 1 (laneAt l c .low)) ≤ restored l n a
+  pub low-restored : (c : ℕ) → c < channelCount (l .plan) → channelAt (l .plan) c .sender ≡ n → lowThrough l n a c ≤ restored l n a
   unfolding restored childLows
   low-restored c h q = in-greatest (in-left rows (in-map (lowThrough l n a) (in-leaving (l .plan) n c h q)))
 
@@ -198,7 +195,7 @@ module _ (l : Line) (n a : ℕ) where
   triple-restored u i q h = in-greatest (in-right (childLows l n a) (in-map (λ (v : Target). v .parentTime) (in-keep restoring i (rw (eq-eqb (u .parent) a q, le-leb (u .time) (lowOf l n) h)))))
 
   pub restored-cases : (restored l n a ≡ 0)
-      ⊎ (((c : ℕ) × (c < channelCount (l .plan)) × (channelAt (l .plan) c .sender ≡ n) × (restored l n a ≡ entryFor a (parents (l .plan) n) (drop 1 (laneAt l c .low))))
+      ⊎ (((c : ℕ) × (c < channelCount (l .plan)) × (channelAt (l .plan) c .sender ≡ n) × (restored l n a ≡ lowThrough l n a c))
       ⊎ ((u : Target) × In u (childTriples l n) × (u .parent ≡ a) × (u .time ≤ lowOf l n) × (u .parentTime ≡ restored l n a)))
   unfolding restored childLows
   restored-cases =
@@ -245,7 +242,7 @@ module _ (l k : Line) (n : ℕ) (plans : k .plan ≡ l .plan) where
     unfolding childLows
     lows-same a =
         ap (λ (p : Plan). map (λ (c : ℕ). entryFor a (parents p n) (drop 1 (laneAt k c .low))) (leaving p n)) plans
-        ∙ map-same (λ (c : ℕ). entryFor a (parents (l .plan) n) (drop 1 (laneAt k c .low))) (λ (c : ℕ). entryFor a (parents (l .plan) n) (drop 1 (laneAt l c .low))) (leaving (l .plan) n)
+        ∙ map-same (λ (c : ℕ). entryFor a (parents (l .plan) n) (drop 1 (laneAt k c .low))) (lowThrough l n a) (leaving (l .plan) n)
         (λ c i. let (h, e) = leaving-in (l .plan) n c i in ap (λ (x : List ℕ). entryFor a (parents (l .plan) n) (drop 1 x)) (lows c h e))
 
 -- Low and the triples decide the targets, and with the low clocks the restored entries.

@@ -4,14 +4,14 @@ use mathlib.Core.Path.{_≡_}
 use mathlib.Core.Logic.{_≢_, _⊎_}
 use mathlib.Core.Bool.{Bool, true, false, _&&_}
 use mathlib.Core.List.{List, [], _++_, map}
-use lib.ListN.{length, drop}
+use lib.ListN.{length}
 use lib.Dec.{eqb, ltb}
 use Rattle.plan.specs.Plan.{Plan, ruleAt, channelAt, nodeCount, channelCount, isSource, isSink}
 use Rattle.plan.specs.Rule.{applied}
 use Rattle.plan.specs.Channel.{takes}
 use Rattle.rules.specs.Lists.{keep, greatestOf}
 use Rattle.rules.specs.Line.{logLimit, heldLimit, made, Message, Entry, Held, Target, Status, up, down, replay, Lane, Line, nodeAt, laneAt, parents}
-use Rattle.rules.specs.Recover.{rowGoal, restored}
+use Rattle.rules.specs.Recover.{rowGoal, lowThrough, restored}
 use Rattle.rules.specs.Clock.{messageOf, entryFor}
 use Rattle.rules.specs.Replay.{passedOn}
 use Rattle.rules.specs.Plain.{Act, Receipt}
@@ -136,7 +136,7 @@ UnmarkedChildren l n = (c : ℕ) → Leaves (l .plan) n c → UnmarkedEnd l c
 
 -- What the low clock of channel b's receiver holds for node a, through the sender.
 abbrev pub lowOn : Line → ℕ → ℕ → ℕ
-lowOn l b a = entryFor a (parents (l .plan) (channelAt (l .plan) b .sender)) (drop 1 (laneAt l b .low))
+lowOn l b a = lowThrough l (channelAt (l .plan) b .sender) a b
 
 -- The log of a node that never crashed: the entries of its events without the first ones, which are gone.
 -- A gone event has reached every child that never crashed; were a child to crash, it would be restored past the event; and its input has reached every child of its sender that never crashed.

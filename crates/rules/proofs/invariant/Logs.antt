@@ -11,12 +11,12 @@ use Rattle.plan.specs.Plan.{channelAt, channelCount, isSink}
 use Rattle.rules.specs.Lists.{keep}
 use Rattle.rules.specs.Line.{Message, Entry, Target, Node, Lane, Line, nodeAt, laneAt, parents}
 use Rattle.rules.specs.Clock.{messageOf, entryFor}
-use Rattle.rules.specs.Recover.{lowOf, childTriples, restored}
+use Rattle.rules.specs.Recover.{lowOf, childTriples, lowThrough, restored}
 use Rattle.rules.proofs.lists.ListLaws.{keep-append, map-append, nil-right}
 use Rattle.rules.proofs.lists.Rising.{past, Within, past-none}
 use Rattle.rules.proofs.lists.Members.{In, keep-in, map-in, within-by}
 use Rattle.rules.proofs.histories.Ghost.{Event, Ghost, eventTime, entryOf, sentOf, takesMessage, put, logPut}
-use Rattle.rules.proofs.ending.Targets.{in-triples-at, triples-at-in, low-below, low-above, lowThrough, low-restored, triple-restored, restored-cases}
+use Rattle.rules.proofs.ending.Targets.{in-triples-at, triples-at-in, low-below, low-above, low-restored, triple-restored, restored-cases}
 use Rattle.rules.proofs.invariant.Inv.{timeOf, Enters, Leaves, UnmarkedChildren, Logged}
 use Rattle.rules.proofs.invariant.Stays.{moved}
 

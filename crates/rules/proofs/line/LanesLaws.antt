@@ -8,7 +8,7 @@ use native.Mathlib.Omega.{arith}
 use native.Mathlib.Nat.{add-zero}
 use lib.ListN.{length, getD}
 use Rattle.plan.specs.Plan.{numbersFrom, keepIf}
-use Rattle.rules.specs.Line.{Lane, Line, nodeAt, laneAt, withLane, withLanes}
+use Rattle.rules.specs.Line.{Node, Lane, Line, nodeAt, laneAt, withNode, withLane, withLanes}
 use Rattle.rules.proofs.lists.Members.{In, here, there}
 use Rattle.rules.proofs.line.LineLaws.{lane-there, lane-else, node-kept, plan-same, lanes-long}
 
@@ -71,6 +71,12 @@ module _ (f : ℕ → Lane → Lane) where
   pub lanes-node : (bs : List ℕ) (l : Line) (n : ℕ) → nodeAt (withLanes f bs l) n ≡ nodeAt l n
   lanes-node [] l n = refl
   lanes-node (b ∷ bs) l n = lanes-node bs (withLane b (f b (laneAt l b)) l) n ∙ node-kept b (f b (laneAt l b)) l n
+
+  -- Before a node is changed, or behind it.
+  pub lanes-first : (bs : List ℕ) (n : ℕ) (x : Node) (l : Line) → withNode n x (withLanes f bs l) ≡ withLanes f bs (withNode n x l)
+  unfolding withNode withLane
+  lanes-first [] n x l = refl
+  lanes-first (b ∷ bs) n x l = lanes-first bs n x (withLane b (f b (laneAt l b)) l)
 
   pub lanes-plan : (bs : List ℕ) (l : Line) → withLanes f bs l .plan ≡ l .plan
   lanes-plan [] l = refl

@@ -14,7 +14,7 @@ use Rattle.plan.specs.Plan.{channelAt, nodeCount, channelCount, isSource, isSin
 use Rattle.rules.specs.Lists.{keep}
 use Rattle.rules.specs.Line.{made, Message, Entry, Target, up, replay, Node, Lane, Line, nodeAt, laneAt, parents, senderOf}
 use Rattle.rules.specs.Clock.{messageOf, entryFor}
-use Rattle.rules.specs.Recover.{lowOf, childTriples, restored}
+use Rattle.rules.specs.Recover.{lowOf, childTriples, lowThrough, restored}
 use Rattle.rules.specs.Replay.{passedOn}
 use Rattle.rules.specs.Trim.{floorTime, senderBelow, droppable, leading, behind, lowAfter, lowRaised, trimmedLine}
 use Rattle.rules.specs.Plain.{Act, Receipt}
@@ -113,12 +113,12 @@ module _ (l : Line) (g : Ghost) (cut base : ℕ → ℕ) (fed : List Act) (recei
 
     -- The low clock of a child.
     low-higher : (c : ℕ) → Leaves (l .plan) (channelAt (l .plan) b .receiver) c
-        → entryFor a (parents (l .plan) (channelAt (l .plan) b .receiver)) (drop 1 (laneAt l c .low)) ≤ entryFor a (parents (l .plan) (channelAt (l .plan) b .receiver)) (drop 1 (laneAt (trimmed l n) c .low))
+        → lowThrough l (channelAt (l .plan) b .receiver) a c ≤ lowThrough (trimmed l n) (channelAt (l .plan) b .receiver) a c
     low-higher c (h, s) =
         elim (ℕ-discrete (channelAt (l .plan) c .receiver) n) [
           | no d ↦ omega (arith, ap (λ (x : List ℕ). entryFor a (parents (l .plan) C) (drop 1 x)) (low-else c d))
           | yes q ↦
-              subst (λ (x : ℕ). entryFor a (parents (l .plan) x) (drop 1 (laneAt l c .low)) ≤ entryFor a (parents (l .plan) x) (drop 1 (laneAt k c .low))) s
+              subst (λ (x : ℕ). lowThrough l x a c ≤ lowThrough k x a c) s
               (subst (λ (x : List ℕ). lowOn l c a ≤ entryFor a (parents (l .plan) (channelAt (l .plan) c .sender)) (drop 1 x)) (sym (low-now c (h, q))) (after-above (parents (l .plan) (senderOf l c)) (senderOf l c) a (run l n) (laneAt l c .low)))
         ]
 
@@ -141,9 +141,9 @@ module _ (l : Line) (g : Ghost) (cut base : ℕ → ℕ) (fed : List Act) (recei
                 let low : u .parentTime ≤ entryFor (u .parent) (parents (l .plan) (channelAt (l .plan) c .sender)) (drop 1 (lowAfter (parents (l .plan) (senderOf l c)) (senderOf l c) (run l n) (laneAt l c .low))) =
                 after-holds (parents (l .plan) (senderOf l c)) (senderOf l c) (u .parent) (u .parentTime) (u .time) (run l n) (laneAt l c .low) j (at .origin-is ∙ ap (λ (x : ℕ). made x (u .time)) (sym (at .leaves))) (at .before-is)
                 (subst (λ (x : ℕ). In (u .parent) (parents (l .plan) x)) (sym (at .leaves)) among) (logs .low-long c (at .on-plan, q)) in
-                let held : u .parentTime ≤ entryFor a (parents (l .plan) C) (drop 1 (laneAt k c .low)) =
-                subst (λ (x : ℕ). u .parentTime ≤ entryFor x (parents (l .plan) C) (drop 1 (laneAt k c .low))) parent
-                (subst (λ (x : ℕ). u .parentTime ≤ entryFor (u .parent) (parents (l .plan) x) (drop 1 (laneAt k c .low))) (at .leaves)
+                let held : u .parentTime ≤ lowThrough k C a c =
+                subst (λ (x : ℕ). u .parentTime ≤ lowThrough k C x c) parent
+                (subst (λ (x : ℕ). u .parentTime ≤ lowThrough k x (u .parent) c) (at .leaves)
                 (subst (λ (x : List ℕ). u .parentTime ≤ entryFor (u .parent) (parents (l .plan) (channelAt (l .plan) c .sender)) (drop 1 x)) (sym (low-now c (at .on-plan, q))) low)) in
                 inr (omega (arith, held, low-restored k C a c (at .on-plan) (at .leaves))))
           ]

@@ -13,7 +13,7 @@ use Rattle.plan.specs.Plan.{channelAt, channelCount, leaving, isSink}
 use Rattle.rules.specs.Lists.{keep, joined}
 use Rattle.rules.specs.Line.{made, Entry, Target, down, Node, Lane, Line, nodeAt, laneAt, parents, senderOf, receiverOf}
 use Rattle.rules.specs.Clock.{entryFor, nextToSend}
-use Rattle.rules.specs.Recover.{lowOf, triple, triples, childTriples, targetsOf, sortTargets, restored}
+use Rattle.rules.specs.Recover.{lowOf, triple, triples, childTriples, lowThrough, targetsOf, sortTargets, restored}
 use Rattle.rules.specs.Trim.{lowAfter}
 use Rattle.rules.specs.Plain.{Act, Receipt}
 use Rattle.rules.proofs.lists.ListLaws.{keep-append}
@@ -21,7 +21,7 @@ use Rattle.rules.proofs.lists.Members.{In, here, there, in-left, in-rig
 use Rattle.rules.proofs.histories.Witness.{Taken}
 use Rattle.rules.proofs.histories.Ghost.{Ghost, inputOf}
 use Rattle.rules.proofs.line.Joins.{leaving-in}
-use Rattle.rules.proofs.ending.Targets.{triples-entry, in-triples-at, triples-at-in, low-least, low-same, low-restored, triple-restored, restored-cases, lowThrough}
+use Rattle.rules.proofs.ending.Targets.{triples-entry, in-triples-at, triples-at-in, low-least, low-same, low-restored, triple-restored, restored-cases}
 use Rattle.rules.proofs.ending.Children.{Child, triples-from, is-parent}
 use Rattle.rules.proofs.invariant.Inv.{Leaves, UnmarkedEnd, UnmarkedChildren, Inv}
 use Rattle.rules.proofs.invariant.Stays.{moved}
@@ -101,8 +101,8 @@ module _ (u : Line) (steps : List ℕ) (nodes : List Node) (lanes : List Lane) (
   -- and the restored entries: what is gone from a log is in the low clock, and what a low clock has more was in a log.
   more-in : (c : ℕ) → Leaves (u .plan) n c → (a : ℕ) → lowThrough u n a c ≤ lowThrough k n a c
   more-in c (h, s) a =
-      subst (λ (x : ℕ). entryFor a (parents (u .plan) x) (drop 1 (laneAt u c .low)) ≤ entryFor a (parents (u .plan) x) (drop 1 (laneAt k c .low))) s
-      (subst (λ (x : List ℕ). entryFor a (parents (u .plan) (senderOf u c)) (drop 1 (laneAt u c .low)) ≤ entryFor a (parents (u .plan) (senderOf u c)) (drop 1 x)) (sym (thinner .lows c h)) (after-above (parents (u .plan) (senderOf u c)) (senderOf u c) a (thinner .gone (receiverOf u c)) (laneAt u c .low)))
+      subst (λ (x : ℕ). lowThrough u x a c ≤ lowThrough k x a c) s
+      (subst (λ (x : List ℕ). lowThrough u (senderOf u c) a c ≤ entryFor a (parents (u .plan) (senderOf u c)) (drop 1 x)) (sym (thinner .lows c h)) (after-above (parents (u .plan) (senderOf u c)) (senderOf u c) a (thinner .gone (receiverOf u c)) (laneAt u c .low)))
 
   back : (a : ℕ) → restored u n a ≤ restored k n a
   back a =
@@ -126,7 +126,7 @@ module _ (u : Line) (steps : List ℕ) (nodes : List Node) (lanes : List Lane) (
                   (subst (λ (x : ℕ). In (t .parent) (parents (u .plan) x)) (sym (at .leaves)) among) (logs .low-long c (at .on-plan, refl)) in
                   let held : t .parentTime ≤ lowThrough k n a c =
                   subst (λ (x : ℕ). t .parentTime ≤ lowThrough k n x c) parent
-                  (subst (λ (x : ℕ). t .parentTime ≤ entryFor (t .parent) (parents (u .plan) x) (drop 1 (laneAt k c .low))) (at .leaves)
+                  (subst (λ (x : ℕ). t .parentTime ≤ lowThrough k x (t .parent) c) (at .leaves)
                   (subst (λ (x : List ℕ). t .parentTime ≤ entryFor (t .parent) (parents (u .plan) (senderOf u c)) (drop 1 x)) (sym (thinner .lows c (at .on-plan))) low)) in
                   omega (arith, q, held, low-restored k n a c (at .on-plan) (at .leaves)))
             ])
@@ -138,9 +138,9 @@ module _ (u : Line) (steps : List ℕ) (nodes : List Node) (lanes : List Lane) (
         | inl z ↦ omega (arith, z)
         | inr (inl (c, h, s, q)) ↦
             (let is : restored k n a ≡ entryFor a (parents (u .plan) (senderOf u c)) (drop 1 (lowAfter (parents (u .plan) (senderOf u c)) (senderOf u c) (thinner .gone (receiverOf u c)) (laneAt u c .low))) =
-            q ∙ ap (λ (x : ℕ). entryFor a (parents (u .plan) x) (drop 1 (laneAt k c .low))) (sym s) ∙ ap (λ (x : List ℕ). entryFor a (parents (u .plan) (senderOf u c)) (drop 1 x)) (thinner .lows c h) in
+            q ∙ ap (λ (x : ℕ). lowThrough k x a c) (sym s) ∙ ap (λ (x : List ℕ). entryFor a (parents (u .plan) (senderOf u c)) (drop 1 x)) (thinner .lows c h) in
             elim (after-from (parents (u .plan) (senderOf u c)) (senderOf u c) a (thinner .gone (receiverOf u c)) (laneAt u c .low)) [
-              | inl z ↦ (let old : restored k n a ≡ lowThrough u n a c = is ∙ z ∙ ap (λ (x : ℕ). entryFor a (parents (u .plan) x) (drop 1 (laneAt u c .low))) s in omega (arith, old, low-restored u n a c h s))
+              | inl z ↦ (let old : restored k n a ≡ lowThrough u n a c = is ∙ z ∙ ap (λ (x : ℕ). lowThrough u x a c) s in omega (arith, old, low-restored u n a c h s))
               | inr (d, t, i, o, before) ↦
                   (let origin : d .origin ≡ made n t = o ∙ ap (λ (x : ℕ). made x t) s in
                   let v = entryFor a (parents (u .plan) (senderOf u c)) (drop 1 (lowAfter (parents (u .plan) (senderOf u c)) (senderOf u c) (thinner .gone (receiverOf u c)) (laneAt u c .low))) in
