@@ -219,6 +219,10 @@ lane-then {s} {t} {u} {b} {f} {g} at first second =
       on = second .on;
     }
 
+-- A change that does the same to this lane.
+pub lane-as : {s t : List ℕ} {b : ℕ} {f g : Lane → Lane} → f (laneAt (lineOf s) b) ≡ g (laneAt (lineOf s) b) → LaneNow s b f t → LaneNow s b g t
+lane-as {s} {t} {b} e now = record { holds = subst (λ (x : Lane). Holds t (withLane b x (lineOf s))) e (now .holds); on = now .on }
+
 -- ---- the steps
 
 -- Console c's count.

@@ -1,14 +1,18 @@
 -- What is left of a mask, channel by channel.
 use Prim.Native.Nat.{ℕ, suc, _+_, _-_, _^_, _≤_, _<_}
-use mathlib.Core.Path.{_≡_, refl, sym, ap}
+use mathlib.Core.Path.{_≡_, refl, sym, ap, _∙_}
 use mathlib.Core.Logic.{_≢_}
 use mathlib.Core.List.{List, [], _∷_}
 use native.Mathlib.Omega.{arith}
 use native.Mathlib.Nat.{lt-of-not-le}
 use lib.Pow.{pow-mono}
-use Rattle.plan.specs.Mask.{maskOf, Rising, FirstOf}
-use Rattle.plan.proofs.MaskLaws.{rising-lower}
+use Rattle.plan.specs.Plan.{planOf, planChannels, entering}
+use Rattle.plan.specs.Mask.{maskOf, planMask, Rising, FirstOf}
+use Rattle.plan.proofs.MaskLaws.{rising-lower, entering-rise, mask-few}
+use Rattle.plan.proofs.PlanLaws.{channel-count}
 use Rattle.rules.proofs.lists.Members.{In, here, there}
+use Rattle.rules.proofs.line.Joins.{entering-in}
+use Rattle.buffer.specs.Ready.{Ready}
 
 pub record Left (m left : ℕ) (bs : List ℕ) : Type 0 where
   pub rise : Rising 0 bs
@@ -46,3 +50,13 @@ next m left b (c ∷ cs) k some first =
 pub left-none : (m : ℕ) (bs : List ℕ) → Left m 0 bs → bs ≡ []
 left-none m [] k = refl
 left-none m (b ∷ bs) k = let p : 2 ^ 0 ≤ 2 ^ b = pow-mono {i = 0} {j = b} (omega arith) in let no : ⊥ = omega (arith, k .is) in absurd no
+
+-- All of the channels that enter a node.
+pub left-entering : (s : List ℕ) (n left : ℕ) → Ready s → left ≡ planMask s (entering (planOf s) n) → left < 2 ^ 32 → Left (planChannels s) left (entering (planOf s) n)
+left-entering s n left ready e small =
+    record {
+      rise = entering-rise (planOf s) n;
+      is = e ∙ mask-few s (ready .channels) (entering (planOf s) n);
+      small = small;
+      inside = λ b i. omega (arith, entering-in (planOf s) n b i .0, channel-count s);
+    }

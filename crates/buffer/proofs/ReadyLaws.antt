@@ -8,24 +8,32 @@ use borrow.Author.Tests.{ne-eqb, lt-ltb}
 use lib.Dec.{ltb, eqb}
 use lib.ListN.{length, getD, take, drop, length-map}
 use Rattle.plan.specs.Layout.{spelled}
-use Rattle.plan.specs.Plan.{planOf, planNodes, channelCount, channelAt, entering}
+use Rattle.plan.specs.Plan.{planOf, planNodes, planChannels, nodeCount, channelCount, channelAt, entering}
 use Rattle.plan.proofs.FitsLaws.{fitting}
 use Rattle.plan.proofs.PlanLaws.{node-count, channel-count}
 use Rattle.plan.proofs.ReadLaws.{byte-field}
-use Rattle.rules.specs.Line.{nodeAt, isDown, isReplay, parents, consoleCount, stepsFrom}
+use Rattle.rules.specs.Line.{nodeAt, laneAt, isDown, isReplay, parents, consoleCount, stepsFrom}
 use Rattle.rules.specs.Step.{nodeDown, replaying}
 use Rattle.rules.proofs.steps.PlanOrder.{ordered-channels}
 use Rattle.state.specs.Sizes.{pageAt, stepsOfAt}
 use Rattle.state.specs.Node.{statusOf, crashOf}
 use Rattle.state.specs.Lane.{heardCount}
 use Rattle.state.specs.State.{lineOf}
-use Rattle.state.proofs.InPlace.{Counted, line-counts, countsIn}
+use Rattle.state.proofs.InPlace.{Counted, line-plan, line-counts, countsIn}
+use Rattle.state.proofs.PlanFitting.{low-long}
 use Rattle.state.proofs.OffsetLaws.{line-status, line-crashed}
 use Rattle.buffer.specs.Ready.{Ready, OnChannel}
 use Rattle.state.specs.Right.{wordAt}
 
 pub counted : {s : List ℕ} → Ready s → Counted s
 counted r = record { nodes = r .nodes; channels = r .channels }
+
+-- A line's counts by the plan in front.
+pub line-nodes : (s : List ℕ) → nodeCount (lineOf s .plan) ≡ planNodes s
+line-nodes s = ap nodeCount (line-plan s) ∙ node-count s
+
+pub line-channels : (s : List ℕ) → channelCount (lineOf s .plan) ≡ planChannels s
+line-channels s = ap channelCount (line-plan s) ∙ channel-count s
 
 -- ---- a node's status
 
@@ -72,6 +80,10 @@ module _ (s : List ℕ) (b : ℕ) (on : OnChannel s b) where
   pub heard-entering : length (entering (planOf s) (channelAt (planOf s) b .sender)) ≡ heardCount (planOf s) (channelAt (planOf s) b)
   unfolding heardCount parents
   heard-entering = sym (length-map (entering (planOf s) (channelAt (planOf s) b .sender)) (λ (c : ℕ). channelAt (planOf s) c .sender))
+
+  -- The low clock has an entry for the sender and one for each of its parents.
+  pub low-entering : length (laneAt (lineOf s) b .low) ≡ suc (length (entering (planOf s) (channelAt (planOf s) b .sender)))
+  low-entering = low-long s (on .ready .fits) b (on .below) ∙ ap suc (sym heard-entering)
 
 -- Each console's count.
 pub count-read : (s : List ℕ) → Ready s → (c : ℕ) → c < consoleCount → stepsFrom (lineOf s) c ≡ wordAt (stepsOfAt c) s

@@ -291,3 +291,12 @@ source-counted p n = one (entering p n)
     one : (bs : List ℕ) → eqb (length bs) 0 ≡ isNone bs
     one [] = refl
     one (b ∷ bs) = eqb·suc-zero (length bs)
+
+-- ---- a later state whose plan is the same
+
+pub table-kept : {s t u : List ℕ} → planOf t ≡ planOf s → Table s u → Table t u
+table-kept e k = record {
+  long = k .long;
+  joins = λ q n h i. rw e (k .joins q n h i);
+  counts = λ n h. rw e (k .counts n h);
+}

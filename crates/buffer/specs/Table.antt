@@ -1,4 +1,4 @@
--- The plan's channels as a table, made once for a check: for each sender and receiver the channel and its place, and for each node the number of channels that enter it.
+-- The plan's channels as a table, made once for a check or a Trim: for each sender and receiver the channel and its place, and for each node the number of channels that enter it.
 use Prim.Native.Nat.{ℕ, _+_, _*_, _<_}
 use mathlib.Core.Path.{_≡_}
 use mathlib.Core.List.{List}

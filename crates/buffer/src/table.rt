@@ -1,4 +1,4 @@
-// The plan's channels as a table, made once for a check: looking a sender up is then one read.
+// The plan's channels as a table, made once for a check or a Trim: looking a sender up is then one read.
 ghost use mathlib.Core.Path.{_≡_};
 ghost use Prim.Native.Nat.{_+_, _*_, _<_};
 ghost use lib.ListN.{length, getD, set};

@@ -22,7 +22,7 @@ use Rattle.state.specs.State.{lineOf}
 use Rattle.state.proofs.InPlace.{line-plan}
 use Rattle.state.proofs.PlanFitting.{few-heard, heard-long}
 use Rattle.items.specs.Items.{placeFrom}
-use Rattle.items.proofs.Lookup.{Apart, alone, beside, entering-apart}
+use Rattle.items.proofs.Lookup.{senders, Apart, alone, beside, entering-apart}
 use Rattle.buffer.specs.Holds.{AtLane}
 use Rattle.buffer.specs.Look.{numberOr}
 use Rattle.buffer.proofs.LookLaws.{place-below}
@@ -36,33 +36,30 @@ raise-fed [] (h ∷ hs) = refl
 raise-fed (p ∷ ps) (h ∷ hs) = refl
 
 module _ (p : Plan) (q t : ℕ) where
-  abbrev senders : List ℕ → List ℕ
-  senders bs = map (λ (b : ℕ). channelAt p b .sender) bs
-
-  raise-away : (bs hs : List ℕ) → ((c : ℕ) → In c bs → channelAt p c .sender ≢ q) → raiseHeard (senders bs) hs (made q t) ≡ hs
+  raise-away : (bs hs : List ℕ) → ((c : ℕ) → In c bs → channelAt p c .sender ≢ q) → raiseHeard (senders p bs) hs (made q t) ≡ hs
   raise-away bs [] d = refl
   raise-away [] (h ∷ hs) d = refl
   raise-away (b ∷ bs) (h ∷ hs) d = rw (ne-eqb (channelAt p b .sender) q (d b here), raise-away bs hs (λ c i. d c (there i)))
 
-  pub raise-unplaced : (k : ℕ) (bs hs : List ℕ) → placeFrom p q k bs ≡ none → raiseHeard (senders bs) hs (made q t) ≡ hs
+  pub raise-unplaced : (k : ℕ) (bs hs : List ℕ) → placeFrom p q k bs ≡ none → raiseHeard (senders p bs) hs (made q t) ≡ hs
   raise-unplaced k bs [] e = refl
   raise-unplaced k [] (h ∷ hs) e = refl
   raise-unplaced k (b ∷ bs) (h ∷ hs) e = one (eqb (channelAt p b .sender) q) (λ y. raise-unplaced (suc k) bs hs y) e
     where
-      one : (v : Bool) → (placeFrom p q (suc k) bs ≡ none → raiseHeard (senders bs) hs (made q t) ≡ hs)
-          → _≡_ {A = Option ℕ} (elim v [ true ↦ some k | false ↦ placeFrom p q (suc k) bs ]) none → cond v (max h t) h ∷ raiseHeard (senders bs) hs (made q t) ≡ h ∷ hs
+      one : (v : Bool) → (placeFrom p q (suc k) bs ≡ none → raiseHeard (senders p bs) hs (made q t) ≡ hs)
+          → _≡_ {A = Option ℕ} (elim v [ true ↦ some k | false ↦ placeFrom p q (suc k) bs ]) none → cond v (max h t) h ∷ raiseHeard (senders p bs) hs (made q t) ≡ h ∷ hs
       one true later y = none-some (sym y)
       one false later y = ap (λ (r : List ℕ). h ∷ r) (later y)
 
   pub raise-placed : (k i : ℕ) {bs : List ℕ} (hs : List ℕ) → Apart p bs → length hs ≡ length bs → placeFrom p q k bs ≡ some i
-      → (j : ℕ) × (i ≡ k + j) × (raiseHeard (senders bs) hs (made q t) ≡ set hs j (max (getD hs j 0) t))
+      → (j : ℕ) × (i ≡ k + j) × (raiseHeard (senders p bs) hs (made q t) ≡ set hs j (max (getD hs j 0) t))
   raise-placed k i hs alone long e = none-some e
   raise-placed k i [] (beside d r) long e = let no : ⊥ = omega arith in absurd no
   raise-placed k i (h ∷ hs) (beside {b = c} {bs = bs} d r) long e = one (eqb (channelAt p c .sender) q) refl (λ y. raise-placed (suc k) i hs r (omega arith) y) e
     where
-      one : (v : Bool) → eqb (channelAt p c .sender) q ≡ v → (placeFrom p q (suc k) bs ≡ some i → (j : ℕ) × (i ≡ suc k + j) × (raiseHeard (senders bs) hs (made q t) ≡ set hs j (max (getD hs j 0) t)))
+      one : (v : Bool) → eqb (channelAt p c .sender) q ≡ v → (placeFrom p q (suc k) bs ≡ some i → (j : ℕ) × (i ≡ suc k + j) × (raiseHeard (senders p bs) hs (made q t) ≡ set hs j (max (getD hs j 0) t)))
           → (elim v [ true ↦ some k | false ↦ placeFrom p q (suc k) bs ]) ≡ some i
-          → (j : ℕ) × (i ≡ k + j) × (cond v (max h t) h ∷ raiseHeard (senders bs) hs (made q t) ≡ set (h ∷ hs) j (max (getD (h ∷ hs) j 0) t))
+          → (j : ℕ) × (i ≡ k + j) × (cond v (max h t) h ∷ raiseHeard (senders p bs) hs (made q t) ≡ set (h ∷ hs) j (max (getD (h ∷ hs) j 0) t))
       one true z later y =
           let same : k ≡ i = some-same y in
           (0, omega arith, ap (λ (r : List ℕ). max h t ∷ r) (raise-away bs hs (λ x w v. d x w (v ∙ sym (eqb-true (channelAt p c .sender) q z)))))

@@ -23,7 +23,7 @@ use Rattle.items.specs.Items.{fromSender, placeFrom, ifFound}
 use Rattle.items.proofs.Tests.{each-none}
 
 module _ (p : Plan) where
-  abbrev senders : List ℕ → List ℕ
+  abbrev pub senders : List ℕ → List ℕ
   senders bs = map (λ (b : ℕ). channelAt p b .sender) bs
 
   pub data Apart : List ℕ → Type 0 where

@@ -12,19 +12,16 @@ use lib.ListN.{length, getD, set, take, drop, length-append, length-drop, length
 use lib.Seq.{drop-cons, drop-set-lt, drop-set-add, take-set-le, take-suc-set}
 use Rattle.plan.specs.Plan.{Plan, planOf, planChannels, channelAt, keepIf, numbersFrom, entering}
 use Rattle.plan.specs.Mask.{planMask}
-use Rattle.plan.proofs.MaskLaws.{entering-rise, mask-few}
-use Rattle.plan.proofs.PlanLaws.{channel-count}
 use Rattle.placing.specs.Item.{Item}
 use Rattle.rules.specs.Line.{Held, Line, nodeAt, senderOf}
 use Rattle.rules.specs.Replay.{fixedAt, floorOf, itemOf}
 use Rattle.rules.proofs.lists.ListLaws.{nil-right, map-append}
-use Rattle.rules.proofs.line.Joins.{entering-in}
 use Rattle.state.specs.State.{lineOf}
 use Rattle.state.proofs.InPlace.{line-plan}
 use Rattle.buffer.specs.Ready.{Ready}
 use Rattle.buffer.specs.Nothing.{noHeld}
 use Rattle.replay_items.specs.Items.{tableLong, Slot, slotItem, Part, Table, pushed, slotOf, oneSlot, rowSlots, slotsFrom, Filled}
-use Rattle.buffer.proofs.MaskWalk.{Left, Next, left-none}
+use Rattle.buffer.proofs.MaskWalk.{Left, Next, left-none, left-entering}
 
 -- ---- one part of the table
 
@@ -272,12 +269,7 @@ module _ (s : List ℕ) (n : ℕ) (hs : List Held) where
   rows-start ready start h left e small =
       record {
         channels = entering (planOf s) n;
-        rest = record {
-          rise = entering-rise (planOf s) n;
-          is = e ∙ mask-few s (ready .channels) (entering (planOf s) n);
-          small = small;
-          inside = λ b i. omega (arith, entering-in (planOf s) n b i .0, channel-count s);
-        };
+        rest = left-entering s n left ready e small;
         small = omega arith;
         done = [];
         whole = refl;

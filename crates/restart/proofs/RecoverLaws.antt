@@ -38,7 +38,8 @@ use Rattle.restart.specs.Answers.{firstOf, recoverAsked, noOutcome}
 use Rattle.restart.specs.Lanes.{restoredTo, marked, restoredLanes}
 use Rattle.restart.specs.Nodes.{restoredBy, Fillable}
 use Rattle.restart.proofs.FitsLaws.{ordered-of, shape-of, lane-fresh}
-use Rattle.restart.proofs.StateLaws.{line-nodes, at-node}
+use Rattle.buffer.proofs.ReadyLaws.{line-nodes}
+use Rattle.restart.proofs.StateLaws.{at-node}
 use Rattle.restart.proofs.SweepLaws.{swept-same}
 use Rattle.restart.proofs.AnswerLaws.{asked-inside, asked-down, asked-number, found-number, effect-none, effect-some}
 

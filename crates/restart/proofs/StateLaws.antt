@@ -1,22 +1,12 @@
 -- A state that holds a line: its nodes and channels, and a lane changed.
 use Prim.Native.Nat.{ℕ, _<_}
-use mathlib.Core.Path.{_≡_, ap, subst, _∙_}
+use mathlib.Core.Path.{subst}
 use mathlib.Core.List.{List}
 use native.Mathlib.Omega.{arith}
-use Rattle.plan.specs.Plan.{planNodes, planChannels, nodeCount, channelCount}
-use Rattle.plan.proofs.PlanLaws.{node-count, channel-count}
+use Rattle.plan.specs.Plan.{nodeCount, channelCount}
 use Rattle.rules.specs.Line.{Lane, Line, laneAt, withLane}
-use Rattle.state.specs.State.{lineOf}
-use Rattle.state.proofs.InPlace.{line-plan}
 use Rattle.buffer.specs.Holds.{Holds, AtNode, AtLane, LaneNow}
 use Rattle.buffer.proofs.HoldsLaws.{holds-again, holds-nodes, holds-channels}
-
--- A line's counts by the plan in front.
-pub line-nodes : (s : List ℕ) → nodeCount (lineOf s .plan) ≡ planNodes s
-line-nodes s = ap nodeCount (line-plan s) ∙ node-count s
-
-pub line-channels : (s : List ℕ) → channelCount (lineOf s .plan) ≡ planChannels s
-line-channels s = ap channelCount (line-plan s) ∙ channel-count s
 
 module _ {s : List ℕ} {l : Line} (h : Holds s l) where
   pub at-node : (n : ℕ) → n < nodeCount (l .plan) → AtNode s n

@@ -2,22 +2,15 @@
 use Prim.Native.Nat.{ℕ, suc, _+_, _-_, _≤_, _<_}
 use mathlib.Core.Path.{_≡_, refl, sym, ap, _∙_}
 use mathlib.Core.Bool.{Bool, true, false, not, _||_, or-assoc, or-false}
-use mathlib.Core.List.{List}
 use native.Mathlib.Omega.{arith}
 use lib.Dec.{leb}
 use borrow.Author.Tests.{leb-false, le-leb, lt-leb}
-use Rattle.plan.specs.Plan.{planNodes, nodeCount}
-use Rattle.plan.proofs.PlanLaws.{node-count}
-use Rattle.state.specs.State.{lineOf}
-use Rattle.state.proofs.InPlace.{line-plan}
+use Rattle.plan.specs.Plan.{nodeCount}
 use Rattle.rules.specs.Lists.{anyOf, upTo}
 use Rattle.rules.specs.Line.{Status, up, down, replay, Line, nodeAt, isUp, isDown, isReplay}
 use Rattle.rules.specs.Frame.{trim}
 use Rattle.rules.specs.Step.{notAllUp, nodeDown, replaying, noPlacing, effect, lineRefusal}
 use Rattle.trim.specs.Trimmed.{trimAnswer}
-
-pub line-nodes : (s : List ℕ) → nodeCount (lineOf s .plan) ≡ planNodes s
-line-nodes s = ap nodeCount (line-plan s) ∙ node-count s
 
 not-up : (s : Status) → (isDown s || isReplay s) ≡ not (isUp s)
 not-up up = refl

@@ -24,7 +24,7 @@ use Rattle.state.specs.State.{lineOf}
 use Rattle.state.proofs.InPlace.{line-plan}
 use Rattle.state.proofs.PlanFitting.{heard-long}
 use Rattle.items.specs.Items.{fromSender, placeFrom, ifFound}
-use Rattle.items.proofs.Lookup.{sender-placed}
+use Rattle.items.proofs.Lookup.{senders, sender-placed}
 use Rattle.buffer.specs.Ready.{Ready}
 use Rattle.buffer.specs.Table.{codeOr}
 use Rattle.buffer.proofs.ReadyLaws.{heard-entering}
@@ -36,16 +36,13 @@ use Rattle.trim.proofs.RowLaws.{rows-one}
 -- ---- a node's place among the senders of some channels
 
 module _ (p : Plan) (q : ℕ) where
-  abbrev senders : List ℕ → List ℕ
-  senders bs = map (λ (b : ℕ). channelAt p b .sender) bs
-
   -- Its entry stands there.
-  pub placed-entry : (k i : ℕ) (bs hs : List ℕ) → placeFrom p q k bs ≡ some i → (j : ℕ) × (i ≡ k + j) × (entryFor q (senders bs) hs ≡ getD hs j 0)
+  pub placed-entry : (k i : ℕ) (bs hs : List ℕ) → placeFrom p q k bs ≡ some i → (j : ℕ) × (i ≡ k + j) × (entryFor q (senders p bs) hs ≡ getD hs j 0)
   placed-entry k i [] hs e = none-some e
   placed-entry k i (b ∷ bs) hs e = one (eqb (channelAt p b .sender) q) refl hs (λ ks. placed-entry (suc k) i bs ks) e
     where
-      one : (v : Bool) → eqb (channelAt p b .sender) q ≡ v → (ks : List ℕ) → ((ls : List ℕ) → placeFrom p q (suc k) bs ≡ some i → (j : ℕ) × (i ≡ suc k + j) × (entryFor q (senders bs) ls ≡ getD ls j 0))
-          → (elim v [ true ↦ some k | false ↦ placeFrom p q (suc k) bs ]) ≡ some i → (j : ℕ) × (i ≡ k + j) × (entryFor q (senders (b ∷ bs)) ks ≡ getD ks j 0)
+      one : (v : Bool) → eqb (channelAt p b .sender) q ≡ v → (ks : List ℕ) → ((ls : List ℕ) → placeFrom p q (suc k) bs ≡ some i → (j : ℕ) × (i ≡ suc k + j) × (entryFor q (senders p bs) ls ≡ getD ls j 0))
+          → (elim v [ true ↦ some k | false ↦ placeFrom p q (suc k) bs ]) ≡ some i → (j : ℕ) × (i ≡ k + j) × (entryFor q (senders p (b ∷ bs)) ks ≡ getD ks j 0)
       one true z [] later y = let same : k ≡ i = some-same y in (0, omega arith, refl)
       one true z (h ∷ ks) later y = let same : k ≡ i = some-same y in (0, omega arith, rw z refl)
       one false z [] later y = let (j, at, is) = later [] y in (suc j, omega arith, refl)
@@ -54,7 +51,7 @@ module _ (p : Plan) (q : ℕ) where
   -- It has a place exactly if one of the channels is its own.
   placed-own : (i : ℕ) (bs : List ℕ) → placeFrom p q 0 bs ≡ some i → (a : ℕ) × In a bs × (channelAt p a .sender ≡ q)
   placed-own i bs e =
-      let (x, m, t) = any-in (λ (c : ℕ). eqb c q) (senders bs) (sender-placed p q 0 bs ∙ ap (λ (o : Option ℕ). ifFound o (λ (b : ℕ). true)) e) in
+      let (x, m, t) = any-in (λ (c : ℕ). eqb c q) (senders p bs) (sender-placed p q 0 bs ∙ ap (λ (o : Option ℕ). ifFound o (λ (b : ℕ). true)) e) in
       let (a, n, is) = map-in (λ (b : ℕ). channelAt p b .sender) bs m in
       (a, n, sym is ∙ eqb-true x q t)
 

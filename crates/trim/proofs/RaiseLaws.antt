@@ -11,43 +11,27 @@ use lib.Seq.{take-suc}
 use borrow.Author.Tests.{eq-eqb, ne-eqb}
 use Rattle.plan.specs.Plan.{Plan, planOf, planChannels, channelAt, entering}
 use Rattle.plan.specs.Mask.{planMask}
-use Rattle.plan.proofs.MaskLaws.{entering-rise, mask-few}
-use Rattle.plan.proofs.PlanLaws.{channel-count}
 use Rattle.rules.specs.Line.{Origin, Entry, Node, Lane, Line, nodeAt, laneAt, senderOf, parents, withLane, withLanes}
 use Rattle.rules.specs.Clock.{raiseHeard}
 use Rattle.rules.specs.Trim.{lowBy, lowAfter, lowRaised, withLow}
 use Rattle.rules.proofs.line.LineLaws.{plan-same, node-kept}
-use Rattle.rules.proofs.line.Joins.{entering-in}
-use Rattle.buffer.proofs.MaskWalk.{Left, Next, left-none}
+use Rattle.buffer.proofs.MaskWalk.{Left, Next, left-none, left-entering}
 use Rattle.state.specs.Pieces.{originFrom}
 use Rattle.state.specs.State.{lineOf}
 use Rattle.state.proofs.InPlace.{line-plan}
-use Rattle.state.proofs.PlanFitting.{low-long}
 use Rattle.items.specs.Items.{placeFrom}
 use Rattle.items.proofs.Lookup.{entering-apart}
 use Rattle.plan.proofs.FitsLaws.{fitting}
 use Rattle.rules.proofs.steps.PlanOrder.{ordered-channels}
 use Rattle.buffer.specs.Nothing.{noEntry}
 use Rattle.buffer.specs.Holds.{Holds, AtNode, AtLane, LaneNow}
-use Rattle.buffer.specs.Table.{Table}
-use Rattle.buffer.proofs.ReadyLaws.{heard-entering}
+use Rattle.buffer.proofs.ReadyLaws.{low-entering}
 use Rattle.buffer.proofs.OriginLaws.{origin-none, origin-some}
-use Rattle.buffer.proofs.HoldsLaws.{Onward, lane-onward, lane-then, lane-now}
+use Rattle.buffer.proofs.HoldsLaws.{Onward, lane-onward, lane-then, lane-now, lane-as}
 use Rattle.channel_fields.proofs.LaneWrites.{lane-kept}
 use Rattle.channel_fields.specs.Raised.{lowTo}
 use Rattle.channel_fields.proofs.RaisedLaws.{raise-fed, raise-unplaced, raise-placed}
 use Rattle.trim.specs.Trimmed.{raisedOn}
-
-pub table-kept : {s t u : List ℕ} → planOf t ≡ planOf s → Table s u → Table t u
-table-kept e k = record {
-  long = k .long;
-  joins = λ q n h i. rw e (k .joins q n h i);
-  counts = λ n h. rw e (k .counts n h);
-}
-
--- A change that does the same to this lane.
-pub lane-as : {s t : List ℕ} {b : ℕ} {f g : Lane → Lane} → f (laneAt (lineOf s) b) ≡ g (laneAt (lineOf s) b) → LaneNow s b f t → LaneNow s b g t
-lane-as {s} {t} {b} e now = record { holds = subst (λ (x : Lane). Holds t (withLane b x (lineOf s))) e (now .holds); on = now .on }
 
 -- ---- by one entry
 
@@ -74,24 +58,24 @@ module _ (s : List ℕ) (b : ℕ) (at : AtLane s b) where
   abbrev q : ℕ
   q = channelAt (planOf s) b .sender
 
-  abbrev pub raisedBy : Origin → Origin → Lane → Lane
-  raisedBy o before x = withLow (lowBy (parents (lineOf s .plan) (senderOf (lineOf s) b)) (senderOf (lineOf s) b) o before (x .low)) x
+  abbrev pub byEntry : Origin → Origin → Lane → Lane
+  byEntry o before x = withLow (lowBy (parents (lineOf s .plan) (senderOf (lineOf s) b)) (senderOf (lineOf s) b) o before (x .low)) x
 
   pub low-counted : length (on .low) ≡ suc (length (entering (planOf s) q))
-  low-counted = low-long s (at .holds .ready .fits) b (at .below) ∙ ap suc (sym (heard-entering s b (record { ready = at .holds .ready; below = at .below })))
+  low-counted = low-entering s b (record { ready = at .holds .ready; below = at .below })
 
   low-is : (o before : Origin) → lowBy (parents (lineOf s .plan) (senderOf (lineOf s) b)) (senderOf (lineOf s) b) o before (on .low) ≡ lowBy (map (λ (c : ℕ). channelAt (planOf s) c .sender) (entering (planOf s) q)) q o before (on .low)
   unfolding parents
   low-is o before = ap (λ (p : Plan). lowBy (parents p (channelAt p b .sender)) (channelAt p b .sender) o before (on .low)) (line-plan s)
 
   module _ (from time : ℕ) where
-    pub raised-other : (before : Origin) → from ≢ q + 1 → on ≡ raisedBy (originFrom from time) before on
+    pub raised-other : (before : Origin) → from ≢ q + 1 → on ≡ byEntry (originFrom from time) before on
     raised-other before h = ap (λ (ks : List ℕ). withLow ks on) (sym (low-is (originFrom from time) before ∙ other-low (map (λ (c : ℕ). channelAt (planOf s) c .sender) (entering (planOf s) q)) q from time before (on .low) h))
 
     module _ (own : from ≡ q + 1) where
       -- The sender's entry is raised, and the rest as what it was made from says.
       raised-own : (before : Origin) (ks : List ℕ) → raiseHeard (map (λ (c : ℕ). channelAt (planOf s) c .sender) (entering (planOf s) q)) (drop 1 (on .low)) before ≡ ks
-          → withLow (max (getD (on .low) 0 0) time ∷ ks) on ≡ raisedBy (originFrom from time) before on
+          → withLow (max (getD (on .low) 0 0) time ∷ ks) on ≡ byEntry (originFrom from time) before on
       raised-own before ks e =
           ap (λ (xs : List ℕ). withLow xs on)
           (sym (low-is (originFrom from time) before ∙ own-low (map (λ (c : ℕ). channelAt (planOf s) c .sender) (entering (planOf s) q)) q from time before (on .low) own (omega (arith, low-counted))
@@ -101,15 +85,15 @@ module _ (s : List ℕ) (b : ℕ) (at : AtLane s b) where
       first-raised = ap (λ (xs : List ℕ). withLow xs on) (set-first (on .low) (max (getD (on .low) 0 0) time) (omega (arith, low-counted)))
 
       module _ (named sent : ℕ) where
-        pub raised-fed : named ≡ 0 → lowTo 0 time on ≡ raisedBy (originFrom from time) (originFrom named sent) on
+        pub raised-fed : named ≡ 0 → lowTo 0 time on ≡ byEntry (originFrom from time) (originFrom named sent) on
         raised-fed e = first-raised ∙ raised-own (originFrom named sent) (drop 1 (on .low)) (rw (origin-none sent named e) (raise-fed (map (λ (c : ℕ). channelAt (planOf s) c .sender) (entering (planOf s) q)) (drop 1 (on .low))))
 
         module _ (some-name : named ≢ 0) where
-          pub raised-unplaced : placeFrom (planOf s) (named - 1) 0 (entering (planOf s) q) ≡ none → lowTo 0 time on ≡ raisedBy (originFrom from time) (originFrom named sent) on
+          pub raised-unplaced : placeFrom (planOf s) (named - 1) 0 (entering (planOf s) q) ≡ none → lowTo 0 time on ≡ byEntry (originFrom from time) (originFrom named sent) on
           raised-unplaced e =
               first-raised ∙ raised-own (originFrom named sent) (drop 1 (on .low)) (rw (origin-some sent named some-name) (raise-unplaced (planOf s) (named - 1) sent 0 (entering (planOf s) q) (drop 1 (on .low)) e))
 
-          pub raised-placed : (i : ℕ) → placeFrom (planOf s) (named - 1) 0 (entering (planOf s) q) ≡ some i → lowTo (1 + i) sent (lowTo 0 time on) ≡ raisedBy (originFrom from time) (originFrom named sent) on
+          pub raised-placed : (i : ℕ) → placeFrom (planOf s) (named - 1) 0 (entering (planOf s) q) ≡ some i → lowTo (1 + i) sent (lowTo 0 time on) ≡ byEntry (originFrom from time) (originFrom named sent) on
           raised-placed i e =
               let ordered = ordered-channels (planOf s) (fitting (planOf s) (at .holds .ready .fits) .channels) in
               let (j, is, raises) = raise-placed (planOf s) (named - 1) sent 0 i (drop 1 (on .low)) (entering-apart (planOf s) ordered q) (length-drop 1 (on .low) ∙ omega (arith, low-counted)) e in
@@ -143,7 +127,7 @@ module _ (s : List ℕ) (n b : ℕ) (at : AtLane s b) where
   raise-start = lane-now (raisedOn l n 0 b) at (lane-kept s b at (raisedOn l n 0 b (laneAt l b)) refl)
 
   pub raise-turn : (i : ℕ) (t : List ℕ) (now : LaneNow s b (raisedOn (lineOf s) n i b) t) → i < length (nodeAt (lineOf s) n .log) → (e : Entry) → e ≡ getD (nodeAt (lineOf t) n .log) i noEntry
-      → (u : List ℕ) → LaneNow t b (raisedBy t b (now .on) (e .origin) (e .before)) u → LaneNow s b (raisedOn (lineOf s) n (i + 1) b) u
+      → (u : List ℕ) → LaneNow t b (byEntry t b (now .on) (e .origin) (e .before)) u → LaneNow s b (raisedOn (lineOf s) n (i + 1) b) u
   unfolding raisedOn lowRaised
   raise-turn i t now h e is u then =
       let log = nodeAt l n .log in
@@ -172,12 +156,7 @@ module _ (s : List ℕ) (n count : ℕ) where
   left-start at left e small =
       record {
         channels = entering (planOf s) n;
-        rest = record {
-          rise = entering-rise (planOf s) n;
-          is = e ∙ mask-few s (at .holds .ready .channels) (entering (planOf s) n);
-          small = small;
-          inside = λ b i. omega (arith, entering-in (planOf s) n b i .0, channel-count s);
-        };
+        rest = left-entering s n left (at .holds .ready) e small;
         onward = record { holds = at .holds; plan = refl; nodes = refl; channels = refl };
         node = refl;
         whole = ap (λ (p : Plan). withLanes raises (entering p n) (lineOf s)) (sym (line-plan s));

@@ -10,19 +10,13 @@ use Rattle.rules.specs.Line.{Entry, Node, Lane, Line, nodeAt, laneAt, senderOf,
 use Rattle.rules.specs.Frame.{trim}
 use Rattle.rules.specs.Trim.{droppable, leading, behind, lowRaised, withLog, trimmedLine}
 use Rattle.rules.specs.Step.{effect}
-use Rattle.rules.proofs.line.LanesLaws.{lanes-node, lanes-plan}
+use Rattle.rules.proofs.line.LanesLaws.{lanes-node, lanes-first, lanes-plan}
 use Rattle.state.specs.State.{lineOf}
 use Rattle.buffer.specs.Holds.{Holds, AtNode, NodeNow, Undamaged, Did}
 use Rattle.buffer.proofs.HoldsLaws.{holds-nodes, onward, onward-node, node-same, lane-same}
 use Rattle.trim.specs.Trimmed.{trimAnswer, raisedOn}
 use Rattle.trim.proofs.AnswerLaws.{trim-number, trim-inside}
 use Rattle.trim.proofs.RunLaws.{leading-front, behind-rest}
-
--- The channels before the node, or behind it.
-lanes-first : (f : ℕ → Lane → Lane) (bs : List ℕ) (n : ℕ) (x : Node) (l : Line) → withNode n x (withLanes f bs l) ≡ withLanes f bs (withNode n x l)
-unfolding withNode withLane
-lanes-first f [] n x l = refl
-lanes-first f (b ∷ bs) n x l = lanes-first f bs n x (withLane b (f b (laneAt l b)) l)
 
 -- Channels that stay as they are.
 lanes-left : (f : ℕ → Lane → Lane) → ((b : ℕ) (x : Lane) → f b x ≡ x) → (bs : List ℕ) (l : Line) → withLanes f bs l ≡ l

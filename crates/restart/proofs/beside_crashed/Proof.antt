@@ -4,7 +4,7 @@ use mathlib.Core.Bool.{_||_}
 use native.Mathlib.Omega.{arith}
 use Rattle.plan.specs.Plan.{planChannels, channelCount}
 use Rattle.state.specs.State.{lineOf}
-use Rattle.restart.proofs.StateLaws.{line-channels}
+use Rattle.buffer.proofs.ReadyLaws.{line-channels}
 use Rattle.restart.proofs.BesideLaws.{besideTo, beside-turn, beside-whole}
 use Rattle.restart.proofs.beside_crashed.Statement.{statement}
 use Rattle.restart.proofs.beside_crashed.Tie as tie

@@ -6,7 +6,7 @@ use Rattle.plan.specs.Plan.{Plan, channelCount}
 use Rattle.state.specs.State.{lineOf}
 use Rattle.buffer.specs.Holds.{LaneNow}
 use Rattle.restart.specs.Lanes.{crashedOn}
-use Rattle.restart.proofs.StateLaws.{line-channels}
+use Rattle.buffer.proofs.ReadyLaws.{line-channels}
 use Rattle.restart.proofs.SweepLaws.{SweptIn, swept-start, swept-on, swept-plan-in, swept-turn, swept-end}
 use Rattle.restart.proofs.crash_channels.Statement.{statement}
 use Rattle.restart.proofs.crash_channels.Tie as tie

@@ -5,7 +5,7 @@ use borrow.Author.Needs.{needs}
 use borrow.Author.Tests.{le-leb, lt-leb}
 use Rattle.plan.specs.Plan.{nodeCount}
 use Rattle.state.specs.State.{lineOf}
-use Rattle.restart.proofs.StateLaws.{line-nodes}
+use Rattle.buffer.proofs.ReadyLaws.{line-nodes}
 use Rattle.restart.proofs.AnswerLaws.{first-here, first-past}
 use Rattle.restart.proofs.recover_refusal.Statement.{statement}
 use Rattle.restart.proofs.recover_refusal.Tie as tie

@@ -7,7 +7,8 @@ use Rattle.rules.specs.Lists.{anyOf, upTo}
 use Rattle.rules.specs.Line.{nodeAt, isUp}
 use Rattle.rules.specs.Step.{notAllUp}
 use Rattle.state.specs.State.{lineOf}
-use Rattle.trim.proofs.AnswerLaws.{line-nodes, stoppedFrom, stopped-turn, stopped-end}
+use Rattle.buffer.proofs.ReadyLaws.{line-nodes}
+use Rattle.trim.proofs.AnswerLaws.{stoppedFrom, stopped-turn, stopped-end}
 use Rattle.trim.proofs.not_all_up.Statement.{statement}
 use Rattle.trim.proofs.not_all_up.Tie as tie
 

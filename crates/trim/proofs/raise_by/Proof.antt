@@ -8,12 +8,12 @@ use Rattle.plan.specs.Plan.{planOf, channelAt}
 use Rattle.rules.specs.Line.{Lane, laneAt}
 use Rattle.state.specs.State.{lineOf}
 use Rattle.slots.specs.Slots.{originIs}
-use Rattle.buffer.proofs.HoldsLaws.{lane-now, lane-then, lane-after}
+use Rattle.buffer.proofs.HoldsLaws.{lane-now, lane-then, lane-after, lane-as}
 use Rattle.buffer.proofs.ReadyLaws.{sender-inside}
-use Rattle.buffer.proofs.TableLaws.{coded, not-placed}
+use Rattle.buffer.proofs.TableLaws.{coded, not-placed, table-kept}
 use Rattle.channel_fields.specs.Raised.{lowTo}
 use Rattle.channel_fields.proofs.LaneWrites.{lane-kept}
-use Rattle.trim.proofs.RaiseLaws.{table-kept, lane-as, raisedBy, low-counted, later, raised-other, raised-fed, raised-unplaced, raised-placed}
+use Rattle.trim.proofs.RaiseLaws.{byEntry, low-counted, later, raised-other, raised-fed, raised-unplaced, raised-placed}
 use Rattle.trim.proofs.raise_by.Statement.{statement}
 use Rattle.trim.proofs.raise_by.Tie as tie
 
@@ -29,7 +29,7 @@ returns c =
     let a = first .args in
     let at = first .pre .0 in
     let other : a .e .made .from ≢ channelAt (planOf (a .s .now)) (a .b) .sender + 1 = λ e. c .if1 .taken (omega (arith, c .before .index .ensures .0, first .pre .2)) in
-    let raised = raisedBy (a .s .now) (a .b) at (originIs (a .e .made)) (originIs (a .e .before)) in
+    let raised = byEntry (a .s .now) (a .b) at (originIs (a .e .made)) (originIs (a .e .before)) in
     lane-now raised at (lane-kept (a .s .now) (a .b) at (raised (laneAt (lineOf (a .s .now)) (a .b))) (sym (raised-other (a .s .now) (a .b) at (a .e .made .from) (a .e .made .time) (originIs (a .e .before)) other)))
 
 raise-low-clock-requires : tie.Need-raise-low-clock-requires

@@ -8,8 +8,9 @@ use Rattle.state.specs.State.{lineOf}
 use Rattle.slots.specs.Slots.{entryIs}
 use Rattle.buffer.specs.Holds.{LaneNow}
 use Rattle.buffer.proofs.HoldsLaws.{onward-node}
+use Rattle.buffer.proofs.TableLaws.{table-kept}
 use Rattle.trim.specs.Trimmed.{raisedOn}
-use Rattle.trim.proofs.RaiseLaws.{raise-start, raise-turn, later, node-later, table-kept}
+use Rattle.trim.proofs.RaiseLaws.{raise-start, raise-turn, later, node-later}
 use Rattle.trim.proofs.raise_channel.Statement.{statement}
 use Rattle.trim.proofs.raise_channel.Tie as tie
 

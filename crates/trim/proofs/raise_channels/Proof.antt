@@ -6,7 +6,8 @@ use Rattle.plan.specs.Plan.{planChannels}
 use Rattle.rules.specs.Line.{Node}
 use Rattle.buffer.proofs.HoldsLaws.{onward-node}
 use Rattle.buffer.proofs.MaskWalk.{next}
-use Rattle.trim.proofs.RaiseLaws.{table-kept, RaisedLeft, left-start, left-lane, left-turn, left-end}
+use Rattle.buffer.proofs.TableLaws.{table-kept}
+use Rattle.trim.proofs.RaiseLaws.{RaisedLeft, left-start, left-lane, left-turn, left-end}
 use Rattle.trim.proofs.raise_channels.Statement.{statement}
 use Rattle.trim.proofs.raise_channels.Tie as tie
 

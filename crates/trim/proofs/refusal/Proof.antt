@@ -3,7 +3,8 @@ use mathlib.Core.Bool.{true, false}
 use native.Mathlib.Omega.{arith}
 use borrow.Author.Needs.{needs}
 use Rattle.state.specs.State.{lineOf}
-use Rattle.trim.proofs.AnswerLaws.{line-nodes, none-such, not-now}
+use Rattle.buffer.proofs.ReadyLaws.{line-nodes}
+use Rattle.trim.proofs.AnswerLaws.{none-such, not-now}
 use Rattle.trim.proofs.refusal.Statement.{statement}
 use Rattle.trim.proofs.refusal.Tie as tie
 
