@@ -23,8 +23,8 @@ use floors::{kind, line, section, AFTER_ANOTHERS_LAST, IN_BOTH, PIECES, TRIM, WH
 /// Each has its share of the sheets.
 const WORKERS: usize = 2;
 
-const RIGHT: usize = 7_000;
-const SLIPPED: usize = 5_500;
+const RIGHT: usize = 8_000;
+const SLIPPED: usize = 6_000;
 const RAW: usize = 4_000;
 const LIMITS: usize = 200;
 const LONG: usize = 400;

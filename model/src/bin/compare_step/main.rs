@@ -15,10 +15,10 @@ use model::state::practice::staged;
 use floors::on;
 use run::Run;
 
-const RUNS: u64 = 560;
-const CHANGED_RUNS: u64 = 56;
+const RUNS: u64 = 600;
+const CHANGED_RUNS: u64 = 80;
 const LAST_RUNS: u64 = 200;
-const TORN: u64 = 18_000;
+const TORN: u64 = 20_000;
 
 fn main() {
     let mut run = Run::new();

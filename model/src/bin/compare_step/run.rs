@@ -16,7 +16,7 @@ use crate::floors::{self, on, section, with};
 use crate::states::States;
 
 /// How often each staged line's replays are played.
-const STAGED_RUNS: usize = 60;
+const STAGED_RUNS: usize = 100;
 /// How often wrong frames are drawn for a state.
 const WRONG: usize = 8;
 /// One call in so many is made from every caller, one with the plan in either
