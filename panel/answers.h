@@ -1,6 +1,6 @@
 /* The numbers that Load, Step, Check, Write, Placing and the check of a plan return: document 01, "Numbers returned",
-   and requests 2026-01 and 2026-04. A call returns the first that applies, in rising order; but 25 comes between 11
-   and 12, and 26 between 13 and 14. */
+   and requests 2026-01, 2026-04 and 2026-05. A call returns the first that applies, in rising order; but 25 comes
+   between 11 and 12, and 26 between 13 and 14. */
 #ifndef ANSWERS_H
 #define ANSWERS_H
 
@@ -22,7 +22,7 @@ enum {
     ANSWER_WRONG_PLACE = 14,       /* Feed not to an infeed; Crash or Recover of an infeed or outfeed */
     ANSWER_WRONG_STATUS = 15,      /* Crash of a down node; Send, Take with an end down; Recover of a node not down */
     ANSWER_CRASHED_NEIGHBOUR = 16, /* Crash of a node joined by a belt to one crashed earlier in the run */
-    ANSWER_WRONG_RECORD = 17,      /* material over 15, zero byte not 0 */
+    ANSWER_WRONG_RECORD = 17,      /* material over 15 and no tick, zero byte not 0 */
     ANSWER_NOTHING_THERE = 18,     /* nothing to send or take */
     ANSWER_BELT_FULL = 19,         /* belt holds 8 */
     ANSWER_ROW_COMPLETE = 20,      /* Take on a complete row while replaying */

@@ -19,7 +19,8 @@
 /* The size of a state, in bytes (docs/LAYOUT.md). */
 #define LINE_STATE_SIZE 61440
 
-/* A frame of version 1 is its length (2 bytes), 1, kind, node or belt number; a Feed adds a record of 8 bytes.
+/* A frame of version 1 is its length (2 bytes), 1, kind, node or belt number; a Feed adds a record of 8 bytes:
+   piece (4), material 0 to 15, 0, mass (2), or a tick (request 2026-05), which is 0 but for its material, 255.
    A frame of version 2 has 2 for that 1 and is one byte longer: after the kind comes the console, 0 to 3. Version 1 is
    console 0.
    So a Feed is 13 bytes in version 1 and 14 in version 2, any other kind 5 and 6. */

@@ -1,5 +1,5 @@
-//! Document 01, "The line", and request 2026-02: the plan, read and written by
-//! one layout, and which channel takes a record.
+//! Document 01, "The line", and requests 2026-02 and 2026-05: the plan, read and
+//! written by one layout, and which channel takes a record.
 
 pub mod practice;
 
@@ -129,10 +129,13 @@ impl Channel {
 
     /// "A belt takes a record if mask bit `material` (bit 0 lowest) is set and
     /// piece mod modulus = remainder, tested after the node's rule", and "the
-    /// test gains this window". The record is one that the rule has been applied
-    /// to.
+    /// test gains this window". Of a tick: "every belt takes it". The record is one
+    /// that the rule has been applied to.
     #[inline]
     pub fn takes(&self, record: &Record) -> bool {
+        if record.is_tick() {
+            return true;
+        }
         let wanted = 1 << record.material;
         self.mask & wanted != 0
             && self.window.has(record.mass)
@@ -462,5 +465,36 @@ mod tests {
         assert!(takes(2, 0, 50) && takes(2, 0, 100));
         assert!(!takes(2, 0, 49) && !takes(2, 0, 101));
         assert!(!takes(2, 0, 0) && !takes(2, 0, 65535));
+    }
+
+    /// Neither mask nor modulus nor window is asked of a tick.
+    #[test]
+    fn tick_taken_by_all() {
+        let open = Channel::between(0, 1);
+        let masked = |mask| Channel { mask, ..open };
+        let other_remainder = Channel {
+            modulus: 255,
+            remainder: 254,
+            ..open
+        };
+        let heavy = Channel {
+            window: Window {
+                least: 1,
+                greatest: 65535,
+            },
+            ..open
+        };
+        for channel in [masked(1), masked(0x7FFF), other_remainder, heavy] {
+            assert!(channel.takes(&Record::TICK), "{channel:?}");
+        }
+        // What is no tick is asked.
+        let none = Record {
+            material: 15,
+            ..Record::TICK
+        };
+        assert!(open.takes(&none) && masked(0x8000).takes(&none));
+        for channel in [masked(0x7FFF), other_remainder, heavy] {
+            assert!(!channel.takes(&none), "{channel:?}");
+        }
     }
 }

@@ -1,4 +1,4 @@
-//! Document 01, "The line": a record and its 8 bytes.
+//! Document 01, "The line", and request 2026-05: a record and its 8 bytes.
 
 /// "Material 0..15."
 pub const MATERIALS: u8 = 16;
@@ -13,6 +13,14 @@ pub struct Record {
 
 impl Record {
     pub const LENGTH: usize = 8;
+
+    /// "A record with material 255, piece 0 and mass 0 is a tick." No rule names its
+    /// material or caps its mass: "every rule leaves it as it is".
+    pub const TICK: Record = Record {
+        piece: 0,
+        material: 255,
+        mass: 0,
+    };
 
     /// "A record is 8 bytes: piece number (4), material 0..15, a zero byte,
     /// mass in tenths of a gram (2)."
@@ -32,8 +40,15 @@ impl Record {
         [first, second, third, fourth, self.material, 0, high, low]
     }
 
+    /// "Refusal 17 and the state check let this one record through."
+    #[inline]
     pub fn is_sound(&self) -> bool {
-        self.material < MATERIALS
+        self.material < MATERIALS || self.is_tick()
+    }
+
+    #[inline]
+    pub fn is_tick(&self) -> bool {
+        self.material == Record::TICK.material && *self == Record::TICK
     }
 }
 
@@ -51,5 +66,36 @@ mod tests {
         assert_eq!(record.write(), bytes);
         assert_eq!(Record::read([0, 0, 0, 0, 16, 0, 0, 0]), None);
         assert_eq!(Record::read([0, 0, 0, 0, 15, 1, 0, 0]), None);
+    }
+
+    #[test]
+    fn tick() {
+        let bytes = [0, 0, 0, 0, 255, 0, 0, 0];
+        let tick = Record::read(bytes).unwrap();
+        assert_eq!((tick.piece, tick.material, tick.mass), (0, 255, 0));
+        assert!(tick.is_tick() && tick.is_sound());
+        assert_eq!(tick, Record::TICK);
+        assert_eq!(tick.write(), bytes);
+        for (at, byte) in [
+            (0, 1),
+            (3, 1),
+            (3, 255),
+            (4, 16),
+            (4, 127),
+            (4, 254),
+            (5, 1),
+            (5, 255),
+            (6, 1),
+            (7, 1),
+        ] {
+            let mut almost = bytes;
+            almost[at] = byte;
+            assert_eq!(Record::read(almost), None, "{almost:?}");
+        }
+        // Piece 0 and mass 0 of a material are no tick.
+        for material in [0, 15] {
+            let record = Record::read([0, 0, 0, 0, material, 0, 0, 0]).unwrap();
+            assert!(!record.is_tick());
+        }
     }
 }

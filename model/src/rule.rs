@@ -99,4 +99,15 @@ mod tests {
         assert_eq!(Rule::Cap { greatest: 99 }.apply(record).mass, 99);
         assert_eq!(Rule::Cap { greatest: 100 }.apply(record), record);
     }
+
+    /// Of a tick: "every rule leaves it as it is".
+    #[test]
+    fn applied_to_a_tick() {
+        let pairs = (0..16).flat_map(|from| (0..16).map(move |to| (from, to)));
+        let relabels = pairs.map(|(from, to)| Rule::Relabel { from, to });
+        let caps = (1..=u16::MAX).map(|greatest| Rule::Cap { greatest });
+        for rule in [Rule::Keep].into_iter().chain(relabels).chain(caps) {
+            assert_eq!(rule.apply(Record::TICK), Record::TICK, "{rule:?}");
+        }
+    }
 }

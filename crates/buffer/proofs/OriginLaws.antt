@@ -12,7 +12,7 @@ use lib.ListN.{length, getD, take, drop, length-map}
 use Rattle.plan.specs.Lawful.{Bytes}
 use Rattle.plan.specs.Layout.{spelled}
 use Rattle.plan.specs.Plan.{Plan, planOf, planChannels, channelAt, entering, isSource}
-use Rattle.plan.specs.Record.{recordFits}
+use Rattle.plan.specs.Record.{recordOf, recordFields, recordLayout, knownRecord, recordFits}
 use Rattle.plan.proofs.NumberLaws.{spelled-below}
 use Rattle.plan.proofs.PlanLaws.{channel-count}
 use Rattle.plan.proofs.ReadLaws.{byte-field}
@@ -47,17 +47,18 @@ record-in a s =
     record-read (take 8 (drop a s))
     ∙ (λ i. record { piece = spelled 0 (take-take 4 8 (drop a s) (lit≤ tt) i); material = byte-part 4 8 a s (omega arith) i; mass = spelled 0 (part-part 2 6 8 a s (omega arith) i) })
 
-record-right : (a : ℕ) (s : List ℕ) → Bytes s → a + 8 ≤ length s → recordRight (recordIn a s) ≡ leb (getD s (a + 4) 0) 15
+record-right : (a : ℕ) (s : List ℕ) → Bytes s → a + 8 ≤ length s → recordRight (recordIn a s) ≡ knownRecord (recordIn a s)
 record-right a s h l =
     ap recordRight (record-in a s)
     ∙ rw (lt-ltb (wordAt a s) 4294967296 (word-small 4 a s h (omega arith)), lt-ltb (spelled 0 (take 2 (drop (a + 6) s))) 65536 (word-small 2 (a + 6) s h (omega arith)), and-true, and-true)
+    (ap knownRecord (sym (record-in a s)))
 
 pub record-tested : (a : ℕ) (s : List ℕ) → Bytes s → a + 8 ≤ length s → recordFits (take 8 (drop a s)) ≡ (recordExact a s && recordRight (recordIn a s))
-unfolding recordFits
+unfolding recordFits recordLayout
 record-tested a s h l =
     let b : List ℕ = take 8 (drop a s) in
-    rw (drop-drop 1 4 b, byte-field 4 b, byte-field 5 b, byte-part 4 8 a s (omega arith), byte-part 5 8 a s (omega arith))
-    (and-comm (leb (getD s (a + 4) 0) 15) (eqb (getD s (a + 5) 0) 0) ∙ ap (λ (t : Bool). recordExact a s && t) (sym (record-right a s h l)))
+    let zero : eqb (getD (recordFields .read b) 2 0) 0 ≡ recordExact a s = rw (drop-drop 1 4 b, byte-field 5 b, byte-part 5 8 a s (omega arith)) in
+    ap (λ (t : Bool). knownRecord (recordOf (recordFields .read b)) && t) zero ∙ and-comm (knownRecord (recordIn a s)) (recordExact a s) ∙ ap (λ (t : Bool). recordExact a s && t) (sym (record-right a s h l))
 
 -- ---- what an input was made from
 

@@ -17,13 +17,16 @@ use crate::layout;
 use crate::record;
 use crate::table;
 
-// Whether eight bytes are a record's: its material and its zero byte.
+// Whether eight bytes are a record's: one of those that there are, and its zero byte.
 pub fn record_ok(s: &[u8], at: usize) -> bool
     requires { ⌜ at + 8 ≤ length (now s) ⌝ }
     ensures { λ r. ⌜ r ≡ (recordExact at (now (s .entry)) && recordRight (recordIn at (now (s .entry)))) ⌝ }
 {
     let number = bytes::get64(s, at);
-    (record::material_of(number) <= 15) & (record::zero_of(number) == 0)
+    let piece = record::piece_of(number);
+    let material = record::material_of(number);
+    let mass = record::mass_of(number);
+    plan::records::known(piece, material, mass) & (record::zero_of(number) == 0)
 }
 
 // What an input was made from that came on channel b from a sender.

@@ -11,7 +11,7 @@ use lib.ListN.{length, getD, take, drop}
 use lib.Seq.{drop-drop}
 use Rattle.basics.specs.Bools.{both-true, neither-true}
 use Rattle.plan.specs.Layout.{spelled}
-use Rattle.plan.specs.Record.{recordWidths, recordOf, recordLayout, recordFits, materialFits}
+use Rattle.plan.specs.Record.{recordWidths, recordOf, recordLayout, recordFits, knownRecord}
 use Rattle.plan.proofs.LayoutLaws.{fields-front}
 use Rattle.rules.specs.Line.{consoleCount, Line}
 use Rattle.rules.specs.Frame.{frameHead, frameNumber, frameVersion, frameKind, consoleBytes, frameConsole, frameOfKind, frameOf, badFrameLength, badFrameVersion, badKind, badConsole, frameRefusal}
@@ -46,7 +46,7 @@ record-front s = ap recordOf (sym (fields-front recordWidths s))
 
 pub fits-front : (s : List ℕ) → recordFits s ≡ recordFits (take 8 s)
 unfolding recordFits
-fits-front s = ap (λ (ns : List ℕ). materialFits (getD ns 1 0) && eqb (getD ns 2 0) 0) (sym (fields-front recordWidths s))
+fits-front s = ap (λ (ns : List ℕ). knownRecord (recordOf ns) && eqb (getD ns 2 0) 0) (sym (fields-front recordWidths s))
 
 -- ---- refusals
 

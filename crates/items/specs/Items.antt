@@ -6,7 +6,7 @@ use mathlib.Core.Option.{Option, none, some}
 use lib.ListN.{length, getD, set, replicate}
 use lib.Dec.{leb, ltb, eqb}
 use Rattle.plan.specs.declared.Record.{Record}
-use Rattle.plan.specs.Record.{materialFits}
+use Rattle.plan.specs.Record.{knownRecord}
 use Rattle.plan.specs.Plan.{Plan, nodeCount, channelCount, channelAt, entering, isSource}
 use Rattle.plan.specs.Check.{planFits}
 use Rattle.rules.specs.Lists.{isEmpty, allOf}
@@ -33,7 +33,7 @@ abbrev pub timeRight : ℕ → ℕ → Bool
 timeRight steps t = ltb 0 t && leb t steps
 
 abbrev pub recordRight : Record → Bool
-recordRight r = materialFits (r .material) && ltb (r .piece) (2 ^ 32) && ltb (r .mass) (2 ^ 16)
+recordRight r = knownRecord r && ltb (r .piece) (2 ^ 32) && ltb (r .mass) (2 ^ 16)
 
 -- What node s made something from, by its parents alone.
 unfoldable pub namedRight : Line → ℕ → Origin → Bool

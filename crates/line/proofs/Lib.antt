@@ -16,3 +16,5 @@ pub mod ConsoleRun
 pub mod VersionRun
 -- Trims change nothing that anybody receives, and make space, on bytes.
 pub mod TrimRun
+-- Floor times rise after ticks, on bytes.
+pub mod TickRun

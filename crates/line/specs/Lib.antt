@@ -5,6 +5,7 @@ pub mod Restart
 pub mod Console
 pub mod Versions
 pub mod Trimming
+pub mod Ticks
 pub mod Step
 pub mod Whole
 pub mod Write

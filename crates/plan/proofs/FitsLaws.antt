@@ -55,6 +55,12 @@ fitting p e =
     let k = counts-within n m (f .1) in
     record { version = f .0; nodesLeast = k .0; nodesMost = k .1; channelsLeast = k .2; channelsMost = k .3; rules = d .1; spelled = c .1; channels = b .1; degrees = a .1 }
 
+-- Each of its rules is allowed.
+pub rule-allowed : (rules : List Rule) (n : ℕ) → rulesAllowed rules ≡ true → ruleAllowed (getD rules n Keep) ≡ true
+rule-allowed [] n e = refl
+rule-allowed (r ∷ rules) zero e = both-true (ruleAllowed r) (rulesAllowed rules) e .0
+rule-allowed (r ∷ rules) (suc n) e = rule-allowed rules n (both-true (ruleAllowed r) (rulesAllowed rules) e .1)
+
 pub fits : (p : Plan) → Fitting p → planFits p ≡ true
 unfolding planFits
 fits p f =

@@ -13,3 +13,4 @@ pub mod DegreeLaws
 pub mod TakingLaws
 pub mod FitsLaws
 pub mod VersionLaws
+pub mod TickLaws

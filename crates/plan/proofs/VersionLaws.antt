@@ -18,7 +18,7 @@ use Rattle.basics.specs.Bools.{both-true}
 
 pub takes-any-mass : TakesAnyMass
 unfolding takes
-takes-any-mass c r (least, greatest) h = rw (least, greatest, le-leb 0 (r .mass) (omega arith), le-leb (r .mass) 65535 h, and-true)
+takes-any-mass c r (least, greatest) none h = rw (none, least, greatest, le-leb 0 (r .mass) (omega arith), le-leb (r .mass) 65535 h, and-true)
 
 -- Check 7 goes by no version.
 degrees-alike : (v : ℕ) (p : Plan) (n : ℕ) → fourAtMost (asVersion v p) n ≡ fourAtMost p n

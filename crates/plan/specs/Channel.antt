@@ -5,6 +5,7 @@ use mathlib.Core.List.{List, [], _∷_}
 use lib.ListN.{getD}
 use lib.Dec.{leb, ltb, eqb}
 use Rattle.plan.specs.declared.Record.{Record}
+use Rattle.plan.specs.Record.{isTick}
 use Rattle.plan.specs.declared.Channel.{Channel}
 use Rattle.plan.specs.Layout.{Layout, fields, via}
 
@@ -16,10 +17,10 @@ bitSet mask i = eqb (mask / (2 ^ i) % 2) 1
 abbrev pub inWindow : Channel → ℕ → Bool
 inWindow c mass = leb (c .least) mass && leb mass (c .greatest)
 
--- "A belt takes a record if mask bit `material` (bit 0 lowest) is set and piece mod modulus = remainder"; 2026-02: "The test of whether a belt takes a record gains this window". The record is one that the sender's rule has been applied to.
+-- "A belt takes a record if mask bit `material` (bit 0 lowest) is set and piece mod modulus = remainder"; 2026-02: "The test of whether a belt takes a record gains this window". The record is one that the sender's rule has been applied to. 2026-05, of a tick: "every belt takes it".
 unfoldable pub takes : Channel → Record → Bool
 unfolding bitSet
-takes c r = bitSet (c .mask) (r .material) && eqb (r .piece % c .modulus) (c .remainder) && inWindow c (r .mass)
+takes c r = isTick r || (bitSet (c .mask) (r .material) && eqb (r .piece % c .modulus) (c .remainder) && inWindow c (r .mass))
 
 -- 2026-02: "A plan of version 2 gives each belt" numbers "after the remainder"; in another version there are none.
 abbrev pub hasWindows : ℕ → Bool

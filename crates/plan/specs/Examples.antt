@@ -178,6 +178,11 @@ records-fit : map recordFits ((0 ∷ 0 ∷ 0 ∷ 1 ∷ 15 ∷ 0 ∷ 0 ∷ 0 ∷ 
 unfolding recordFits
 records-fit = refl
 
+-- 2026-05: a tick; piece 1, mass 1, material 254, and a zero byte that is not 0
+ticks-fit : map recordFits ((0 ∷ 0 ∷ 0 ∷ 0 ∷ 255 ∷ 0 ∷ 0 ∷ 0 ∷ []) ∷ (0 ∷ 0 ∷ 0 ∷ 1 ∷ 255 ∷ 0 ∷ 0 ∷ 0 ∷ []) ∷ (0 ∷ 0 ∷ 0 ∷ 0 ∷ 255 ∷ 0 ∷ 0 ∷ 1 ∷ []) ∷ (0 ∷ 0 ∷ 0 ∷ 0 ∷ 254 ∷ 0 ∷ 0 ∷ 0 ∷ []) ∷ (0 ∷ 0 ∷ 0 ∷ 0 ∷ 255 ∷ 1 ∷ 0 ∷ 0 ∷ []) ∷ []) ≡ true ∷ false ∷ false ∷ false ∷ false ∷ []
+unfolding recordFits
+ticks-fit = refl
+
 -- "material p becomes q", "a mass above q becomes q": piece 9 of some material and mass
 abbrev recordOf : ℕ → ℕ → Record
 recordOf material mass = record { piece = 9; material = material; mass = mass }
@@ -205,6 +210,11 @@ window-takes = refl
 capped-into : map (λ (m : ℕ). takes (channelFor 50 60) (applied (Cap 50) (recordOf 0 m))) (49 ∷ 50 ∷ 61 ∷ []) ≡ false ∷ true ∷ true ∷ []
 unfolding takes
 capped-into = refl
+
+-- 2026-05: neither mask nor modulus nor window is asked of a tick
+tick-takes : map (λ (c : Channel). takes c (record { piece = 0; material = 255; mass = 0 })) (channelOf 1 1 0 ∷ channelOf 2 4 3 ∷ channelFor 50 60 ∷ []) ≡ true ∷ true ∷ true ∷ []
+unfolding takes
+tick-takes = refl
 
 -- The bytes of version 2 with the same rules and channels: four behind each remainder.
 in-version-two : inVersionTwo spelledPlan ≡ plan 2 3 1 (keeps 1 ++ (1 ∷ 2 ∷ 0 ∷ 3 ∷ 2 ∷ 0 ∷ 1 ∷ 4 ∷ 0 ∷ 2 ∷ 1 ∷ 5 ∷ 7 ∷ 6 ∷ 0 ∷ 0 ∷ 255 ∷ 255 ∷ []))

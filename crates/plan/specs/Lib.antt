@@ -8,6 +8,7 @@ pub mod Plan
 pub mod Mask
 pub mod Narrow
 pub mod Check
+pub mod Ticks
 pub mod Degrees
 pub mod Fits
 pub mod Versions

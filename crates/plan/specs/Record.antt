@@ -1,6 +1,6 @@
--- A record and its eight bytes (document 01, "The line").
+-- A record and its eight bytes (document 01, "The line"; document 02, 2026-05).
 use Prim.Native.Nat.{ℕ}
-use mathlib.Core.Bool.{Bool, _&&_}
+use mathlib.Core.Bool.{Bool, _&&_, _||_}
 use mathlib.Core.List.{List, [], _∷_}
 use lib.ListN.{getD}
 use lib.Dec.{leb, eqb}
@@ -29,7 +29,15 @@ recordLayout = via recordFields recordNumbers recordOf
 abbrev pub materialFits : ℕ → Bool
 materialFits m = leb m 15
 
--- Eight bytes that are a record: the material, and the zero byte.
+-- 2026-05: "A record with material 255, piece 0 and mass 0 is a tick".
+abbrev pub isTick : Record → Bool
+isTick r = eqb (r .material) 255 && eqb (r .piece) 0 && eqb (r .mass) 0
+
+-- "Refusal 17 and the state check let this one record through."
+abbrev pub knownRecord : Record → Bool
+knownRecord r = materialFits (r .material) || isTick r
+
+-- Eight bytes that are a record: the material or a tick, and the zero byte.
 unfoldable pub recordFits : List ℕ → Bool
 unfolding recordFields
-recordFits s = materialFits (getD (recordFields .read s) 1 0) && eqb (getD (recordFields .read s) 2 0) 0
+recordFits s = knownRecord (recordOf (recordFields .read s)) && eqb (getD (recordFields .read s) 2 0) 0

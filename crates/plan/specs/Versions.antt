@@ -1,12 +1,13 @@
 -- 2026-02: plans that differ in their version alone, and the plan of version 2 that reads as one of version 1 does.
 use Prim.Native.Nat.{ℕ, _%_, _≤_}
 use mathlib.Core.Path.{_≡_}
-use mathlib.Core.Bool.{_&&_}
+use mathlib.Core.Bool.{false, _&&_}
 use mathlib.Core.List.{List}
 use lib.Dec.{eqb}
 use Rattle.plan.specs.declared.Record.{Record}
 use Rattle.plan.specs.declared.Channel.{Channel}
 use Rattle.plan.specs.Lawful.{Each, Bytes}
+use Rattle.plan.specs.Record.{isTick}
 use Rattle.plan.specs.Channel.{bitSet, takes}
 use Rattle.plan.specs.Plan.{Plan, planOf, planBytes, planVersion}
 use Rattle.plan.specs.Check.{planRefusal}
@@ -27,9 +28,9 @@ inVersionTwo s = planBytes (asVersion 2 (planOf s))
 abbrev pub AnyMass : Channel → Type 0
 AnyMass c = (c .least ≡ 0) × (c .greatest ≡ 65_535)
 
--- Such a channel takes what document 01 says, whatever a record weighs.
+-- Such a channel takes what document 01 says, whatever a record weighs that is no tick (2026-05).
 abbrev pub TakesAnyMass : Type 0
-TakesAnyMass = (c : Channel) (r : Record) → AnyMass c → r .mass ≤ 65_535 → takes c r ≡ (bitSet (c .mask) (r .material) && eqb (r .piece % c .modulus) (c .remainder))
+TakesAnyMass = (c : Channel) (r : Record) → AnyMass c → isTick r ≡ false → r .mass ≤ 65_535 → takes c r ≡ (bitSet (c .mask) (r .material) && eqb (r .piece % c .modulus) (c .remainder))
 
 -- A plan of version 1 beside that of version 2: which is accepted too, and its windows are 0..65535.
 pub record Widened (s : List ℕ) : Type 0 where

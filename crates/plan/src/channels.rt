@@ -1,4 +1,4 @@
-// A channel: read in place, and whether it takes a record (document 01, "A belt takes a record if .."; its window of masses, document 02, 2026-02).
+// A channel: read in place, and whether it takes a record (document 01, "A belt takes a record if .."; its window of masses and ticks, document 02, 2026-02 and 2026-05).
 ghost use mathlib.Core.Path.{_≡_};
 ghost use mathlib.Core.Bool.{cond};
 ghost use Prim.Native.Nat.{_+_, _%_, _<_};
@@ -9,6 +9,7 @@ ghost use Rattle.plan.specs.Plan.{planOf, channelAt};
 use crate::Channel;
 use crate::Record;
 use crate::bytes;
+use crate::records;
 
 // Bit i of a mask, bit 0 lowest.
 fn bit_set(mask: u16, i: u8) -> bool
@@ -30,13 +31,14 @@ fn left_over(piece: u32, modulus: u8) -> u32
     piece % (modulus as u32)
 }
 
-// Whether a channel takes a record, by its fields: a record passed as one value is packed and unpacked again, which the check of held records would pay for.
+// Whether a channel takes a record, by its fields (records.rt says why).
 pub fn takes_fields(c: Channel, piece: u32, material: u8, mass: u16) -> bool
     ensures { λ t. ⌜ t ≡ takes c (record { piece = piece; material = material; mass = mass }) ⌝ }
 {
     let bit = bit_set(c.mask, material);
     let left = left_over(piece, c.modulus);
-    bit & (left == (c.remainder as u32)) & ((c.least <= mass) & (mass <= c.greatest))
+    let window = (c.least <= mass) & (mass <= c.greatest);
+    records::is_tick(piece, material, mass) | (bit & (left == (c.remainder as u32)) & window)
 }
 
 // Whether a channel takes a record.

@@ -7,6 +7,7 @@ pub mod channels;
 pub mod checks;
 pub mod masks;
 pub mod nodes;
+pub mod records;
 
 // A record: piece number, material, mass in tenths of a gram.
 pub struct Record {

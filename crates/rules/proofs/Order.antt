@@ -22,10 +22,10 @@ use Rattle.rules.proofs.theorem.StepInv.{Kept, kept-same, step-inv}
 use Rattle.rules.proofs.theorem.SteadyKept.{step-steady}
 
 -- What an accepted frame adds, and a refused one does not.
-if-accepted : {A : Type 0} (n : ℕ) (xs ys : List A) → n ≡ 0 → ys ++ ifZero n xs ≡ ys ++ xs
+pub if-accepted : {A : Type 0} (n : ℕ) (xs ys : List A) → n ≡ 0 → ys ++ ifZero n xs ≡ ys ++ xs
 if-accepted n xs ys e = ap (λ (k : ℕ). ys ++ ifZero k xs) e
 
-if-refused : {A : Type 0} (n : ℕ) (xs ys : List A) → n ≢ 0 → ys ++ ifZero n xs ≡ ys
+pub if-refused : {A : Type 0} (n : ℕ) (xs ys : List A) → n ≢ 0 → ys ++ ifZero n xs ≡ ys
 if-refused n xs ys d = rw (ne-eqb n 0 d, ifZero) (nil-right ys)
 
 abbrev Told : Story → Type 0

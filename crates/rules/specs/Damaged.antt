@@ -6,7 +6,7 @@ use mathlib.Core.Option.{Option, none, some}
 use lib.ListN.{length}
 use lib.Dec.{leb, ltb, eqb}
 use Rattle.plan.specs.declared.Record.{Record}
-use Rattle.plan.specs.Record.{materialFits}
+use Rattle.plan.specs.Record.{knownRecord}
 use Rattle.plan.specs.Plan.{Plan, nodeCount, channelCount, channelAt, entering, isSource, isSink}
 use Rattle.plan.specs.Check.{planFits}
 use Rattle.rules.specs.Lists.{isEmpty, allOf, anyOf, joined}
@@ -46,7 +46,7 @@ unfoldable pub stepsPast : Line → Bool
 stepsPast l = anyOf (ltb stepLimit) (l .steps)
 
 abbrev pub recordPastLimits : Record → Bool
-recordPastLimits r = not (materialFits (r .material) && ltb (r .piece) (2 ^ 32) && ltb (r .mass) (2 ^ 16))
+recordPastLimits r = not (knownRecord r && ltb (r .piece) (2 ^ 32) && ltb (r .mass) (2 ^ 16))
 
 unfoldable pub nodePastLimits : Node → Bool
 nodePastLimits x =

@@ -297,6 +297,11 @@ parts =
     ∷ trial (entryOf (record { piece = 4_294_967_295; material = 15; mass = 65_535 })) []
     ∷ trial (entryOf (record { piece = 4_294_967_296; material = 1; mass = 0 })) (4 ∷ [])
     ∷ trial (entryOf (record { piece = 1; material = 1; mass = 65_536 })) (4 ∷ [])
+    -- 2026-05: a tick; material 255 with a piece, with a mass; material 254
+    ∷ trial (entryOf (record { piece = 0; material = 255; mass = 0 })) []
+    ∷ trial (entryOf (record { piece = 1; material = 255; mass = 0 })) (4 ∷ [])
+    ∷ trial (entryOf (record { piece = 0; material = 255; mass = 1 })) (4 ∷ [])
+    ∷ trial (entryOf (record { piece = 0; material = 254; mass = 0 })) (4 ∷ [])
     ∷ trial (node 2 (holds (record { what = piece 4_294_967_296 1; sender = 0; time = 1; before = fed } ∷ [])) (lane 0 (moved 1 1) begun)) (4 ∷ [])
     -- "or names a node that is not the right parent": an entry's sender, a held record's, what it was made from, a target's (which Recover would not give)
     ∷ trial (node 3 (logs (λ (e : Entry). origin (made 1 1) (before fed e))) ended) (5 ∷ [])

@@ -112,6 +112,8 @@ exampleTable =
     ∷ record { given = answers 0 (replicate 8 (feedFrame 0 1 1) ++ replicate 9 (frame 2 0)); expected = replicate 16 0 ++ 18 ∷ [] }
     -- 21: "65th Feed"
     ∷ record { given = answers 0 (replicate 65 (feedFrame 0 1 1)); expected = replicate 64 0 ++ 21 ∷ [] }
+    -- 2026-05, 17: a tick is accepted; material 255 with a piece, material 254 without
+    ∷ record { given = answers 0 (feedFrame 0 0 255 ∷ feedFrame 0 1 255 ∷ feedFrame 0 0 254 ∷ []); expected = 0 ∷ 17 ∷ 17 ∷ [] }
     -- 17 before 21
     ∷ record { given = answers 0 (replicate 64 (feedFrame 0 1 1) ++ feedFrame 0 1 16 ∷ []); expected = replicate 64 0 ++ 17 ∷ [] }
     -- node 2 has 64 log entries: a Send to it and its Crash need no space, a Take does

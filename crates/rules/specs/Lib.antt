@@ -12,6 +12,7 @@ pub mod Plain
 pub mod Sheet
 pub mod Claim
 pub mod Trimming
+pub mod Ticks
 pub mod Order
 pub mod Restart
 pub mod Console
@@ -22,3 +23,4 @@ pub mod DamagedLines
 pub mod ReplayRefusals
 pub mod ClaimExamples
 pub mod WindowExamples
+pub mod TickExamples

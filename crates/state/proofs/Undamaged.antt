@@ -5,14 +5,15 @@ use mathlib.Core.Bool.{Bool, true, false, not, _&&_, _||_, true≢false}
 use mathlib.Core.List.{List, [], _∷_, _++_, map}
 use native.Mathlib.Nat.{zero-add}
 use native.Mathlib.Omega.{arith}
-use borrow.Author.Tests.{ltb-true, ltb-false, leb-true, eqb-true, not-false}
+use borrow.Author.Tests.{ltb-true, ltb-false, eqb-true, not-false}
 use lib.Dec.{lit<, ltb, eqb}
 use lib.ListN.{length}
 use Rattle.basics.specs.Bools.{both-true, neither-true}
 use Rattle.plan.specs.declared.Record.{Record}
 use Rattle.plan.specs.declared.Channel.{Channel}
 use Rattle.plan.specs.Lawful.{Each, FieldsFit}
-use Rattle.plan.specs.Record.{materialFits}
+use Rattle.plan.specs.Record.{knownRecord}
+use Rattle.plan.proofs.TickLaws.{known-byte}
 use Rattle.plan.specs.Plan.{Plan, nodeCount, channelCount, channelAt, entering, numbersFrom, keepIf}
 use Rattle.plan.specs.Check.{planFits}
 use Rattle.plan.specs.Fits.{RecordFits}
@@ -84,9 +85,9 @@ module _ (p : Plan) (e : planFits p ≡ true) where
 
     record-fits : (r : Record) → recordPastLimits r ≡ false → RecordFits r
     record-fits r q =
-        let a = both-true (materialFits (r .material) && ltb (r .piece) (2 ^ 32)) (ltb (r .mass) (2 ^ 16)) (not-false _ q) in
-        let b = both-true (materialFits (r .material)) (ltb (r .piece) (2 ^ 32)) (a .0) in
-        (ltb-true (r .piece) (2 ^ 32) (b .1), (omega (arith, leb-true (r .material) 15 (b .0)), (lit< tt, (ltb-true (r .mass) (2 ^ 16) (a .1), tt))))
+        let a = both-true (knownRecord r && ltb (r .piece) (2 ^ 32)) (ltb (r .mass) (2 ^ 16)) (not-false _ q) in
+        let b = both-true (knownRecord r) (ltb (r .piece) (2 ^ 32)) (a .0) in
+        (ltb-true (r .piece) (2 ^ 32) (b .1), (known-byte r (b .0), (lit< tt, (ltb-true (r .mass) (2 ^ 16) (a .1), tt))))
 
     times-within : (ts : List ℕ) → anyOf (ltb steps) ts ≡ false → Each Within ts
     times-within ts q = each-imply (λ (t : ℕ). ltb steps t ≡ false) Within (λ t r. ltb-false steps t r) ts (none-each (ltb steps) ts q)

@@ -8,7 +8,9 @@ mod torn;
 
 pub use disturb::{disturb, retarget};
 pub use events::{Stepped, EVENTS};
-pub use frames::{caller, cut_frames, every_frame, random_frames, stray};
+pub use frames::{
+    almost_tick, caller, cut_frames, every_frame, is_tick_but_for, random_frames, stray, FIELDS,
+};
 pub use late::{age, drawn_steps, greatest_time, make_late, reach, share_steps};
 pub use torn::torn;
 
@@ -32,6 +34,8 @@ pub struct Practice {
     lazy: u32,
     /// One frame in so many is as people type, one in as many the first drawn.
     strays: u32,
+    /// One record in so many is a tick.
+    ticks: u32,
     pieces: u32,
 }
 
@@ -49,6 +53,7 @@ impl Practice {
             ],
             lazy: (random.draw() & random.draw()) as u32,
             strays: random.pick(&[8, 32, 128]),
+            ticks: random.pick(&[4, 16, 1_000, 1_000]),
             pieces: 0,
         }
     }
@@ -117,7 +122,16 @@ impl Practice {
 
     fn record(&mut self, random: &mut Random) -> Record {
         self.pieces += 1;
-        drawn_record(random, self.pieces)
+        let record = drawn_record(random, self.pieces);
+        or_tick(random, self.ticks, record)
+    }
+}
+
+/// A tick once in so many times.
+pub fn or_tick(random: &mut Random, ticks: u32, record: Record) -> Record {
+    match random.one_in(ticks) {
+        true => Record::TICK,
+        false => record,
     }
 }
 

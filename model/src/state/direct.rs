@@ -20,7 +20,6 @@ use super::reading::read_record;
 use crate::answer::{ACCEPTED, STATE};
 use crate::line::Line;
 use crate::plan::{Channel, Plan};
-use crate::record::MATERIALS;
 use shape::Shape;
 
 pub fn check(state: &[u8]) -> u32 {
@@ -110,7 +109,7 @@ fn count_in(block: &[u8], slots: Slots) -> Option<usize> {
 }
 
 fn is_record_sound(slot: &[u8]) -> bool {
-    slot[MATERIAL] < MATERIALS && slot[RECORD_ZERO] == 0
+    slot[RECORD_ZERO] == 0 && read_record(slot).is_sound()
 }
 
 /// No way out before the end: so it runs over many bytes at a time.

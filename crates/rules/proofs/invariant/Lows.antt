@@ -15,14 +15,14 @@ use Rattle.rules.proofs.lists.Members.{In, here, there}
 use Rattle.rules.proofs.invariant.Heard.{raised-more}
 
 -- What was heard, raised by one origin.
-raise-long : (ps hs : List ℕ) (o : Origin) → length (raiseHeard ps hs o) ≡ length hs
+pub raise-long : (ps hs : List ℕ) (o : Origin) → length (raiseHeard ps hs o) ≡ length hs
 raise-long [] [] o = refl
 raise-long [] (h ∷ hs) o = refl
 raise-long (p ∷ ps) [] o = refl
 raise-long (p ∷ ps) (h ∷ hs) fed = refl
 raise-long (p ∷ ps) (h ∷ hs) (made s t) = ap suc (raise-long ps hs (made s t))
 
-raise-above : (a : ℕ) (ps hs : List ℕ) (o : Origin) → entryFor a ps hs ≤ entryFor a ps (raiseHeard ps hs o)
+pub raise-above : (a : ℕ) (ps hs : List ℕ) (o : Origin) → entryFor a ps hs ≤ entryFor a ps (raiseHeard ps hs o)
 raise-above a [] [] o = omega arith
 raise-above a [] (h ∷ hs) o = omega arith
 raise-above a (p ∷ ps) [] o = omega arith
@@ -34,7 +34,7 @@ raise-above a (p ∷ ps) (h ∷ hs) (made s t) = one (eqb p a) (eqb p s) (raise-
     one true false ih = omega arith
     one false y ih = ih
 
-raise-holds : (a v : ℕ) (ps hs : List ℕ) → In a ps → length hs ≡ length ps → v ≤ entryFor a ps (raiseHeard ps hs (made a v))
+pub raise-holds : (a v : ℕ) (ps hs : List ℕ) → In a ps → length hs ≡ length ps → v ≤ entryFor a ps (raiseHeard ps hs (made a v))
 raise-holds a v (p ∷ ps) [] i q = let no : ⊥ = omega arith in absurd no
 raise-holds a v (p ∷ ps) (h ∷ hs) here q = rw (eq-eqb a a refl) (omega arith)
 raise-holds a v (p ∷ ps) (h ∷ hs) (there i) q = one (eqb p a) (raise-holds a v ps hs i (omega arith))

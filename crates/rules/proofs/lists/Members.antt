@@ -110,6 +110,14 @@ any-in {A} f (x ∷ xs) e = one (f x) refl e (λ z. any-in f xs z)
     one true q z ih = (x, here, q)
     one false q z ih = let (y, i, k) = ih z in (y, there i, k)
 
+pub in-any : {A : Type 0} (f : A → Bool) {x : A} {xs : List A} → In x xs → f x ≡ true → anyOf f xs ≡ true
+in-any f here e = rw e
+in-any {A} f (there {y = y} {xs = xs} i) e = one (f y) (in-any f i e)
+  where
+    one : (t : Bool) → anyOf f xs ≡ true → (t || anyOf f xs) ≡ true
+    one true q = refl
+    one false q = q
+
 pub none-any : {A : Type 0} (f : A → Bool) {x : A} {xs : List A} → anyOf f xs ≡ false → In x xs → f x ≡ false
 none-any f {x = x} e (here {xs = xs}) = neither-true (f x) (anyOf f xs) e .0
 none-any f e (there {y = y} {xs = xs} i) = none-any f (neither-true (f y) (anyOf f xs) e .1) i

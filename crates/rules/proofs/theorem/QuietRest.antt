@@ -25,7 +25,7 @@ use Rattle.rules.proofs.invariant.InvLaws.{up-not-down}
 use Rattle.rules.proofs.steps.SendInv.{First, sendable-first}
 use Rattle.rules.proofs.invariant.Conclusion.{run, run-empties}
 
-status-up : (s : Status) → isUp s ≡ true → s ≡ up
+pub status-up : (s : Status) → isUp s ≡ true → s ≡ up
 status-up up e = refl
 status-up down e = absurd (true≢false (sym e))
 status-up replay e = absurd (true≢false (sym e))

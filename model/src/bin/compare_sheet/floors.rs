@@ -1,6 +1,7 @@
 // The rows of the counts and the least count of each.
 
 use model::compare::{answer, under, Floor};
+use model::line::practice::FIELDS;
 use model::line::Caller;
 use model::plan::practice::CASES;
 use model::sheet::practice::SHIFTS;
@@ -12,6 +13,7 @@ pub mod section {
     pub const PLANS: &str = "sheets with plans as long as their field says";
     pub const ANSWERS: &str = "answers";
     pub const CALLERS: &str = "accepted frames, by who sends them";
+    pub const TICKS: &str = "Feeds of ticks and of what is almost one";
     pub const LINES: &str = "lines of nodes";
 }
 
@@ -40,6 +42,14 @@ pub const PIECES: [(&str, usize); 5] = [
 pub const IN_BOTH: &str = "written alike with the plan in the other version";
 pub const AFTER_ANOTHERS_LAST: &str = "after 12 from another console";
 pub const TRIM: &str = "Trims, from any";
+pub const TICK: &str = "a tick, accepted";
+/// By the field for which it is none.
+pub const ALMOST: [&str; FIELDS.len()] = [
+    "17 for the piece",
+    "17 for the material",
+    "17 for the zero byte",
+    "17 for the mass",
+];
 
 /// Lines of the text, by the first that they are.
 pub mod line {
@@ -49,6 +59,9 @@ pub mod line {
         ("N up", |line| line.contains(" up ")),
         ("N down", |line| line.contains(" down ")),
         ("N replay", |line| line.contains(" replay ")),
+        ("L of a tick", |line| {
+            line.starts_with("L ") && line.ends_with(" 0 255 0")
+        }),
         ("L of a source", |line| line.contains(" - - ")),
         ("L made from a message", |line| line.starts_with("L ")),
         ("T of one layer", |line| layers(line) == Some(1)),
@@ -93,6 +106,8 @@ pub fn all() -> Vec<Floor> {
     floors.extend(under(section::CALLERS, 20_000, callers));
     floors.extend(under(section::CALLERS, 20, [AFTER_ANOTHERS_LAST]));
     floors.extend(under(section::CALLERS, 20_000, [TRIM]));
+    floors.extend(under(section::TICKS, 20_000, [TICK]));
+    floors.extend(under(section::TICKS, 200, ALMOST));
     let lines = line::KINDS.iter().map(|(name, _)| *name);
     floors.extend(under(section::LINES, 1_000, lines));
     floors

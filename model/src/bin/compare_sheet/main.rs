@@ -9,16 +9,20 @@ mod program;
 use std::path::Path;
 use std::{env, fs, io, thread};
 
-use model::answer::{ACCEPTED, STEPS_USED_UP};
+use model::answer::{ACCEPTED, STEPS_USED_UP, WRONG_RECORD};
 use model::compare::{self, answer, Counts};
+use model::line::practice::{is_tick_but_for, FIELDS};
 use model::line::Frame;
 use model::plan::practice::{cases, in_other_version};
 use model::plan::Plan;
 use model::random::Random;
+use model::record::Record;
 use model::sheet::vectors::answers;
 use model::sheet::{parts, practice, sheet, sheet_in_place, sheet_told};
 
-use floors::{kind, line, section, AFTER_ANOTHERS_LAST, IN_BOTH, PIECES, TRIM, WHOLE};
+use floors::{
+    kind, line, section, AFTER_ANOTHERS_LAST, ALMOST, IN_BOTH, PIECES, TICK, TRIM, WHOLE,
+};
 
 /// Each has its share of the sheets.
 const WORKERS: usize = 2;
@@ -196,16 +200,32 @@ impl Work<'_> {
     }
 
     fn count_frame(&mut self, frame: &[u8], answer: u32, is_one_used_up: bool) {
+        let Ok((caller, asked)) = Frame::read(frame) else {
+            return;
+        };
+        if let Frame::Feed { record, .. } = asked {
+            self.count_tick(record, answer);
+        }
         if answer != ACCEPTED {
             return;
         }
-        let (caller, asked) = Frame::read(frame).expect("an accepted frame");
         self.counts.add(section::CALLERS, caller.to_string());
         if matches!(asked, Frame::Trim { .. }) {
             self.counts.add(section::CALLERS, TRIM);
         }
         if is_one_used_up {
             self.counts.add(section::CALLERS, AFTER_ANOTHERS_LAST);
+        }
+    }
+
+    fn count_tick(&mut self, record: [u8; Record::LENGTH], answer: u32) {
+        if answer == ACCEPTED && record == Record::TICK.write() {
+            self.counts.add(section::TICKS, TICK);
+        }
+        for (row, field) in ALMOST.into_iter().zip(FIELDS) {
+            if answer == WRONG_RECORD && is_tick_but_for(field, record) {
+                self.counts.add(section::TICKS, row);
+            }
         }
     }
 

@@ -3,6 +3,7 @@
 use crate::line::{restart, Line, Status};
 use crate::plan::practice::MASSES;
 use crate::random::Random;
+use crate::record::Record;
 
 /// Changes one number, one sender or one part anywhere in the line.
 pub fn disturb(random: &mut Random, line: &mut Line) {
@@ -20,6 +21,17 @@ pub fn disturb(random: &mut Random, line: &mut Line) {
     let time = random.pick(&[early, near]);
     let material = random.pick(&[0, 1, 2, 3]);
     let mass = random.pick(&MASSES);
+    let is_tick = random.one_in(8);
+    let change_record = |record: &mut Record| {
+        *record = match is_tick {
+            true => Record::TICK,
+            false => Record {
+                material,
+                mass,
+                ..*record
+            },
+        };
+    };
     let node = &mut line.nodes[number];
     let queue = &mut line.queues[channel];
     let entry = random.draw() as usize % node.log.len().max(1);
@@ -42,7 +54,7 @@ pub fn disturb(random: &mut Random, line: &mut Line) {
                 if let Some(input) = &mut entry.message.made_from {
                     input.time = time;
                 }
-                (entry.message.record.material, entry.message.record.mass) = (material, mass);
+                change_record(&mut entry.message.record);
             }
         }
         5 => {
@@ -61,14 +73,14 @@ pub fn disturb(random: &mut Random, line: &mut Line) {
         7 => {
             if let Some(held) = node.buffered.get_mut(held) {
                 held.made_from.time = time;
-                (held.record.material, held.record.mass) = (material, mass);
+                change_record(&mut held.record);
             }
         }
         8 => queue.mark = time,
         9 => {
             if let Some(message) = queue.messages.get_mut(message) {
                 message.time = time;
-                (message.record.material, message.record.mass) = (material, mass);
+                change_record(&mut message.record);
             }
         }
         10 => {

@@ -1,9 +1,11 @@
 //! What a step may do, and why it may be refused, that a practice must not miss.
 
+mod ticks;
 mod trims;
 
 use std::collections::BTreeSet;
 
+use super::FIELDS;
 use crate::answer::{NOTHING_THERE, NO_REPLAY, NO_SPACE, NO_SUCH_PLACE, STEPS_USED_UP};
 use crate::line::replay::placed;
 use crate::line::{
@@ -12,7 +14,8 @@ use crate::line::{
 use crate::placing::Item;
 use crate::plan::practice::refuses_by_mass;
 use crate::plan::{Channel, Window};
-use crate::record::Record;
+use crate::record::{Record, MATERIALS};
+use ticks::{is_tick, lets_go_by_ticks};
 use trims::past;
 
 pub struct Stepped<'a> {
@@ -84,10 +87,12 @@ pub const EVENTS: &[Event] = &[
         step.after == Err(NOTHING_THERE) && step.passes_over(|_, _| true)
     }),
     event("Send of a channel's least mass", |step| {
-        step.sends(|window, mass| mass == window.least && mass > 0)
+        step.sends(|channel, record| record.mass == channel.window.least && record.mass > 0)
     }),
     event("Send of a channel's greatest mass", |step| {
-        step.sends(|window, mass| mass == window.greatest && mass < u16::MAX)
+        step.sends(|channel, record| {
+            record.mass == channel.window.greatest && record.mass < u16::MAX
+        })
     }),
     event("Send looks at one less than the least mass", |step| {
         step.passes_over(|window, mass| mass.checked_add(1) == Some(window.least))
@@ -278,6 +283,63 @@ pub const EVENTS: &[Event] = &[
             && step.to_trim().is_some()
             && !step.before.nodes.iter().all(is_up)
     }),
+    event("Feed of a tick", |step| {
+        step.feeds_tick() && step.after.is_ok()
+    }),
+    event("21: a tick, and the source's log is full", |step| {
+        step.feeds_tick() && step.after == Err(NO_SPACE)
+    }),
+    event("17: a tick but for its piece", |step| {
+        step.is_refused_for(&FIELDS[0])
+    }),
+    event("17: a tick but for its material", |step| {
+        step.is_refused_for(&FIELDS[1])
+    }),
+    event("17: a tick but for its zero byte", |step| {
+        step.is_refused_for(&FIELDS[2])
+    }),
+    event("17: a tick but for its mass", |step| {
+        step.is_refused_for(&FIELDS[3])
+    }),
+    event("Send of a tick that the mask has no bit for", |step| {
+        step.sends(|channel, record| record.is_tick() && channel.mask >> 15 == 0)
+    }),
+    event("Send of a tick that is not the remainder's", |step| {
+        step.sends(|channel, record| record.is_tick() && channel.remainder != 0)
+    }),
+    event("Send of a tick that the window lacks", |step| {
+        step.sends(|channel, record| record.is_tick() && channel.window.least > 0)
+    }),
+    event("Take of a tick", |step| {
+        step.takes_tick(Status::Up).is_some()
+    }),
+    event("Take that holds a tick", |step| {
+        step.takes_tick(Status::Replaying).is_some() && step.held(1)
+    }),
+    event(
+        "the same where piece 0 of mass 0 would be dropped",
+        |step| {
+            step.takes_tick(Status::Replaying)
+                .is_some_and(|node| step.passes_on_nothing_else(node))
+                && step.held(1)
+        },
+    ),
+    event("replay ended with a tick", |step| {
+        step.ended()
+            .is_some_and(|(_, _, ended)| ended.log.iter().any(is_tick))
+    }),
+    event("replay ended by a tick", |step| {
+        step.ended().is_some() && step.takes_tick(Status::Replaying).is_some()
+    }),
+    event("24: a tick that is free", |step| {
+        step.after == Err(NO_REPLAY) && step.misses_target() == Some(false) && step.has_free_tick()
+    }),
+    event("Trim that drops a tick", |step| {
+        step.trims(|line, node, run| line.nodes[node].log[..run].iter().any(is_tick))
+    }),
+    event("Trim that drops what ticks alone let go", |step| {
+        step.trims(lets_go_by_ticks)
+    }),
 ];
 
 impl Stepped<'_> {
@@ -347,16 +409,13 @@ impl Stepped<'_> {
         leaving.any(|channel| is_such(&line.plan.channels[channel], &came, &made))
     }
 
-    /// An accepted Send: the channel's window, and the mass sent.
-    fn sends(&self, is_such: fn(Window, u16) -> bool) -> bool {
+    /// An accepted Send: the channel, and the record sent.
+    fn sends(&self, is_such: fn(&Channel, &Record) -> bool) -> bool {
         match (self.frame, self.after) {
             (Frame::Send { channel }, Ok(_)) => {
                 let number = usize::from(channel);
                 let message = self.before.next_to_send(number).expect("it is sent");
-                is_such(
-                    self.before.plan.channels[number].window,
-                    message.record.mass,
-                )
+                is_such(&self.before.plan.channels[number], &message.record)
             }
             _ => false,
         }
@@ -422,26 +481,35 @@ impl Stepped<'_> {
     /// one that no channel takes.
     fn misses_target(&self) -> Option<bool> {
         let number = self.receiver(Status::Replaying)?;
+        let (record, last) = self.taken()?;
+        let last = self.before.plan.passes_on(number, &record).then_some(last);
+        let node = &self.before.nodes[number];
+        let held = node.buffered.iter().map(|held| held.made_from);
+        let held: Vec<Origin> = held.chain(last).collect();
+        let mut targets = node.targets.iter().map(input);
+        Some(targets.any(|input| !held.contains(&input)))
+    }
+
+    /// The record of a Take after the receiver's rule, and what it is made from.
+    fn taken(&self) -> Option<(Record, Origin)> {
         let Frame::Take { channel } = self.frame else {
             return None;
         };
-        let ends = &self.before.plan.channels[usize::from(channel)];
+        let ends = self.before.plan.channels.get(usize::from(channel))?;
         let message = self.before.queues[usize::from(channel)].messages.first()?;
-        let record = self.before.plan.rules[number].apply(message.record);
-        let last = Origin {
+        let record = self.before.plan.rules[ends.receiver].apply(message.record);
+        let input = Origin {
             sender: ends.sender,
             time: message.time,
         };
-        let last = self.before.plan.passes_on(number, &record).then_some(last);
-        let node = &self.before.nodes[number];
-        let held: Vec<Origin> = node.buffered.iter().map(|held| held.made_from).collect();
-        Some(node.targets.iter().any(|target| {
-            let input = Origin {
-                sender: target.parent,
-                time: target.parent_time,
-            };
-            !held.contains(&input) && last != Some(input)
-        }))
+        Some((record, input))
+    }
+}
+
+fn input(target: &Target) -> Origin {
+    Origin {
+        sender: target.parent,
+        time: target.parent_time,
     }
 }
 

@@ -1,5 +1,7 @@
 //! Frames of all kinds and versions, right and wrong.
 
+use std::ops::Range;
+
 use super::drawn_record;
 use crate::line::{Caller, Frame, Line};
 use crate::random::Random;
@@ -59,6 +61,11 @@ pub fn stray(random: &mut Random, line: &Line) -> Vec<u8> {
 }
 
 fn typed_record(random: &mut Random) -> [u8; Record::LENGTH] {
+    match random.index(8) {
+        0 => return Record::TICK.write(),
+        1 => return almost_tick(random),
+        _ => {}
+    }
     let mut record = Record {
         piece: random.draw() as u32,
         material: random.pick(&[0, 15, 16, 255]),
@@ -69,6 +76,37 @@ fn typed_record(random: &mut Random) -> [u8; Record::LENGTH] {
         record[5] = random.pick(&[1, 128, 255]);
     }
     record
+}
+
+/// The bytes of a record's piece number, material, zero byte and mass.
+pub const FIELDS: [Range<usize>; 4] = [0..4, 4..5, 5..6, 6..8];
+
+/// A tick but for one field, and so no record.
+pub fn almost_tick(random: &mut Random) -> [u8; Record::LENGTH] {
+    let [piece, material, zero, mass] = FIELDS;
+    let one_in = |random: &mut Random, field: Range<usize>| {
+        let any = random.between(1, 255) as u8;
+        (
+            field.start + random.index(field.len()),
+            random.pick(&[1, any]),
+        )
+    };
+    let (at, byte) = match random.index(4) {
+        0 => one_in(random, piece),
+        1 => (material.start, random.pick(&[16, 127, 254, 254])),
+        2 => one_in(random, zero),
+        _ => one_in(random, mass),
+    };
+    let mut record = Record::TICK.write();
+    record[at] = byte;
+    record
+}
+
+pub fn is_tick_but_for(field: Range<usize>, record: [u8; Record::LENGTH]) -> bool {
+    let tick = Record::TICK.write();
+    let mut mended = record;
+    mended[field.clone()].copy_from_slice(&tick[field]);
+    mended == tick && record != tick
 }
 
 /// One of each kind.

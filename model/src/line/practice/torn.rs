@@ -4,7 +4,7 @@
 //! In half of the cases times are late, in some those of the router far apart.
 
 use super::late::each_time;
-use super::{age, greatest_time, reach};
+use super::{age, greatest_time, or_tick, reach};
 use crate::line::{Entry, Line, Message, Node, Origin, Status};
 use crate::plan::practice::{keeping, sort_some_by_mass, MASSES};
 use crate::plan::{Channel, Plan};
@@ -28,9 +28,11 @@ pub fn torn(random: &mut Random) -> (Line, usize) {
     let sinks = random.pick(&[1, 2, 3, 3, 4, 4]);
     let mut line = Line::of(plan(random, sources, sinks));
     let high = random.pick(&[2, 4, 8, 20, 100]);
-    let made = drawn_made(random, sources, high);
+    // One record in so many is a tick.
+    let ticks = random.pick(&[8, 1_000, 1_000]);
+    let made = drawn_made(random, sources, high, ticks);
     for source in 0..sources {
-        fill_source(random, &mut line.nodes[source], source, &made);
+        fill_source(random, &mut line.nodes[source], source, &made, ticks);
     }
     let is_right = !random.one_in(4);
     let rule = if is_right {
@@ -88,7 +90,7 @@ fn plan(random: &mut Random, sources: usize, sinks: usize) -> Plan {
 }
 
 /// Most times up to high, each from another input; along a parent inputs rise.
-fn drawn_made(random: &mut Random, sources: usize, high: u32) -> Vec<Made> {
+fn drawn_made(random: &mut Random, sources: usize, high: u32, ticks: u32) -> Vec<Made> {
     let mut last = vec![0; sources];
     let gap = random.pick(&[1, 1, 1, 1, 2, 3]);
     let empty = random.pick(&[2, 4, 16]);
@@ -105,7 +107,7 @@ fn drawn_made(random: &mut Random, sources: usize, high: u32) -> Vec<Made> {
                 sender,
                 time: last[sender],
             },
-            record: drawn_record(random, 1),
+            record: drawn_record(random, ticks, 1),
         });
     }
     made
@@ -113,13 +115,13 @@ fn drawn_made(random: &mut Random, sources: usize, high: u32) -> Vec<Made> {
 
 /// All that was made from the source, and what was between, as far as there is
 /// room.
-fn fill_source(random: &mut Random, node: &mut Node, source: usize, made: &[Made]) {
+fn fill_source(random: &mut Random, node: &mut Node, source: usize, made: &[Made], ticks: u32) {
     let of_source = made.iter().filter(|made| made.input.sender == source);
     let last = of_source.clone().map(|made| made.input.time).max();
     let misses = random.pick(&[8, 1_000, 1_000]);
     for time in 1..=last.unwrap_or(0) + random.between(0, 70) {
         let known = of_source.clone().find(|made| made.input.time == time);
-        let any = drawn_record(random, 0);
+        let any = drawn_record(random, ticks, 0);
         if node.log.len() < Line::MOST_ENTRIES && !random.one_in(misses) {
             let record = known.map_or(any, |made| made.record);
             node.log.push(entry(time, record, None, None));
@@ -166,12 +168,13 @@ fn trim_some(random: &mut Random, node: &mut Node) {
     }
 }
 
-fn drawn_record(random: &mut Random, least_material: u32) -> Record {
-    Record {
+fn drawn_record(random: &mut Random, ticks: u32, least_material: u32) -> Record {
+    let record = Record {
         piece: random.draw() as u32,
         material: random.between(least_material, 15) as u8,
         mass: random.pick(&MASSES),
-    }
+    };
+    or_tick(random, ticks, record)
 }
 
 fn entry(

@@ -176,7 +176,9 @@ fn windows_do_as_masks() {
 /// The frame with the material of what is fed as its mass.
 fn weighed(frame: &[u8]) -> Vec<u8> {
     match Frame::read(frame) {
-        Ok((caller, Frame::Feed { node, record })) if Record::read(record).is_some() => {
+        Ok((caller, Frame::Feed { node, record }))
+            if Record::read(record).is_some_and(|record| !record.is_tick()) =>
+        {
             let record = Record::read(record).expect("a record");
             let weighed = Record {
                 material: 0,

@@ -47,6 +47,22 @@ pub const FEATURES: &[Feature] = &[
             held.any(|held| refuses_by_mass(channel, &held.record))
         })
     }),
+    feature("a tick in a log", |line| {
+        has_node(line, |node| {
+            let mut log = node.log.iter();
+            log.any(|entry| entry.message.record.is_tick())
+        })
+    }),
+    feature("a tick that is held", |line| {
+        has_node(line, |node| {
+            let mut held = node.buffered.iter();
+            held.any(|held| held.record.is_tick())
+        })
+    }),
+    feature("a tick on a channel", |line| {
+        let mut messages = line.queues.iter().flat_map(|queue| &queue.messages);
+        messages.any(|message| message.record.is_tick())
+    }),
     feature("a plan of version 2", |line| {
         line.plan.version == Version::Second
     }),

@@ -10,6 +10,7 @@ use crate::line::{restart, Line, Status};
 use crate::plan::practice::{in_other_version, MASSES};
 use crate::plan::{Version, Window};
 use crate::random::Random;
+use crate::record::Record;
 use crate::rule::Rule;
 
 pub struct Harmless {
@@ -103,6 +104,21 @@ pub const HARMLESS: &[Harmless] = &[
     harmless("another record in a log", |random, line| {
         let (node, index) = pick::entry(random, line, |_, _| true)?;
         line.nodes[node].log[index].message.record = any_record(random);
+        Some(())
+    }),
+    harmless("a tick in a log", |random, line| {
+        let (node, index) = pick::entry(random, line, |_, _| true)?;
+        line.nodes[node].log[index].message.record = Record::TICK;
+        Some(())
+    }),
+    harmless("a tick that is held", |random, line| {
+        let (node, index) = pick::held(random, line, |_, _| true)?;
+        line.nodes[node].buffered[index].record = Record::TICK;
+        Some(())
+    }),
+    harmless("a tick on a channel", |random, line| {
+        let (channel, index) = pick::message(random, line, |_, _| true)?;
+        line.queues[channel].messages[index].record = Record::TICK;
         Some(())
     }),
     harmless(
@@ -212,7 +228,9 @@ pub const HARMLESS: &[Harmless] = &[
         },
     ),
     harmless("a held record at an end of a window", |random, line| {
-        let (node, index) = pick::held(random, line, |_, _| true)?;
+        let (node, index) = pick::held(random, line, |node, index| {
+            !line.nodes[node].buffered[index].record.is_tick()
+        })?;
         let held = &mut line.nodes[node].buffered[index].record;
         let channels = &line.plan.channels;
         let taking = line.plan.leaving(node);

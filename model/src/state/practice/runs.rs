@@ -4,7 +4,7 @@ use std::cmp::Reverse;
 
 use super::{pick, staged};
 use crate::answer::ACCEPTED;
-use crate::line::practice::{age, caller, tear, Practice};
+use crate::line::practice::{age, caller, or_tick, tear, Practice};
 use crate::line::{step, Frame, Line, Status};
 use crate::plan::practice::{any_plan, MASSES};
 use crate::random::Random;
@@ -92,12 +92,13 @@ fn practised(random: &mut Random, played: &mut dyn Played) -> Vec<Line> {
 fn filled(random: &mut Random, played: &mut dyn Played) -> Vec<Line> {
     let lazy = (random.draw() & random.draw()) as u32;
     let lazy = random.pick(&[0, lazy, lazy]);
-    fill(random, played, lazy);
+    let ticks = random.pick(&[8, 32, 1_000]);
+    fill(random, played, lazy, ticks);
     let mut lines = vec![played.line().clone()];
     if random.one_in(2) {
         trim_all(random, played);
         lines.push(played.line().clone());
-        fill(random, played, lazy);
+        fill(random, played, lazy, ticks);
     }
     let mut nodes = shuffled(random, played.line().nodes.len());
     if !random.one_in(4) {
@@ -120,7 +121,7 @@ fn filled(random: &mut Random, played: &mut dyn Played) -> Vec<Line> {
         }
         lines.push(played.line().clone());
     }
-    fill(random, played, lazy);
+    fill(random, played, lazy, ticks);
     lines.push(played.line().clone());
     lines
 }
@@ -132,16 +133,17 @@ pub fn trim_all(random: &mut Random, played: &mut dyn Played) {
     }
 }
 
-fn fill(random: &mut Random, played: &mut dyn Played, lazy: u32) {
+fn fill(random: &mut Random, played: &mut dyn Played, lazy: u32, ticks: u32) {
     let (nodes, channels) = (played.line().nodes.len(), played.line().queues.len());
     let most_rounds = random.pick(&[10, 60, 1000]);
     for _ in 0..most_rounds {
         let mut is_stuck = true;
         for place in shuffled(random, nodes + 2 * channels) {
             let frame = if place < nodes {
+                let record = any_record(random);
                 Frame::Feed {
                     node: place as u8,
-                    record: any_record(random).write(),
+                    record: or_tick(random, ticks, record).write(),
                 }
             } else if place < nodes + channels {
                 Frame::Send {

@@ -19,31 +19,32 @@ pub fn fresh<T: Staged>() -> T {
     plan_of(2, vec![(0, 1)]).into()
 }
 
-/// A little of everything, of version 2: node 3 replays and holds a record from
-/// node 1, node 7 is down, messages wait before node 11.
+/// A little of everything, of version 2: node 3 replays and holds a record and a tick
+/// from node 1, a tick waits before it, node 7 is down, messages wait before node 11.
 pub fn mixed<T: Staged>() -> T {
     let replay = [(0, 1), (1, 3), (2, 3), (3, 4), (3, 5)];
     let others = [(6, 7), (7, 8), (9, 10), (10, 11)];
     let mut line: T = windowed(plan_of(12, [&replay[..], &others[..]].concat())).into();
-    for piece in 1..=3 {
-        feed(&mut line, 0, piece);
+    for record in [piece(1), piece(2), Record::TICK, Record::TICK] {
+        feed(&mut line, 0, record);
         pass(&mut line, 0);
         pass(&mut line, 1);
     }
-    feed(&mut line, 2, 4);
+    feed(&mut line, 2, piece(4));
     pass(&mut line, 2);
-    for channel in [3, 3, 3, 3, 4] {
+    for channel in [3, 3, 3, 3, 3, 4] {
         pass(&mut line, channel);
     }
     restart(&mut line, 3);
     pass(&mut line, 1);
+    pass(&mut line, 1);
     accept(&mut line, Frame::Send { channel: 1 });
     accept(&mut line, Frame::Send { channel: 2 });
-    feed(&mut line, 6, 5);
+    feed(&mut line, 6, piece(5));
     pass(&mut line, 5);
     accept(&mut line, Frame::Crash { node: 7 });
-    for piece in 6..=9 {
-        feed(&mut line, 9, piece);
+    for number in 6..=9 {
+        feed(&mut line, 9, piece(number));
         pass(&mut line, 7);
         accept(&mut line, Frame::Send { channel: 8 });
     }
@@ -108,8 +109,8 @@ pub fn trimmed() -> Line {
     }
     for node in 0..line.nodes.len() {
         if line.plan.is_source(node) {
-            for piece in 0..Line::MOST_ENTRIES as u32 / 2 {
-                feed(&mut line, node, piece);
+            for number in 0..Line::MOST_ENTRIES as u32 / 2 {
+                feed(&mut line, node, piece(number));
             }
         }
     }
@@ -184,8 +185,8 @@ pub const STEPS_LEFT: u32 = 60;
 /// replays and goes on, time and again.
 pub fn worn<T: Staged>() -> T {
     let mut line: T = plan_of(4, vec![(0, 1), (1, 2), (1, 3)]).into();
-    for piece in 0..4 {
-        feed(&mut line, 0, piece);
+    for number in 0..4 {
+        feed(&mut line, 0, piece(number));
     }
     for channel in [0, 1, 0, 1, 0, 1, 2] {
         pass(&mut line, channel);
@@ -242,12 +243,15 @@ fn accept(line: &mut impl Played, frame: Frame) {
     assert_eq!(line.step(&frame.write()), 0, "{frame:?}");
 }
 
-fn feed(line: &mut impl Played, node: usize, piece: u32) {
-    let record = Record {
-        piece,
-        material: (piece % 16) as u8,
-        mass: (piece % 1000) as u16,
-    };
+fn piece(number: u32) -> Record {
+    Record {
+        piece: number,
+        material: (number % 16) as u8,
+        mass: (number % 1000) as u16,
+    }
+}
+
+fn feed(line: &mut impl Played, node: usize, record: Record) {
     let frame = Frame::Feed {
         node: node as u8,
         record: record.write(),
@@ -257,7 +261,7 @@ fn feed(line: &mut impl Played, node: usize, piece: u32) {
 
 fn fill_source(line: &mut impl Played, node: usize) {
     for number in 0..Line::MOST_ENTRIES as u32 {
-        feed(line, node, 1000 * node as u32 + number);
+        feed(line, node, piece(1000 * node as u32 + number));
     }
 }
 

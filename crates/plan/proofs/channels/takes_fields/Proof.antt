@@ -5,11 +5,12 @@ use Rattle.plan.proofs.channels.takes_fields.Tie as tie
 
 returns : tie.Need-returns
 unfolding takes
-returns c = let left = c .before .before .before in rw (left .before .bit-set .ensures, left .left-over .ensures)
+returns c = let tick = c .before in let left = tick .before .before .before in rw (tick .is-tick .ensures, left .before .bit-set .ensures, left .left-over .ensures)
 
 pub takes-fields-spec : {M : Type 1} → statement M
 takes-fields-spec = tie.close
     (tie.spec
+    (λ c κs. tt)
     (λ c κs. tt)
     (λ c κs. tt)
     (λ c. search needs)

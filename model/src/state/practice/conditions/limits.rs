@@ -1,4 +1,6 @@
 use super::*;
+use crate::line::practice::almost_tick;
+use crate::record::Record;
 use crate::state::layout::*;
 use crate::state::practice::harmless::hold_most;
 
@@ -63,27 +65,53 @@ pub const OUTSIDE: Clause = Clause {
         }),
         line("material in a log", |random, line| {
             let (node, index) = pick::entry(random, line, |_, _| true)?;
-            line.nodes[node].log[index].message.record.material = no_material(random);
+            give_no_material(random, &mut line.nodes[node].log[index].message.record);
             Some(())
         }),
         line("material of a held record", |random, line| {
             // Among those that a channel takes where materials wrap around.
             let (node, index) = pick::held(random, line, |_, _| true)?;
-            let none = no_material(random);
             let record = &mut line.nodes[node].buffered[index].record;
-            record.material = random.pick(&[record.material + 16, none]);
+            if !record.is_tick() && random.one_in(2) {
+                record.material += 16;
+            } else {
+                give_no_material(random, record);
+            }
             Some(())
         }),
         line("material on a channel", |random, line| {
             let (channel, index) = pick::message(random, line, |_, _| true)?;
-            line.queues[channel].messages[index].record.material = no_material(random);
+            give_no_material(random, &mut line.queues[channel].messages[index].record);
+            Some(())
+        }),
+        bytes("almost a tick in a log", |random, line, state| {
+            let (number, index) = pick::entry(random, line, |_, _| true)?;
+            put_almost_tick(random, &mut state[node(number)..], LOG.slot(index));
+            Some(())
+        }),
+        bytes("almost a tick that is held", |random, line, state| {
+            let (number, index) = pick::held(random, line, |_, _| true)?;
+            put_almost_tick(random, &mut state[node(number)..], BUFFERED.slot(index));
+            Some(())
+        }),
+        bytes("almost a tick on a channel", |random, line, state| {
+            let (number, index) = pick::message(random, line, |_, _| true)?;
+            put_almost_tick(random, &mut state[channel(number)..], QUEUE.slot(index));
             Some(())
         }),
     ],
 };
 
-fn no_material(random: &mut Random) -> u8 {
-    random.pick(&[16, 17, 31, 32, 128, 255])
+/// A material that makes it neither a record nor a tick.
+fn give_no_material(random: &mut Random, record: &mut Record) {
+    record.material = random.pick(&[16, 17, 31, 32, 128, 255]);
+    if record.is_tick() {
+        record.material = 254;
+    }
+}
+
+fn put_almost_tick(random: &mut Random, block: &mut [u8], slot: usize) {
+    put(block, slot + RECORD, &almost_tick(random));
 }
 
 /// One more than the slots and far more; also where the last byte is right.

@@ -48,7 +48,7 @@ pub const NOT_TAKEN: Clause = Clause {
         line("by its piece number", |random, line| {
             let pieces = [(); 8].map(|()| random.draw() as u32);
             let untaken = |node: usize, index: usize| {
-                let held = line.nodes[node].buffered[index].record;
+                let held = asked(line, node, index)?;
                 let is_taken = |piece| line.plan.passes_on(node, &Record { piece, ..held });
                 pieces.into_iter().find(|&piece| !is_taken(piece))
             };
@@ -94,10 +94,18 @@ pub const NOT_TAKEN: Clause = Clause {
     ],
 };
 
+/// The held record, if channels are asked whether they take it: it is no tick.
+fn asked(line: &Line, node: usize, index: usize) -> Option<Record> {
+    let held = line.nodes[node].buffered.get(index)?.record;
+    (!held.is_tick()).then_some(held)
+}
+
 /// Masses beside the windows of the channels that leave the node: with them none
 /// takes the held record.
 fn untaken_masses(line: &Line, node: usize, index: usize) -> Vec<u16> {
-    let held = line.nodes[node].buffered[index].record;
+    let Some(held) = asked(line, node, index) else {
+        return Vec::new();
+    };
     let is_taken = |mass| line.plan.passes_on(node, &Record { mass, ..held });
     let beside = line.plan.leaving(node).flat_map(|number| {
         let Window { least, greatest } = line.plan.channels[number].window;
@@ -114,7 +122,7 @@ fn turn_away(
     change: fn(&mut Random, &mut Channel, &Record),
 ) -> Option<()> {
     let node = pick::node_that_is(random, line, Status::Replaying)?;
-    let held = line.nodes[node].buffered.first()?.record;
+    let held = asked(line, node, 0)?;
     let channels = line.plan.channels.iter_mut();
     for channel in channels.filter(|channel| channel.sender == node) {
         change(random, channel, &held);
