@@ -14,7 +14,7 @@ use Rattle.rules.proofs.ticks.Law.{floors-rise, none-in-replay}
 use Rattle.state.specs.State.{lineOf, stateAnswer}
 use Rattle.line.specs.Load.{loadAnswer, loadLeft}
 use Rattle.line.specs.Step.{stepAnswer, stepLeft}
-use Rattle.line.specs.Order.{stateAfter}
+use Rattle.line.specs.Order.{stateAfter, storyOf}
 use Rattle.line.specs.Ticks.{framesOf, traceBehind, traceOf, FloorsRiseOnBytes, NoneInReplayOnBytes}
 use Rattle.line.proofs.LoadLaws.{load-accepted}
 use Rattle.line.proofs.StepLaws.{answer-undamaged, one-call}
@@ -40,7 +40,7 @@ module _ (plan lent : List ℕ) (before : List (List ℕ)) (frames : Followed) (
   state = stateAfter (loadLeft plan lent) before
 
   traces : traceOf (stateAfter (loadLeft plan lent) before) frames ≡ traceFrom (noTrace (storyFrom (startOf (initialLine (planOf plan))) before .line)) frames
-  unfolding traceOf
+  unfolding storyOf traceOf
   traces =
       let run = run-of-lines plan lent before bytes each z in
       behind-told frames (noTrace (lineOf state)) state each-followed (run .accepted) refl ∙ ap (λ (s : Story). traceFrom (noTrace (s .line)) frames) (run .story)
