@@ -17,7 +17,7 @@ use crate::layout;
 use crate::record;
 use crate::table;
 
-// Whether eight bytes are a record's: one of those that there are, and its zero byte.
+// Whether eight bytes are a record's: of a material 0..15 or a tick, and the zero byte 0.
 pub fn record_ok(s: &[u8], at: usize) -> bool
     requires { ⌜ at + 8 ≤ length (now s) ⌝ }
     ensures { λ r. ⌜ r ≡ (recordExact at (now (s .entry)) && recordRight (recordIn at (now (s .entry)))) ⌝ }

@@ -8,20 +8,20 @@ use Rattle.rules.specs.Line.{Line, initialLine}
 use Rattle.rules.specs.Frame.{frameOf}
 use Rattle.rules.specs.Step.{step}
 use Rattle.rules.specs.Claim.{Story, startOf, storyFrom}
-use Rattle.rules.specs.Ticks.{Followed, Trace, onward, traced, traceFrom, noTrace, FloorsReached, NoneTaken}
+use Rattle.rules.specs.Ticks.{FollowedFrames, framesOf, Trace, onward, traced, traceFrom, noTrace, FloorsReached, NoneTaken}
 use Rattle.rules.proofs.console.Counted.{step-number}
 use Rattle.rules.proofs.ticks.Law.{floors-rise, none-in-replay}
 use Rattle.state.specs.State.{lineOf, stateAnswer}
 use Rattle.line.specs.Load.{loadAnswer, loadLeft}
 use Rattle.line.specs.Step.{stepAnswer, stepLeft}
 use Rattle.line.specs.Order.{stateAfter, storyOf}
-use Rattle.line.specs.Ticks.{framesOf, traceBehind, traceOf, FloorsRiseOnBytes, NoneInReplayOnBytes}
+use Rattle.line.specs.Ticks.{traceBehind, traceOf, FloorsRiseOnBytes, NoneInReplayOnBytes}
 use Rattle.line.proofs.LoadLaws.{load-accepted}
 use Rattle.line.proofs.StepLaws.{answer-undamaged, one-call}
 use Rattle.line.proofs.StepRun.{as-told, run-of-lines}
 
 -- The calls' trace is the rules', and its line the one in the bytes left.
-behind-told : (frames : Followed) (t : Trace) (state : List ℕ) → Each Bytes (framesOf frames) → stateAnswer state ≡ 0 → t .line ≡ lineOf state → traceBehind t state frames ≡ traceFrom t frames
+behind-told : (frames : FollowedFrames) (t : Trace) (state : List ℕ) → Each Bytes (framesOf frames) → stateAnswer state ≡ 0 → t .line ≡ lineOf state → traceBehind t state frames ≡ traceFrom t frames
 unfolding traced
 behind-told [] t state bytes z same = refl
 behind-told ((follow, f) ∷ rest) t state (bytes, more) z same =
@@ -31,11 +31,11 @@ behind-told ((follow, f) ∷ rest) t state (bytes, more) z same =
     behind-told rest (onward t (follow, f) (stepAnswer state f) (lineOf (stepLeft state f))) (stepLeft state f) more (call .accepted) refl
     ∙ ap₂ (λ (n : ℕ) (l : Line). traceFrom (onward t (follow, f) n l) rest) number left
 
-behind-line : (frames : Followed) (t : Trace) (state : List ℕ) → t .line ≡ lineOf state → traceBehind t state frames .line ≡ lineOf (stateAfter state (framesOf frames))
+behind-line : (frames : FollowedFrames) (t : Trace) (state : List ℕ) → t .line ≡ lineOf state → traceBehind t state frames .line ≡ lineOf (stateAfter state (framesOf frames))
 behind-line [] t state same = same
 behind-line ((follow, f) ∷ rest) t state same = behind-line rest (onward t (follow, f) (stepAnswer state f) (lineOf (stepLeft state f))) (stepLeft state f) refl
 
-module _ (plan lent : List ℕ) (before : List (List ℕ)) (frames : Followed) (bytes : Bytes plan) (each : Each Bytes before) (each-followed : Each Bytes (framesOf frames)) (z : loadAnswer plan lent ≡ 0) where
+module _ (plan lent : List ℕ) (before : List (List ℕ)) (frames : FollowedFrames) (bytes : Bytes plan) (each : Each Bytes before) (each-followed : Each Bytes (framesOf frames)) (z : loadAnswer plan lent ≡ 0) where
   abbrev state : List ℕ
   state = stateAfter (loadLeft plan lent) before
 

@@ -2,11 +2,11 @@
 use Prim.Native.Nat.{_<_}
 use mathlib.Core.Path.{_≡_, refl}
 use mathlib.Core.Logic.{_⊎_, inl, inr}
-use mathlib.Core.Bool.{Bool, true, false, cond, _&&_, _||_}
+use mathlib.Core.Bool.{Bool, true, false, cond, _&&_}
 use native.Mathlib.Omega.{arith}
 use lib.Dec.{leb, ltb, eqb}
 use borrow.Author.Tests.{leb-true, eqb-true, eq-eqb, ne-eqb, le-ltb}
-use Rattle.basics.specs.Bools.{both-true}
+use Rattle.basics.specs.Bools.{both-true, either-true}
 use Rattle.plan.specs.declared.Record.{Record}
 use Rattle.plan.specs.declared.Rule.the-variants.{Keep, Relabel, Cap}
 use Rattle.plan.specs.Record.{materialFits, isTick, knownRecord}
@@ -32,15 +32,11 @@ tick-of : (r : Record) → Tick r → isTick r ≡ true
 tick-of r t = rw (eq-eqb (r .material) 255 (t .material), eq-eqb (r .piece) 0 (t .piece), eq-eqb (r .mass) 0 (t .mass))
 
 pub one-tick : OneTick
-one-tick r e = let t = tick-parts r e in λ i. record { piece = t .piece i; material = t .material i; mass = t .mass i }
+one-tick = (refl, λ r e. (let t = tick-parts r e in λ i. record { piece = t .piece i; material = t .material i; mass = t .mass i }))
 
 -- A record that 17 lets through is of a material 0..15 or a tick, so its material is a byte.
 pub known-cases : (r : Record) → knownRecord r ≡ true → (materialFits (r .material) ≡ true) ⊎ (isTick r ≡ true)
-known-cases r e = go (materialFits (r .material)) (isTick r) e
-  where
-    go : (x y : Bool) → (x || y) ≡ true → (x ≡ true) ⊎ (y ≡ true)
-    go true y e = inl refl
-    go false y e = inr e
+known-cases r e = either-true (materialFits (r .material)) (isTick r) e
 
 pub known-byte : (r : Record) → knownRecord r ≡ true → r .material < 256
 known-byte r e = elim (known-cases r e) [ inl a ↦ omega (arith, leb-true (r .material) 15 a) | inr t ↦ omega (arith, tick-parts r t .material) ]

@@ -13,6 +13,7 @@ use Rattle.plan.specs.Rule.{applied}
 use Rattle.plan.specs.Channel.{takes}
 use Rattle.plan.specs.Plan.{Plan, planOf, planBytes, isSource, isSink}
 use Rattle.plan.specs.Check.{planRefusal, planFits}
+use Rattle.plan.specs.Ticks.{tick}
 use Rattle.plan.specs.Versions.{inVersionTwo}
 
 -- A plan of so many nodes and belts, its length field right.
@@ -212,7 +213,7 @@ unfolding takes
 capped-into = refl
 
 -- 2026-05: neither mask nor modulus nor window is asked of a tick
-tick-takes : map (λ (c : Channel). takes c (record { piece = 0; material = 255; mass = 0 })) (channelOf 1 1 0 ∷ channelOf 2 4 3 ∷ channelFor 50 60 ∷ []) ≡ true ∷ true ∷ true ∷ []
+tick-takes : map (λ (c : Channel). takes c tick) (channelOf 1 1 0 ∷ channelOf 2 4 3 ∷ channelFor 50 60 ∷ []) ≡ true ∷ true ∷ true ∷ []
 unfolding takes
 tick-takes = refl
 

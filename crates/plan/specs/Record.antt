@@ -37,7 +37,7 @@ isTick r = eqb (r .material) 255 && eqb (r .piece) 0 && eqb (r .mass) 0
 abbrev pub knownRecord : Record → Bool
 knownRecord r = materialFits (r .material) || isTick r
 
--- Eight bytes that are a record: the material or a tick, and the zero byte.
+-- Eight bytes that are a record: of a material 0..15 or a tick, and the zero byte 0.
 unfoldable pub recordFits : List ℕ → Bool
 unfolding recordFields
 recordFits s = knownRecord (recordOf (recordFields .read s)) && eqb (getD (recordFields .read s) 2 0) 0

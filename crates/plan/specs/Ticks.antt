@@ -16,9 +16,9 @@ use Rattle.plan.specs.Check.{ruleAllowed, planRefusal}
 abbrev pub tick : Record
 tick = record { piece = 0; material = 255; mass = 0 }
 
--- There is one.
+-- There is just one.
 abbrev pub OneTick : Type 0
-OneTick = (r : Record) → isTick r ≡ true → r ≡ tick
+OneTick = (isTick tick ≡ true) × ((r : Record) → isTick r ≡ true → r ≡ tick)
 
 -- Of the rules that a plan may have: a relabelled material is at most 15, and a cap at least 1.
 abbrev pub RulesLeaveTicks : Type 0

@@ -28,7 +28,7 @@ inVersionTwo s = planBytes (asVersion 2 (planOf s))
 abbrev pub AnyMass : Channel → Type 0
 AnyMass c = (c .least ≡ 0) × (c .greatest ≡ 65_535)
 
--- Such a channel takes what document 01 says, whatever a record weighs that is no tick (2026-05).
+-- Of records that are no ticks (2026-05) such a channel takes those that document 01 says, whatever they weigh.
 abbrev pub TakesAnyMass : Type 0
 TakesAnyMass = (c : Channel) (r : Record) → AnyMass c → isTick r ≡ false → r .mass ≤ 65_535 → takes c r ≡ (bitSet (c .mask) (r .material) && eqb (r .piece % c .modulus) (c .remainder))
 

@@ -1,4 +1,4 @@
-// A channel: read in place, and whether it takes a record (document 01, "A belt takes a record if .."; its window of masses and ticks, document 02, 2026-02 and 2026-05).
+// A channel: read in place, and whether it takes a record (document 01, "A belt takes a record if .."; document 02, 2026-02 for its window of masses, 2026-05 for ticks).
 ghost use mathlib.Core.Path.{_≡_};
 ghost use mathlib.Core.Bool.{cond};
 ghost use Prim.Native.Nat.{_+_, _%_, _<_};
@@ -31,14 +31,16 @@ fn left_over(piece: u32, modulus: u8) -> u32
     piece % (modulus as u32)
 }
 
-// Whether a channel takes a record, by its fields (records.rt says why).
+// Whether a channel takes a record, by its fields (records.rt says why); whether it is a tick is asked last.
 pub fn takes_fields(c: Channel, piece: u32, material: u8, mass: u16) -> bool
     ensures { λ t. ⌜ t ≡ takes c (record { piece = piece; material = material; mass = mass }) ⌝ }
 {
     let bit = bit_set(c.mask, material);
     let left = left_over(piece, c.modulus);
-    let window = (c.least <= mass) & (mass <= c.greatest);
-    records::is_tick(piece, material, mass) | (bit & (left == (c.remainder as u32)) & window)
+    if bit & (left == (c.remainder as u32)) & ((c.least <= mass) & (mass <= c.greatest)) {
+        return true;
+    }
+    records::is_tick(piece, material, mass)
 }
 
 // Whether a channel takes a record.

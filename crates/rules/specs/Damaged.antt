@@ -1,4 +1,4 @@
--- What makes a line damaged (document 01, "Damaged"; document 02, 2026-04): conditions of the line, of a node n and of a channel b, each by itself. What a line cannot spell is the layout's matter: unused bytes, counts past their limits, status and crash mark bytes that no node has, and in the stored plan its length and rule bytes that no rule has.
+-- What makes a line damaged (document 01, "Damaged"; document 02, 2026-04 and 2026-05): conditions of the line, of a node n and of a channel b, each by itself. What a line cannot spell is the layout's matter: unused bytes, counts past their limits, status and crash mark bytes that no node has, and in the stored plan its length and rule bytes that no rule has.
 use Prim.Native.Nat.{ℕ, suc, _^_}
 use mathlib.Core.Bool.{Bool, true, false, not, _&&_, _||_}
 use mathlib.Core.List.{List, [], _∷_, _++_, map}
@@ -41,7 +41,7 @@ misshapen l =
 abbrev pub workedOn : Node → List Entry
 workedOn x = x .log ++ map (entryAt 0) (x .held)
 
--- "a number is outside its limits": the steps of each console, the counts and the records.
+-- "a number is outside its limits": the steps of each console, the counts and the records, of which "the state check" lets a tick through (2026-05).
 unfoldable pub stepsPast : Line → Bool
 stepsPast l = anyOf (ltb stepLimit) (l .steps)
 

@@ -7,6 +7,7 @@ use lib.ListN.{replicate}
 use Rattle.plan.specs.declared.Record.{Record}
 use Rattle.plan.specs.declared.Rule.the-variants.{Keep}
 use Rattle.plan.specs.declared.Channel.{Channel}
+use Rattle.plan.specs.Ticks.{tick}
 use Rattle.rules.specs.Line.{Origin, fed, made, Message, Entry, Held, Target, Status, replay, Node, Lane, Line, freshNode, noLane, nodeAt, laneAt, withNode, withLane, withSteps, initialLine, onlyCount, acceptedSteps}
 use Rattle.rules.specs.Lists.{isEmpty, joined, upTo}
 use Rattle.rules.specs.Claim.{Story, startOf, storyFrom, told}
@@ -298,7 +299,7 @@ parts =
     ∷ trial (entryOf (record { piece = 4_294_967_296; material = 1; mass = 0 })) (4 ∷ [])
     ∷ trial (entryOf (record { piece = 1; material = 1; mass = 65_536 })) (4 ∷ [])
     -- 2026-05: a tick; material 255 with a piece, with a mass; material 254
-    ∷ trial (entryOf (record { piece = 0; material = 255; mass = 0 })) []
+    ∷ trial (entryOf tick) []
     ∷ trial (entryOf (record { piece = 1; material = 255; mass = 0 })) (4 ∷ [])
     ∷ trial (entryOf (record { piece = 0; material = 255; mass = 1 })) (4 ∷ [])
     ∷ trial (entryOf (record { piece = 0; material = 254; mass = 0 })) (4 ∷ [])

@@ -1,4 +1,4 @@
--- A step: the refusals 9 to 21 and 24 to 26 in their order, and the effect of each kind (document 01, "Clocks and steps", "Numbers returned"; document 02, 2026-01 and 2026-04).
+-- A step: the refusals 9 to 21 and 24 to 26 in their order, and the effect of each kind (document 01, "Clocks and steps", "Numbers returned"; document 02, 2026-01, 2026-04 and 2026-05).
 use Prim.Native.Nat.{ℕ}
 use mathlib.Core.Bool.{Bool, true, false, cond, not, _&&_, _||_}
 use mathlib.Core.List.{List, [], _∷_}
@@ -82,7 +82,7 @@ besideCrashed l (crash n) = neighbourCrashed l n
 besideCrashed l (recover n) = false
 besideCrashed l (trim n) = false
 
--- 17: "material over 15, zero byte not 0"
+-- 17: "material over 15, zero byte not 0"; a tick is let through (2026-05).
 abbrev pub badRecord : Frame → Bool
 badRecord (feed n r) = not (recordFits r)
 badRecord (send b) = false

@@ -1,7 +1,7 @@
 -- A channel that seldom takes a record holds floor times at 0; ticks raise them (2026-05), computed.
 use Prim.Native.Nat.{ℕ}
 use mathlib.Core.Path.{_≡_, refl}
-use mathlib.Core.Bool.{Bool, true, false}
+use mathlib.Core.Bool.{true, false}
 use mathlib.Core.List.{List, [], _∷_, _++_, map}
 use lib.ListN.{length, replicate}
 use Rattle.plan.specs.declared.Record.{Record}
@@ -12,12 +12,12 @@ use Rattle.rules.specs.Line.{Line, initialLine, nodeAt}
 use Rattle.rules.specs.Trim.{floorTime}
 use Rattle.rules.specs.Plain.{Receipt}
 use Rattle.rules.specs.Claim.{Story, startOf, storyFrom, told, receivedBy}
-use Rattle.rules.specs.Ticks.{Followed, Trace, traced, traceFrom, noTrace, lastSuch, fromEachSource, takenByAll}
+use Rattle.rules.specs.Ticks.{FollowedFrames, framesOf, Trace, traced, traceFrom, noTrace, lastFollowed, fromEachSource, takenByAll}
 use Rattle.rules.specs.Marked.{feedFrame, frame, moved, replayPlan, replayBegun}
 use Rattle.rules.specs.Examples.{chain}
 use Rattle.rules.specs.DamagedLines.{piece}
 
--- Nodes 0 and 1 send to 2, which sends to 3 all, and to 4 material 3 of mass 7 alone, of which a fourth piece.
+-- Nodes 0 and 1 send to 2, which sends all to 3, and to 4 every fourth piece, if it is of material 3 and mass 7.
 unfoldable pub seldom : List ℕ
 seldom =
     0 ∷ 65 ∷ 2 ∷ 5 ∷ 4 ∷ (replicate 20 0
@@ -28,28 +28,31 @@ unfolding seldom planRefusal
 accepted = refl
 
 -- Pieces of material 1 from both sources, all moved: node 4 has taken nothing.
-unfoldable pub quietBelt : Story
+unfoldable pub quietChannel : Story
 unfolding seldom planOf initialLine told
-quietBelt = storyFrom (startOf (initialLine (planOf seldom))) (feedFrame 0 1 1 ∷ feedFrame 1 2 1 ∷ (moved 0 ++ (moved 1 ++ (moved 2 ++ moved 2))))
+quietChannel = storyFrom (startOf (initialLine (planOf seldom))) (feedFrame 0 1 1 ∷ feedFrame 1 2 1 ∷ (moved 0 ++ (moved 1 ++ (moved 2 ++ moved 2))))
 
 -- A tick from each source, moved on; between them piece 4 comes, which is not moved on.
 abbrev tickFrame : ℕ → List ℕ
 tickFrame n = feedFrame n 0 255
 
-abbrev unfollowed : List (List ℕ) → Followed
+abbrev unfollowed : List (List ℕ) → FollowedFrames
 unfollowed fs = map (λ (f : List ℕ). (false, f)) fs
 
-abbrev ticking : Followed
-ticking = (true, tickFrame 0) ∷ (false, feedFrame 0 4 1) ∷ (true, tickFrame 1) ∷ unfollowed (moved 0 ++ (moved 1 ++ (moved 2 ++ (moved 2 ++ (moved 3 ++ moved 3)))))
+abbrev tickingUntil : List (List ℕ) → FollowedFrames
+tickingUntil end = (true, tickFrame 0) ∷ (false, feedFrame 0 4 1) ∷ (true, tickFrame 1) ∷ unfollowed (moved 0 ++ (moved 1 ++ (moved 2 ++ (moved 2 ++ (moved 3 ++ frame 2 3 ∷ end)))))
+
+abbrev ticking : FollowedFrames
+ticking = tickingUntil (frame 3 3 ∷ [])
 
 unfoldable pub ticked : Trace
-unfolding quietBelt traced
-ticked = traceFrom (noTrace (quietBelt .line)) ticking
+unfolding quietChannel traced
+ticked = traceFrom (noTrace (quietChannel .line)) ticking
 
 -- The same without the last Take.
 unfoldable pub early : Trace
-unfolding quietBelt traced
-early = traceFrom (noTrace (quietBelt .line)) ((true, tickFrame 0) ∷ (true, tickFrame 1) ∷ unfollowed (moved 0 ++ (moved 1 ++ (moved 2 ++ (moved 2 ++ (moved 3 ++ frame 2 3 ∷ []))))))
+unfolding quietChannel traced
+early = traceFrom (noTrace (quietChannel .line)) (tickingUntil [])
 
 abbrev receipt : ℕ → Record → ℕ → Receipt
 receipt receiver what sender = record { receiver = receiver; what = what; sender = sender }
@@ -57,9 +60,9 @@ receipt receiver what sender = record { receiver = receiver; what = what; sender
 abbrev nodes : List ℕ
 nodes = 0 ∷ 1 ∷ 2 ∷ 3 ∷ 4 ∷ []
 
--- No floor time of 0, 1 and 2 before: node 4's clock holds nothing.
-floors-before : map (floorTime (quietBelt .line)) nodes ≡ 0 ∷ 0 ∷ 0 ∷ 2 ∷ 0 ∷ []
-unfolding quietBelt floorTime
+-- Before the ticks the floor times of 0, 1 and 2 are 0, for node 4's clock holds nothing of them.
+floors-before : map (floorTime (quietChannel .line)) nodes ≡ 0 ∷ 0 ∷ 0 ∷ 2 ∷ 0 ∷ []
+unfolding quietChannel floorTime
 floors-before = refl
 
 premises : (ticked .crashes ≡ []) × ((fromEachSource (planOf seldom) ticked ≡ true) × (takenByAll (planOf seldom) ticked ≡ true))
@@ -74,7 +77,7 @@ floors-after : map (floorTime (ticked .line)) nodes ≡ 2 ∷ 2 ∷ 4 ∷ 4 ∷ 
 unfolding ticked floorTime
 floors-after = refl
 
-last-ones : map (lastSuch ticked) nodes ≡ 2 ∷ 2 ∷ 4 ∷ 4 ∷ 2 ∷ []
+last-ones : map (lastFollowed ticked) nodes ≡ 2 ∷ 2 ∷ 4 ∷ 4 ∷ 2 ∷ []
 unfolding ticked
 last-ones = refl
 
@@ -85,17 +88,17 @@ trims = map (frame 6) nodes
 abbrev logLengths : Line → List ℕ
 logLengths l = map (λ (n : ℕ). length (nodeAt l n .log)) nodes
 
-nothing-dropped : logLengths (quietBelt .line) ∷ logLengths (storyFrom quietBelt trims .line) ∷ [] ≡ (1 ∷ 1 ∷ 2 ∷ 2 ∷ 0 ∷ []) ∷ (1 ∷ 1 ∷ 2 ∷ 2 ∷ 0 ∷ []) ∷ []
-unfolding quietBelt told
+nothing-dropped : logLengths (quietChannel .line) ∷ logLengths (storyFrom quietChannel trims .line) ∷ [] ≡ (1 ∷ 1 ∷ 2 ∷ 2 ∷ 0 ∷ []) ∷ (1 ∷ 1 ∷ 2 ∷ 2 ∷ 0 ∷ []) ∷ []
+unfolding quietChannel told
 nothing-dropped = refl
 
-ticks-dropped : logLengths (ticked .line) ∷ logLengths (storyFrom (startOf (ticked .line)) trims .line) ∷ [] ≡ (3 ∷ 2 ∷ 4 ∷ 4 ∷ 2 ∷ []) ∷ (1 ∷ 0 ∷ 0 ∷ 0 ∷ 0 ∷ []) ∷ []
+all-but-one-dropped : logLengths (ticked .line) ∷ logLengths (storyFrom (startOf (ticked .line)) trims .line) ∷ [] ≡ (3 ∷ 2 ∷ 4 ∷ 4 ∷ 2 ∷ []) ∷ (1 ∷ 0 ∷ 0 ∷ 0 ∷ 0 ∷ []) ∷ []
 unfolding ticked told
-ticks-dropped = refl
+all-but-one-dropped = refl
 
--- "Ticks are received like other records and count in the order.": what node 2 and node 4 receive from the first tick on.
-received-there : map (λ (n : ℕ). receivedBy n (storyFrom quietBelt (map (λ (f : Bool × List ℕ). f .1) ticking) .receipts)) (2 ∷ 4 ∷ []) ≡ (receipt 2 (piece 1 1) 0 ∷ receipt 2 (piece 2 1) 1 ∷ receipt 2 tick 0 ∷ receipt 2 tick 1 ∷ []) ∷ (receipt 4 tick 2 ∷ receipt 4 tick 2 ∷ []) ∷ []
-unfolding quietBelt told
+-- "Ticks are received like other records and count in the order.": what nodes 2 and 4 have received at the end.
+received-there : map (λ (n : ℕ). receivedBy n (storyFrom quietChannel (framesOf ticking) .receipts)) (2 ∷ 4 ∷ []) ≡ (receipt 2 (piece 1 1) 0 ∷ receipt 2 (piece 2 1) 1 ∷ receipt 2 tick 0 ∷ receipt 2 tick 1 ∷ []) ∷ (receipt 4 tick 2 ∷ receipt 4 tick 2 ∷ []) ∷ []
+unfolding quietChannel told
 received-there = refl
 
 -- A tick on the chain, all taken; then node 2 crashes and is restored: node 2's clock holds nothing more for node 0. So "no crash" is wanted.
@@ -111,7 +114,7 @@ all-the-same : (fromEachSource chain crashedSince ≡ true) × (takenByAll chain
 unfolding chain crashedSince fromEachSource takenByAll
 all-the-same = (refl, refl)
 
-floor-gone : floorTime (crashedSince .line) 0 ∷ lastSuch crashedSince 0 ∷ [] ≡ 0 ∷ 1 ∷ []
+floor-gone : floorTime (crashedSince .line) 0 ∷ lastFollowed crashedSince 0 ∷ [] ≡ 0 ∷ 1 ∷ []
 unfolding crashedSince floorTime
 floor-gone = refl
 
@@ -130,6 +133,6 @@ floors-there : map (floorTime (tickedInReplay .line)) nodes ≡ 3 ∷ 2 ∷ 6 �
 unfolding tickedInReplay floorTime
 floors-there = refl
 
-last-there : map (lastSuch tickedInReplay) nodes ≡ 3 ∷ 2 ∷ 6 ∷ 3 ∷ 5 ∷ []
+last-there : map (lastFollowed tickedInReplay) nodes ≡ 3 ∷ 2 ∷ 6 ∷ 3 ∷ 5 ∷ []
 unfolding tickedInReplay
 last-there = refl

@@ -23,54 +23,58 @@ feedsTick (crash n) = false
 feedsTick (recover n) = false
 feedsTick (trim n) = false
 
--- "such message": one of the ticks that are followed, or a message made from one of them, at once or in turn. Its node, its time there, and what it was made from.
-pub record Such : Type 0 where
+-- "such message": one of "these ticks", or a message made from one of them, "at once or in turn". Its node, its time there, and what it was made from.
+pub record FollowedMessage : Type 0 where
   pub node : ℕ
   pub time : ℕ
   pub origin : Origin
 
--- One of them, taken: the channel, and its time.
-pub record Took : Type 0 where
+-- One that was taken: on which channel, and its time.
+pub record FollowedTake : Type 0 where
   pub channel : ℕ
   pub time : ℕ
 
 -- A run's frames, each with whether it is one of "these ticks".
-abbrev pub Followed : Type 0
-Followed = List (Bool × List ℕ)
+abbrev pub FollowedFrames : Type 0
+FollowedFrames = List (Bool × List ℕ)
 
--- What a run leaves: the line, such messages, those of them that were taken and on which channel, and the nodes that crashed.
+abbrev pub framesOf : FollowedFrames → List (List ℕ)
+framesOf [] = []
+framesOf ((follow, f) ∷ rest) = f ∷ framesOf rest
+
+-- What a run leaves: the line, the messages that are followed, those of them that were taken, and the nodes that crashed.
 pub record Trace : Type 0 where
   pub line : Line
-  pub such : List Such
-  pub took : List Took
+  pub followed : List FollowedMessage
+  pub took : List FollowedTake
   pub crashes : List ℕ
 
-abbrev pub isSuch : List Such → ℕ → ℕ → Bool
-isSuch ms n t = anyOf (λ (m : Such). eqb (m .node) n && eqb (m .time) t) ms
+abbrev pub isFollowed : List FollowedMessage → ℕ → ℕ → Bool
+isFollowed ms n t = anyOf (λ (m : FollowedMessage). eqb (m .node) n && eqb (m .time) t) ms
 
 -- The message that a node makes next.
-abbrev pub nextOf : Line → ℕ → Origin → Such
+abbrev pub nextOf : Line → ℕ → Origin → FollowedMessage
 nextOf l n o = record { node = n; time = suc (nodeAt l n .time); origin = o }
 
--- Such messages that an accepted frame makes: a followed tick, and what an up receiver makes of one that it takes. (A replaying node makes nothing at once; it takes no such message either, see `NoneInReplay`.)
-abbrev pub madeOf : Line → ℕ → List Such → List Message → List Such
+-- Those that an accepted frame makes: a tick that is to be followed, and what an up receiver makes of one that it takes. (A replaying node makes nothing at once; it takes none of them either, see `NoneInReplay`.)
+abbrev pub madeOf : Line → ℕ → List FollowedMessage → List Message → List FollowedMessage
 madeOf l b ms [] = []
-madeOf l b ms (m ∷ rest) = keepOne (isSuch ms (senderOf l b) (m .time) && isUp (nodeAt l (receiverOf l b) .status)) (nextOf l (receiverOf l b) (made (senderOf l b) (m .time))) []
+madeOf l b ms (m ∷ rest) = keepOne (isFollowed ms (senderOf l b) (m .time) && isUp (nodeAt l (receiverOf l b) .status)) (nextOf l (receiverOf l b) (made (senderOf l b) (m .time))) []
 
-abbrev pub newSuch : Bool → Line → List Such → Frame → List Such
-newSuch follow l ms (feed n r) = keepOne (follow && feedsTick (feed n r)) (nextOf l n fed) []
-newSuch follow l ms (send b) = []
-newSuch follow l ms (take b) = madeOf l b ms (laneAt l b .queue)
-newSuch follow l ms (crash n) = []
-newSuch follow l ms (recover n) = []
-newSuch follow l ms (trim n) = []
+abbrev pub newFollowed : Bool → Line → List FollowedMessage → Frame → List FollowedMessage
+newFollowed follow l ms (feed n r) = keepOne (follow && feedsTick (feed n r)) (nextOf l n fed) []
+newFollowed follow l ms (send b) = []
+newFollowed follow l ms (take b) = madeOf l b ms (laneAt l b .queue)
+newFollowed follow l ms (crash n) = []
+newFollowed follow l ms (recover n) = []
+newFollowed follow l ms (trim n) = []
 
 -- "has been taken": each Take answered 0 takes the first message on the channel in the state passed.
-abbrev pub tookFirst : Line → ℕ → List Such → List Message → List Took
+abbrev pub tookFirst : Line → ℕ → List FollowedMessage → List Message → List FollowedTake
 tookFirst l b ms [] = []
-tookFirst l b ms (m ∷ rest) = keepOne (isSuch ms (senderOf l b) (m .time)) (record { channel = b; time = m .time }) []
+tookFirst l b ms (m ∷ rest) = keepOne (isFollowed ms (senderOf l b) (m .time)) (record { channel = b; time = m .time }) []
 
-abbrev pub newTook : Line → List Such → Frame → List Took
+abbrev pub newTook : Line → List FollowedMessage → Frame → List FollowedTake
 newTook l ms (feed n r) = []
 newTook l ms (send b) = []
 newTook l ms (take b) = tookFirst l b ms (laneAt l b .queue)
@@ -83,8 +87,8 @@ abbrev pub onward : Trace → Bool × List ℕ → ℕ → Line → Trace
 onward t (follow, f) number left =
     record {
       line = left;
-      such = t .such ++ ifZero number (newSuch follow (t .line) (t .such) (frameOf f));
-      took = t .took ++ ifZero number (newTook (t .line) (t .such) (frameOf f));
+      followed = t .followed ++ ifZero number (newFollowed follow (t .line) (t .followed) (frameOf f));
+      took = t .took ++ ifZero number (newTook (t .line) (t .followed) (frameOf f));
       crashes = t .crashes ++ ifZero number (crashOf (frameOf f));
     }
 
@@ -92,48 +96,48 @@ unfoldable pub traced : Trace → Bool × List ℕ → Trace
 unfolding step frameOf recordLayout
 traced t (follow, f) = let a = step (t .line) f in onward t (follow, f) (a .number) (a .line)
 
-abbrev pub traceFrom : Trace → Followed → Trace
+abbrev pub traceFrom : Trace → FollowedFrames → Trace
 traceFrom t [] = t
 traceFrom t (f ∷ fs) = traceFrom (traced t f) fs
 
 abbrev pub noTrace : Line → Trace
-noTrace l = record { line = l; such = []; took = []; crashes = [] }
+noTrace l = record { line = l; followed = []; took = []; crashes = [] }
 
--- Some such message is a node's; and the time of its last, times rising from one message to the next.
-abbrev pub someSuch : Trace → ℕ → Bool
-someSuch t n = anyOf (λ (m : Such). eqb (m .node) n) (t .such)
+-- Whether a node has made one; and the time of "its node's last", times rising from one message to the next.
+abbrev pub someFollowed : Trace → ℕ → Bool
+someFollowed t n = anyOf (λ (m : FollowedMessage). eqb (m .node) n) (t .followed)
 
-abbrev pub lastSuch : Trace → ℕ → ℕ
-lastSuch t n = greatestOf (map (λ (m : Such). m .time) (keep (λ (m : Such). eqb (m .node) n) (t .such)))
+abbrev pub lastFollowed : Trace → ℕ → ℕ
+lastFollowed t n = greatestOf (map (λ (m : FollowedMessage). m .time) (keep (λ (m : FollowedMessage). eqb (m .node) n) (t .followed)))
 
--- "a tick from each infeed": such a message of a source's is a tick that was fed to it.
+-- "a tick from each infeed": what is followed of a source's is a tick that was fed to it.
 unfoldable pub fromEachSource : Plan → Trace → Bool
 unfolding isSource
-fromEachSource p t = allOf (λ (n : ℕ). not (isSource p n) || someSuch t n) (upTo 0 (nodeCount p))
+fromEachSource p t = allOf (λ (n : ℕ). not (isSource p n) || someFollowed t n) (upTo 0 (nodeCount p))
 
 -- "has been taken by all receivers": on every channel that leaves its node, each of which takes a tick.
 unfoldable pub takenByAll : Plan → Trace → Bool
 unfolding leaving
-takenByAll p t = allOf (λ (m : Such). allOf (λ (b : ℕ). anyOf (λ (o : Took). eqb (o .channel) b && eqb (o .time) (m .time)) (t .took)) (leaving p (m .node))) (t .such)
+takenByAll p t = allOf (λ (m : FollowedMessage). allOf (λ (b : ℕ). anyOf (λ (o : FollowedTake). eqb (o .channel) b && eqb (o .time) (m .time)) (t .took)) (leaving p (m .node))) (t .followed)
 
--- The promise at a trace's end. That every node has such a message is part of it.
+-- The promise at a trace's end. That every node has made one is part of it.
 abbrev pub FloorsReached : Plan → Trace → Type 0
 FloorsReached p t =
     t .crashes ≡ [] → fromEachSource p t ≡ true → takenByAll p t ≡ true
-    → (n : ℕ) → n < nodeCount p → (someSuch t n ≡ true) × (lastSuch t n ≤ floorTime (t .line) n)
+    → (n : ℕ) → n < nodeCount p → (someFollowed t n ≡ true) × (lastFollowed t n ≤ floorTime (t .line) n)
 
 -- Of every accepted plan: after any frames, crashes among them, and then any frames some of which are followed.
 abbrev pub FloorsRise : Type 0
 FloorsRise =
-    (plan : List ℕ) (before : List (List ℕ)) (frames : Followed) → planRefusal plan ≡ 0
+    (plan : List ℕ) (before : List (List ℕ)) (frames : FollowedFrames) → planRefusal plan ≡ 0
     → FloorsReached (planOf plan) (traceFrom (noTrace (storyFrom (startOf (initialLine (planOf plan))) before .line)) frames)
 
--- A frame that is a replaying node's Take takes no such message.
+-- A frame that is a replaying node's Take takes none of them.
 abbrev pub NoneTaken : Trace → Frame → Type 0
-NoneTaken t f = (b : ℕ) → f ≡ take b → nodeAt (t .line) (receiverOf (t .line) b) .status ≡ replay → newTook (t .line) (t .such) f ≡ []
+NoneTaken t f = (b : ℕ) → f ≡ take b → nodeAt (t .line) (receiverOf (t .line) b) .status ≡ replay → newTook (t .line) (t .followed) f ≡ []
 
 -- So a trace misses nothing that the end of a replay makes: of the next accepted frame, whatever it is.
 abbrev pub NoneInReplay : Type 0
 NoneInReplay =
-    (plan : List ℕ) (before : List (List ℕ)) (frames : Followed) → planRefusal plan ≡ 0
+    (plan : List ℕ) (before : List (List ℕ)) (frames : FollowedFrames) → planRefusal plan ≡ 0
     → (let t = traceFrom (noTrace (storyFrom (startOf (initialLine (planOf plan))) before .line)) frames in t .crashes ≡ [] → (f : List ℕ) → step (t .line) f .number ≡ 0 → NoneTaken t (frameOf f))

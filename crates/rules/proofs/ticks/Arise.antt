@@ -1,4 +1,4 @@
--- New such messages: what is known of a line makes the facts hold of the next message of a node, and of one that is taken.
+-- New messages that are followed: what is known of a line makes the facts hold of the next message of a node, and of one that is taken.
 use Prim.Native.Nat.{ℕ, max, _<_, _≤_}
 use mathlib.Core.Path.{_≡_, refl, sym, ap, subst, _∙_}
 use mathlib.Core.Logic.{inl, inr}
@@ -24,7 +24,7 @@ use Rattle.rules.specs.Recover.{rowGoal}
 use Rattle.rules.specs.Step.{madeBy, takenLane, takenUp, takenReplaying, fedLine, effect, refusal, accepted, step}
 use Rattle.rules.specs.Plain.{Act}
 use Rattle.rules.specs.Claim.{crashOf}
-use Rattle.rules.specs.Ticks.{feedsTick, Such, Took, isSuch, nextOf, madeOf, newSuch, tookFirst, newTook}
+use Rattle.rules.specs.Ticks.{feedsTick, FollowedMessage, FollowedTake, isFollowed, nextOf, madeOf, newFollowed, tookFirst, newTook}
 use Rattle.rules.proofs.lists.Rising.{past}
 use Rattle.rules.proofs.lists.Members.{In, here, in-none, in-first, in-keep, keep-in, in-map, map-in, in-right, append-in, any-in, within-in}
 use Rattle.rules.proofs.lists.ListLaws.{nil-right}
@@ -175,25 +175,25 @@ module _ (l : Line) (known : Known l) where
     unfolding parents
     parent-of a v e = subst (λ (x : ℕ). In x (parents (l .plan) r)) (made-parts e .0) (in-map (λ (c : ℕ). channelAt (l .plan) c .sender) (in-entering (l .plan) r b (can .here) refl))
 
-    module _ (such : List Such) (took : List Took) (shaped : Shaped (l .plan) l) (holds : Holds (l .plan) l such took) where
-      abbrev new : Such
+    module _ (followed : List FollowedMessage) (took : List FollowedTake) (shaped : Shaped (l .plan) l) (holds : Holds (l .plan) l followed took) where
+      abbrev new : FollowedMessage
       new = nextOf l (channelAt (l .plan) b .receiver) (made (channelAt (l .plan) b .sender) (can .message .time))
 
       -- The one of them that the message is.
-      which : isSuch such s (m .time) ≡ true → (x : Such) × In x such × (x .node ≡ s) × (x .time ≡ m .time)
+      which : isFollowed followed s (m .time) ≡ true → (x : FollowedMessage) × In x followed × (x .node ≡ s) × (x .time ≡ m .time)
       which e =
-          let (x, i, q) = any-in (λ (y : Such). eqb (y .node) s && eqb (y .time) (m .time)) such e in
+          let (x, i, q) = any-in (λ (y : FollowedMessage). eqb (y .node) s && eqb (y .time) (m .time)) followed e in
           let (n, t) = both-true (eqb (x .node) s) (eqb (x .time) (m .time)) q in
           (x, i, eqb-true (x .node) s n, eqb-true (x .time) (m .time) t)
 
       -- A replaying node takes none of them.
-      pub none-again : nodeAt l (channelAt (l .plan) b .receiver) .status ≡ replay → isSuch such (channelAt (l .plan) b .sender) (can .message .time) ≡ true → ⊥
+      pub none-again : nodeAt l (channelAt (l .plan) b .receiver) .status ≡ replay → isFollowed followed (channelAt (l .plan) b .sender) (can .message .time) ≡ true → ⊥
       none-again again e =
           let (x, i, n, t) = which e in
           let late = holds .made-ones x i .alive .past-goal b (can .here, sym n) again in
           omega (arith, late, below-goal again, t, ap (rowGoal (nodeAt l r .targets)) n)
 
-      heard-of : (y : Such) → In y such → y .node ≡ s → y .time ≡ m .time → (a v : ℕ) → y .origin ≡ made a v → v ≤ entryFor a (parents (l .plan) s) (raiseHeard (parents (l .plan) s) (laneAt l b .heard) (m .origin))
+      heard-of : (y : FollowedMessage) → In y followed → y .node ≡ s → y .time ≡ m .time → (a v : ℕ) → y .origin ≡ made a v → v ≤ entryFor a (parents (l .plan) s) (raiseHeard (parents (l .plan) s) (laneAt l b .heard) (m .origin))
       heard-of y i n t a v made-of =
           let (e, j, q, is) = first-logged in
           let alive = holds .made-ones y i .alive in
@@ -202,8 +202,8 @@ module _ (l : Line) (known : Known l) where
           subst (λ (o : Origin). v ≤ entryFor a (parents (l .plan) s) (raiseHeard (parents (l .plan) s) (laneAt l b .heard) o)) (sym origin)
           (raise-holds a v (parents (l .plan) s) (laneAt l b .heard) (subst (λ (x : ℕ). In a (parents (l .plan) x)) n (alive .parent a v made-of)) (shaped b (rw (inv .shape .lanes-long) (can .here))))
 
-      received-new : isSuch such s (m .time) ≡ true → isUp l r → (k : Line) → Ahead (l .plan) l k → laneAt k b ≡ takenFrom (parents (l .plan) s) m (can .rest) (laneAt l b)
-          → Received (l .plan) k (such ++ nextOf l (channelAt (l .plan) b .receiver) (made (channelAt (l .plan) b .sender) (can .message .time)) ∷ []) (record { channel = b; time = m .time })
+      received-new : isFollowed followed s (m .time) ≡ true → isUp l r → (k : Line) → Ahead (l .plan) l k → laneAt k b ≡ takenFrom (parents (l .plan) s) m (can .rest) (laneAt l b)
+          → Received (l .plan) k (followed ++ nextOf l (channelAt (l .plan) b .receiver) (made (channelAt (l .plan) b .sender) (can .message .time)) ∷ []) (record { channel = b; time = m .time })
       unfolding takenFrom
       received-new e alive k ahead lane =
           let (x, i, n, t) = which e in
@@ -215,63 +215,63 @@ module _ (l : Line) (known : Known l) where
             sender-up = ahead .ups s sends;
             sent = omega (arith, old, t, rise, ap (λ (y : ℕ). nodeAt l y .time) n);
             entry = omega (arith, ap (λ (y : Lane). y .taken) lane);
-            makes = (new, in-right such here, refl, refl);
-            heard = λ y j node time a v made-of. elim (append-in such j) [
+            makes = (new, in-right followed here, refl, refl);
+            heard = λ y j node time a v made-of. elim (append-in followed j) [
               | inl h ↦ (let v-heard = heard-of y h node time a v made-of in omega (arith, v-heard, ap (λ (z : Lane). entryFor a (parents (l .plan) s) (z .heard)) lane))
               | inr h ↦ elim (in-first h) [
-                | inl q ↦ absurd (let no : ⊥ = omega (arith, inv .ordered .forward b (can .here), ap (λ (z : Such). z .node) q, node) in no)
+                | inl q ↦ absurd (let no : ⊥ = omega (arith, inv .ordered .forward b (can .here), ap (λ (z : FollowedMessage). z .node) q, node) in no)
                 | inr z ↦ absurd (in-none z)
               ]
             ];
           }
 
-      one-more : isSuch such s (m .time) ≡ true → isUp l r → (k : Line) → Ahead (l .plan) l k → k ≡ takenUp b m (takenLane b m (can .rest) l)
-          → Holds (l .plan) k (such ++ nextOf l (channelAt (l .plan) b .receiver) (made (channelAt (l .plan) b .sender) (can .message .time)) ∷ []) (took ++ record { channel = b; time = can .message .time } ∷ [])
+      one-more : isFollowed followed s (m .time) ≡ true → isUp l r → (k : Line) → Ahead (l .plan) l k → k ≡ takenUp b m (takenLane b m (can .rest) l)
+          → Holds (l .plan) k (followed ++ nextOf l (channelAt (l .plan) b .receiver) (made (channelAt (l .plan) b .sender) (can .message .time)) ∷ []) (took ++ record { channel = b; time = can .message .time } ∷ [])
       unfolding takenUp takenLane withLane withNode
       one-more e alive k ahead is =
           let lane = takenFrom (parents (l .plan) s) m (can .rest) (laneAt l b) in
           let below = withLane b lane l in
           let there : nodeAt k r ≡ logged (madeBy l r (m .what)) (made s (m .time)) (m .origin) (nodeAt l r) = ap (λ (x : Line). nodeAt x r) is ∙ node-there r _ below (rw (inv .shape .nodes-long) (inv .ordered .inside b (can .here))) in
           let on : laneAt k b ≡ lane = ap (λ (x : Line). laneAt x b) is ∙ lane-there b lane l (rw (inv .shape .lanes-long) (can .here)) in
-          holds-more (l .plan) l k such (new ∷ []) took (record { channel = b; time = m .time } ∷ []) ahead holds
+          holds-more (l .plan) l k followed (new ∷ []) took (record { channel = b; time = m .time } ∷ []) ahead holds
           (λ x i. elim (in-first i) [
-            | inl q ↦ subst (λ (y : Such). Standing (l .plan) k y × (nodeAt l (y .node) .time < y .time)) (sym q) (new-standing k ahead r (madeBy l r (m .what)) (made s (m .time)) (m .origin) alive parent-of there, omega arith)
+            | inl q ↦ subst (λ (y : FollowedMessage). Standing (l .plan) k y × (nodeAt l (y .node) .time < y .time)) (sym q) (new-standing k ahead r (madeBy l r (m .what)) (made s (m .time)) (m .origin) alive parent-of there, omega arith)
             | inr z ↦ absurd (in-none z)
           ])
-          (λ o i. elim (in-first i) [ inl q ↦ subst (Received (l .plan) k (such ++ new ∷ [])) (sym q) (received-new e alive k ahead on) | inr z ↦ absurd (in-none z) ])
+          (λ o i. elim (in-first i) [ inl q ↦ subst (Received (l .plan) k (followed ++ new ∷ [])) (sym q) (received-new e alive k ahead on) | inr z ↦ absurd (in-none z) ])
 
-  module _ (such : List Such) (took : List Took) (shaped : Shaped (l .plan) l) (holds : Holds (l .plan) l such took) where
-    none-new : (k : Line) → Ahead (l .plan) l k → Holds (l .plan) k (such ++ []) (took ++ [])
-    none-new k ahead = holds-more (l .plan) l k such [] took [] ahead holds (λ x i. absurd (in-none i)) (λ o i. absurd (in-none i))
+  module _ (followed : List FollowedMessage) (took : List FollowedTake) (shaped : Shaped (l .plan) l) (holds : Holds (l .plan) l followed took) where
+    none-new : (k : Line) → Ahead (l .plan) l k → Holds (l .plan) k (followed ++ []) (took ++ [])
+    none-new k ahead = holds-more (l .plan) l k followed [] took [] ahead holds (λ x i. absurd (in-none i)) (λ o i. absurd (in-none i))
 
-    take-holds : (b : ℕ) → CanTake l b → (k : Line) → Ahead (l .plan) l k → effect l (take b) ≡ some k → Holds (l .plan) k (such ++ madeOf l b such (laneAt l b .queue)) (took ++ tookFirst l b such (laneAt l b .queue))
+    take-holds : (b : ℕ) → CanTake l b → (k : Line) → Ahead (l .plan) l k → effect l (take b) ≡ some k → Holds (l .plan) k (followed ++ madeOf l b followed (laneAt l b .queue)) (took ++ tookFirst l b followed (laneAt l b .queue))
     take-holds b can k ahead e =
-        subst (λ (q : List Message). Holds (l .plan) k (such ++ madeOf l b such q) (took ++ tookFirst l b such q)) (sym (can .first)) (go (isSuch such (senderOf l b) (can .message .time)) (line.isUp (nodeAt l (receiverOf l b) .status)) refl refl)
+        subst (λ (q : List Message). Holds (l .plan) k (followed ++ madeOf l b followed q) (took ++ tookFirst l b followed q)) (sym (can .first)) (go (isFollowed followed (senderOf l b) (can .message .time)) (line.isUp (nodeAt l (receiverOf l b) .status)) refl refl)
       where
-        go : (t u : Bool) → isSuch such (senderOf l b) (can .message .time) ≡ t → line.isUp (nodeAt l (receiverOf l b) .status) ≡ u
-            → Holds (l .plan) k (such ++ keepOne (t && u) (nextOf l (receiverOf l b) (made (senderOf l b) (can .message .time))) []) (took ++ keepOne t (record { channel = b; time = can .message .time }) [])
+        go : (t u : Bool) → isFollowed followed (senderOf l b) (can .message .time) ≡ t → line.isUp (nodeAt l (receiverOf l b) .status) ≡ u
+            → Holds (l .plan) k (followed ++ keepOne (t && u) (nextOf l (receiverOf l b) (made (senderOf l b) (can .message .time))) []) (took ++ keepOne t (record { channel = b; time = can .message .time }) [])
         go false u q w = none-new k ahead
         go true true q w =
             let alive = status-up (nodeAt l (receiverOf l b) .status) w in
-            one-more b can such took shaped holds q alive k ahead (some-same (sym e ∙ taken-is l ghost cut base acts receipts crashes inv b can alive))
+            one-more b can followed took shaped holds q alive k ahead (some-same (sym e ∙ taken-is l ghost cut base acts receipts crashes inv b can alive))
         go true false q w = elim (up-or-replay (nodeAt l (receiverOf l b) .status) (can .receiver)) [
           | inl alive ↦ absurd (true≢false (sym (ap line.isUp alive) ∙ w))
-          | inr again ↦ absurd (none-again b can such took shaped holds again q)
+          | inr again ↦ absurd (none-again b can followed took shaped holds again q)
         ]
 
-    feed-holds : (n : ℕ) (f : List ℕ) → isUp l n → n < nodeCount (l .plan) → (k : Line) → Ahead (l .plan) l k → k ≡ fedLine n f l → (t : Bool) → Holds (l .plan) k (such ++ keepOne t (nextOf l n fed) []) (took ++ [])
+    feed-holds : (n : ℕ) (f : List ℕ) → isUp l n → n < nodeCount (l .plan) → (k : Line) → Ahead (l .plan) l k → k ≡ fedLine n f l → (t : Bool) → Holds (l .plan) k (followed ++ keepOne t (nextOf l n fed) []) (took ++ [])
     unfolding fedLine
     feed-holds n f alive inside k ahead is false = none-new k ahead
     feed-holds n f alive inside k ahead is true =
-        holds-more (l .plan) l k such (nextOf l n fed ∷ []) took [] ahead holds
+        holds-more (l .plan) l k followed (nextOf l n fed ∷ []) took [] ahead holds
         (λ x i. elim (in-first i) [
-          | inl q ↦ subst (λ (y : Such). Standing (l .plan) k y × (nodeAt l (y .node) .time < y .time)) (sym q)
+          | inl q ↦ subst (λ (y : FollowedMessage). Standing (l .plan) k y × (nodeAt l (y .node) .time < y .time)) (sym q)
               (new-standing k ahead n (madeBy l n (recordLayout .read f)) fed fed alive (λ a v z. fed-not-made z) (ap (λ (x : Line). nodeAt x n) is ∙ node-there n _ l (rw (inv .shape .nodes-long) inside)), omega arith)
           | inr z ↦ absurd (in-none z)
         ])
         (λ o i. absurd (in-none i))
 
-    effect-holds : {c : ℕ} (follow : Bool) (f : Frame) → Passed l c f → (k : Line) → Ahead (l .plan) l k → effect l f ≡ some k → Holds (l .plan) k (such ++ newSuch follow l such f) (took ++ newTook l such f)
+    effect-holds : {c : ℕ} (follow : Bool) (f : Frame) → Passed l c f → (k : Line) → Ahead (l .plan) l k → effect l f ≡ some k → Holds (l .plan) k (followed ++ newFollowed follow l followed f) (took ++ newTook l followed f)
     unfolding effect
     effect-holds follow (feed n r) p k ahead e = feed-holds n r (source-up (inv .marks) n (can-feed p .source)) (can-feed p .here) k ahead (sym (some-same e)) (follow && feedsTick (feed n r))
     effect-holds follow (send b) p k ahead e = none-new k ahead
@@ -285,20 +285,20 @@ counted-ahead : (p : Plan) (c : ℕ) (l k : Line) → Ahead p l k → Ahead p l 
 unfolding counted
 counted-ahead p c l k a = record { ups = a .ups; times = a .times; logs = a .logs; lanes = a .lanes; downs = a .downs; names = a .names; replays = a .replays }
 
-pub holds-on : (p : Plan) (l k : Line) (such : List Such) (took : List Took) → Ahead p l k → Holds p l such took → Holds p k such took
-holds-on p l k such took ahead was =
+pub holds-on : (p : Plan) (l k : Line) (followed : List FollowedMessage) (took : List FollowedTake) → Ahead p l k → Holds p l followed took → Holds p k followed took
+holds-on p l k followed took ahead was =
     record {
       made-ones = λ m i. standing-kept p l k m ahead (was .made-ones m i);
-      taken-ones = λ o i. subst (λ (xs : List Such). Received p k xs o) (nil-right such) (received-kept p l k such [] o ahead (λ m j. absurd (in-none j)) (was .taken-ones o i));
+      taken-ones = λ o i. subst (λ (xs : List FollowedMessage). Received p k xs o) (nil-right followed) (received-kept p l k followed [] o ahead (λ m j. absurd (in-none j)) (was .taken-ones o i));
     }
 
 -- An accepted frame that is no Crash.
-pub step-holds : (l : Line) → Known l → (such : List Such) (took : List Took) → Shaped (l .plan) l → Holds (l .plan) l such took → (follow : Bool) (f : List ℕ) → refusal l f ≡ 0 → crashOf (frameOf f) ≡ []
-    → Holds (l .plan) (step l f .line) (such ++ newSuch follow l such (frameOf f)) (took ++ newTook l such (frameOf f))
-step-holds l known such took shaped holds follow f e quiet =
+pub step-holds : (l : Line) → Known l → (followed : List FollowedMessage) (took : List FollowedTake) → Shaped (l .plan) l → Holds (l .plan) l followed took → (follow : Bool) (f : List ℕ) → refusal l f ≡ 0 → crashOf (frameOf f) ≡ []
+    → Holds (l .plan) (step l f .line) (followed ++ newFollowed follow l followed (frameOf f)) (took ++ newTook l followed (frameOf f))
+step-holds l known followed took shaped holds follow f e quiet =
     let p = passed l f e in
     let k = p .next in
     let ahead = effect-ahead l known (frameOf f) p quiet k (p .leads) in
-    let after = effect-holds l known such took shaped holds follow (frameOf f) p k ahead (p .leads) in
-    subst (λ (x : Line). Holds (l .plan) x (such ++ newSuch follow l such (frameOf f)) (took ++ newTook l such (frameOf f))) (sym (step-accepted l f e .1 ∙ ap (accepted (frameConsole f) l) (p .leads)))
-    (holds-on (l .plan) k (counted (frameConsole f) k) (such ++ newSuch follow l such (frameOf f)) (took ++ newTook l such (frameOf f)) (counted-ahead (l .plan) (frameConsole f) k k (stands (l .plan) k)) after)
+    let after = effect-holds l known followed took shaped holds follow (frameOf f) p k ahead (p .leads) in
+    subst (λ (x : Line). Holds (l .plan) x (followed ++ newFollowed follow l followed (frameOf f)) (took ++ newTook l followed (frameOf f))) (sym (step-accepted l f e .1 ∙ ap (accepted (frameConsole f) l) (p .leads)))
+    (holds-on (l .plan) k (counted (frameConsole f) k) (followed ++ newFollowed follow l followed (frameOf f)) (took ++ newTook l followed (frameOf f)) (counted-ahead (l .plan) (frameConsole f) k k (stands (l .plan) k)) after)

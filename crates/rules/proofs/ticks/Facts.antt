@@ -1,4 +1,4 @@
--- What is kept of such messages and of those taken, step by step.
+-- What is kept of the messages that are followed and of those taken, step by step.
 use Prim.Native.Nat.{ℕ, _<_, _≤_}
 use mathlib.Core.Path.{_≡_, sym, ap, subst, _∙_}
 use mathlib.Core.Logic.{_⊎_, inl, inr}
@@ -13,13 +13,13 @@ use Rattle.rules.specs.Lists.{keep}
 use Rattle.rules.specs.Line.{made, Entry, Target, down, replay, Line, nodeAt, laneAt, parents}
 use Rattle.rules.specs.Clock.{entryFor}
 use Rattle.rules.specs.Recover.{rowGoal}
-use Rattle.rules.specs.Ticks.{Such, Took}
+use Rattle.rules.specs.Ticks.{FollowedMessage, FollowedTake}
 use Rattle.rules.proofs.lists.Members.{In, keep-in, map-in, append-in, in-left, greatest-in}
 use Rattle.rules.proofs.invariant.Inv.{isUp, Leaves}
 use Rattle.rules.proofs.ticks.Ahead.{Ahead}
 
--- Of a such message, while a line runs on: its node is up, what the node logged at its time has its origin, and no child that is not up will be restored as far as it.
-pub record Alive (p : Plan) (l : Line) (m : Such) : Type 0 where
+-- Of such a message, while a line runs on: its node is up, what the node logged at its time has its origin, and no child that is not up will be restored as far as it.
+pub record Alive (p : Plan) (l : Line) (m : FollowedMessage) : Type 0 where
   pub is-up : isUp l (m .node)
   pub some-time : 0 < m .time
   pub parent : (a v : ℕ) → m .origin ≡ made a v → In a (parents p (m .node))
@@ -41,7 +41,7 @@ goal-below ts n t some each =
     ]
 
 -- It is kept, where what the node logs anew does not have its time, or has its origin.
-pub alive-kept : (p : Plan) (l k : Line) (m : Such) → Ahead p l k → ((e : Entry) → In e (nodeAt k (m .node) .log) → In e (nodeAt l (m .node) .log) ⊎ (e .time ≡ m .time → e .origin ≡ m .origin)) → Alive p l m → Alive p k m
+pub alive-kept : (p : Plan) (l k : Line) (m : FollowedMessage) → Ahead p l k → ((e : Entry) → In e (nodeAt k (m .node) .log) → In e (nodeAt l (m .node) .log) ⊎ (e .time ≡ m .time → e .origin ≡ m .origin)) → Alive p l m → Alive p k m
 alive-kept p l k m ahead logs was =
     record {
       is-up = ahead .ups (m .node) (was .is-up);
@@ -57,12 +57,12 @@ alive-kept p l k m ahead logs was =
           ];
     }
 
--- Such a message that was made before: its time is not past its node's.
-pub record Standing (p : Plan) (l : Line) (m : Such) : Type 0 where
+-- FollowedMessage a message that was made before: its time is not past its node's.
+pub record Standing (p : Plan) (l : Line) (m : FollowedMessage) : Type 0 where
   pub alive : Alive p l m
   pub in-time : m .time ≤ nodeAt l (m .node) .time
 
-pub standing-kept : (p : Plan) (l k : Line) (m : Such) → Ahead p l k → Standing p l m → Standing p k m
+pub standing-kept : (p : Plan) (l k : Line) (m : FollowedMessage) → Ahead p l k → Standing p l m → Standing p k m
 standing-kept p l k m ahead was =
     let up = was .alive .is-up in
     let rise = ahead .times (m .node) up in
@@ -72,18 +72,18 @@ standing-kept p l k m ahead was =
     }
 
 -- Of one that was taken: both ends are up, the receiver's clock holds its time and what it was made from, and the receiver made one from it.
-pub record Received (p : Plan) (l : Line) (such : List Such) (o : Took) : Type 0 where
+pub record Received (p : Plan) (l : Line) (followed : List FollowedMessage) (o : FollowedTake) : Type 0 where
   pub on-plan : o .channel < channelCount p
   pub receiver-up : isUp l (channelAt p (o .channel) .receiver)
   pub sender-up : isUp l (channelAt p (o .channel) .sender)
   pub sent : o .time ≤ nodeAt l (channelAt p (o .channel) .sender) .time
   pub entry : o .time ≤ laneAt l (o .channel) .taken
-  pub makes : (m : Such) × In m such × (m .node ≡ channelAt p (o .channel) .receiver) × (m .origin ≡ made (channelAt p (o .channel) .sender) (o .time))
-  pub heard : (m : Such) → In m such → m .node ≡ channelAt p (o .channel) .sender → m .time ≡ o .time → (a v : ℕ) → m .origin ≡ made a v → v ≤ entryFor a (parents p (channelAt p (o .channel) .sender)) (laneAt l (o .channel) .heard)
+  pub makes : (m : FollowedMessage) × In m followed × (m .node ≡ channelAt p (o .channel) .receiver) × (m .origin ≡ made (channelAt p (o .channel) .sender) (o .time))
+  pub heard : (m : FollowedMessage) → In m followed → m .node ≡ channelAt p (o .channel) .sender → m .time ≡ o .time → (a v : ℕ) → m .origin ≡ made a v → v ≤ entryFor a (parents p (channelAt p (o .channel) .sender)) (laneAt l (o .channel) .heard)
 
 -- New ones have later times than those of their nodes before.
-pub received-kept : (p : Plan) (l k : Line) (such new : List Such) (o : Took) → Ahead p l k → ((m : Such) → In m new → nodeAt l (m .node) .time < m .time) → Received p l such o → Received p k (such ++ new) o
-received-kept p l k such new o ahead late was =
+pub received-kept : (p : Plan) (l k : Line) (followed new : List FollowedMessage) (o : FollowedTake) → Ahead p l k → ((m : FollowedMessage) → In m new → nodeAt l (m .node) .time < m .time) → Received p l followed o → Received p k (followed ++ new) o
+received-kept p l k followed new o ahead late was =
     let lanes = ahead .lanes (o .channel) (was .on-plan) (was .receiver-up) in
     let rise = ahead .times (channelAt p (o .channel) .sender) (was .sender-up) in
     let (m, i, n, q) = was .makes in
@@ -94,21 +94,21 @@ received-kept p l k such new o ahead late was =
       sent = omega (arith, rise, was .sent);
       entry = omega (arith, lanes .0, was .entry);
       makes = (m, in-left new i, n, q);
-      heard = λ x j node time a v made-of. elim (append-in such j) [
+      heard = λ x j node time a v made-of. elim (append-in followed j) [
         | inl h ↦ (let old = was .heard x h node time a v made-of in omega (arith, lanes .1 a, old))
         | inr h ↦ absurd (let after = late x h in let no : ⊥ = omega (arith, after, time, was .sent, ap (λ (y : ℕ). nodeAt l y .time) node) in no)
       ];
     }
 
-pub record Holds (p : Plan) (l : Line) (such : List Such) (took : List Took) : Type 0 where
-  pub made-ones : (m : Such) → In m such → Standing p l m
-  pub taken-ones : (o : Took) → In o took → Received p l such o
+pub record Holds (p : Plan) (l : Line) (followed : List FollowedMessage) (took : List FollowedTake) : Type 0 where
+  pub made-ones : (m : FollowedMessage) → In m followed → Standing p l m
+  pub taken-ones : (o : FollowedTake) → In o took → Received p l followed o
 
 -- One step on, with new ones.
-pub holds-more : (p : Plan) (l k : Line) (such new : List Such) (took more : List Took) → Ahead p l k → Holds p l such took
-    → ((m : Such) → In m new → Standing p k m × (nodeAt l (m .node) .time < m .time)) → ((o : Took) → In o more → Received p k (such ++ new) o) → Holds p k (such ++ new) (took ++ more)
-holds-more p l k such new took more ahead was fresh taken =
+pub holds-more : (p : Plan) (l k : Line) (followed new : List FollowedMessage) (took more : List FollowedTake) → Ahead p l k → Holds p l followed took
+    → ((m : FollowedMessage) → In m new → Standing p k m × (nodeAt l (m .node) .time < m .time)) → ((o : FollowedTake) → In o more → Received p k (followed ++ new) o) → Holds p k (followed ++ new) (took ++ more)
+holds-more p l k followed new took more ahead was fresh taken =
     record {
-      made-ones = λ m i. elim (append-in such i) [ inl j ↦ standing-kept p l k m ahead (was .made-ones m j) | inr j ↦ fresh m j .0 ];
-      taken-ones = λ o i. elim (append-in took i) [ inl j ↦ received-kept p l k such new o ahead (λ m h. fresh m h .1) (was .taken-ones o j) | inr j ↦ taken o j ];
+      made-ones = λ m i. elim (append-in followed i) [ inl j ↦ standing-kept p l k m ahead (was .made-ones m j) | inr j ↦ fresh m j .0 ];
+      taken-ones = λ o i. elim (append-in took i) [ inl j ↦ received-kept p l k followed new o ahead (λ m h. fresh m h .1) (was .taken-ones o j) | inr j ↦ taken o j ];
     }
