@@ -36,7 +36,7 @@ pub const WRONG_PLACE: u32 = 14;
 pub const WRONG_STATUS: u32 = 15;
 /// "Crash of a node joined by a belt to one crashed earlier in the run."
 pub const CRASHED_NEIGHBOUR: u32 = 16;
-/// "Material over 15, zero byte not 0"; a tick is let through since.
+/// "Material over 15, zero byte not 0"; request 2026-05 lets a tick through.
 pub const WRONG_RECORD: u32 = 17;
 /// "Nothing to send or take."
 pub const NOTHING_THERE: u32 = 18;

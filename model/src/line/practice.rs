@@ -53,7 +53,7 @@ impl Practice {
             ],
             lazy: (random.draw() & random.draw()) as u32,
             strays: random.pick(&[8, 32, 128]),
-            ticks: random.pick(&[4, 16, 1_000, 1_000]),
+            ticks: random.pick(&[4, 16, 1_000, 1_000, 1_000, 1_000]),
             pieces: 0,
         }
     }

@@ -4,6 +4,7 @@ mod damage;
 mod handmade;
 mod practised;
 mod refusals;
+mod ticks;
 mod trims;
 
 use super::*;
@@ -48,6 +49,13 @@ fn accept(line: &mut Line, frames: &[Vec<u8>]) {
     for (number, frame) in frames.iter().enumerate() {
         assert_eq!(step(line, frame), 0, "frame {number} {frame:?}");
         assert!(!damaged(line), "after frame {number} {frame:?}");
+    }
+}
+
+/// Each is sent and taken on once.
+fn pass(line: &mut Line, channels: &[u8]) {
+    for &channel in channels {
+        accept(line, &[send(channel), take(channel)]);
     }
 }
 
@@ -120,6 +128,11 @@ fn pieces(line: &Line, node: usize) -> Vec<u32> {
         .iter()
         .map(|entry| entry.message.record.piece)
         .collect()
+}
+
+fn times(line: &Line, node: usize) -> Vec<u32> {
+    let log = line.nodes[node].log.iter();
+    log.map(|entry| entry.message.time).collect()
 }
 
 #[test]

@@ -1,3 +1,4 @@
+mod ticks;
 mod trims;
 
 use super::*;
@@ -47,7 +48,8 @@ fn order_of_received_records() {
     let mut ended_replays = [0; 2];
     let mut crashes_while_replaying = [0; 2];
     let mut trims_that_drop = [0; 2];
-    for _ in 0..600 {
+    let mut ticks_taken = [0; 2];
+    for _ in 0..700 {
         let mut line = Line::of(any_plan(&mut random));
         let version = usize::from(line.plan.version == Version::Second);
         let mut order = Order::new(&line.plan);
@@ -69,6 +71,10 @@ fn order_of_received_records() {
             if answer == ACCEPTED && trimmed(&before, &frame, &line) > 0 {
                 trims_that_drop[version] += 1;
             }
+            if let (ACCEPTED, Ok((_, Frame::Take { channel }))) = (answer, Frame::read(&frame)) {
+                let taken = before.queues[usize::from(channel)].messages[0];
+                ticks_taken[version] += usize::from(taken.record.is_tick());
+            }
             if random.one_in(8) {
                 assert!(order.holds(&line), "{:?}", line.plan);
             }
@@ -80,13 +86,14 @@ fn order_of_received_records() {
         quiet_ends[version] += usize::from(is_quiet(&line));
     }
     println!("{quiet_ends:?} quiet, {ended_replays:?} ended, {crashes_while_replaying:?} crashed");
-    println!("{trims_that_drop:?} trims");
+    println!("{trims_that_drop:?} trims, {ticks_taken:?} ticks");
     for version in 0..2 {
         assert!(quiet_ends[version] > 100, "{quiet_ends:?}");
         assert!(ended_replays[version] > 100, "{ended_replays:?}");
         let crashes = crashes_while_replaying[version];
         assert!(crashes > 25, "{crashes_while_replaying:?}");
         assert!(trims_that_drop[version] > 50, "{trims_that_drop:?}");
+        assert!(ticks_taken[version] > 200, "{ticks_taken:?}");
     }
 }
 

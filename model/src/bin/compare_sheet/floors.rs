@@ -89,7 +89,7 @@ pub fn all() -> Vec<Floor> {
         ],
     );
     floors.extend(under(section::SHEETS, 200, [kind::LIMITS, kind::LONG]));
-    floors.extend(under(section::SHEETS, 180, [kind::KEPT]));
+    floors.extend(under(section::SHEETS, 210, [kind::KEPT]));
     floors.extend(under(section::SHEETS, SHIFTS, [kind::MANY]));
     floors.extend(under(section::SHEETS, 1, [kind::MILLION]));
     floors.extend(under(section::PIECES, 20_000, [WHOLE]));

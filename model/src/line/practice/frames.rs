@@ -84,24 +84,17 @@ pub const FIELDS: [Range<usize>; 4] = [0..4, 4..5, 5..6, 6..8];
 /// A tick but for one field, and so no record.
 pub fn almost_tick(random: &mut Random) -> [u8; Record::LENGTH] {
     let [piece, material, zero, mass] = FIELDS;
-    let one_in = |random: &mut Random, field: Range<usize>| {
-        let any = random.between(1, 255) as u8;
-        (
-            field.start + random.index(field.len()),
-            random.pick(&[1, any]),
-        )
-    };
-    let (at, byte) = match random.index(4) {
-        0 => one_in(random, piece),
-        1 => (material.start, random.pick(&[16, 127, 254, 254])),
-        2 => one_in(random, zero),
-        _ => one_in(random, mass),
-    };
+    let field = random.pick(&[&piece, &material, &zero, &mass]).clone();
+    let any = random.between(1, 255) as u8;
     let mut record = Record::TICK.write();
-    record[at] = byte;
+    record[field.start + random.index(field.len())] = match field == material {
+        true => random.pick(&[16, 127, 254, 254]),
+        false => random.pick(&[1, any]),
+    };
     record
 }
 
+/// Whether nothing but that field keeps it from being a tick.
 pub fn is_tick_but_for(field: Range<usize>, record: [u8; Record::LENGTH]) -> bool {
     let tick = Record::TICK.write();
     let mut mended = record;

@@ -97,6 +97,30 @@ fn damages() {
         ("held record", |line| {
             line.nodes[3].buffered[0].record.material = 17;
         }),
+        ("tick's material in a log, of a piece", |line| {
+            line.nodes[0].log[0].message.record.material = 255;
+        }),
+        ("tick on a channel but for its piece", |line| {
+            let record = &mut line.queues[8].messages[0].record;
+            *record = Record {
+                piece: 1,
+                ..Record::TICK
+            };
+        }),
+        ("held tick but for its mass", |line| {
+            let record = &mut line.nodes[3].buffered[0].record;
+            *record = Record {
+                mass: 1,
+                ..Record::TICK
+            };
+        }),
+        ("held tick but for its material", |line| {
+            let record = &mut line.nodes[3].buffered[0].record;
+            *record = Record {
+                material: 254,
+                ..Record::TICK
+            };
+        }),
         ("65 entries", |line| {
             let last = *line.nodes[0].log.last().unwrap();
             line.steps = [250; 4];
@@ -399,6 +423,21 @@ fn no_damages() {
         ("a queued record that its channel's window lacks", |line| {
             line.plan.version = Version::Second;
             line.plan.channels[8].window.greatest = 249;
+        }),
+        ("a tick in a log", |line| {
+            line.nodes[0].log[0].message.record = Record::TICK;
+        }),
+        ("a tick on a channel", |line| {
+            line.queues[8].messages[0].record = Record::TICK;
+        }),
+        ("a held tick", |line| {
+            line.nodes[3].buffered[0].record = Record::TICK;
+        }),
+        ("a held tick of mass below all windows", |line| {
+            line.nodes[3].buffered[0].record = Record::TICK;
+            line.plan.version = Version::Second;
+            line.plan.channels[3].window.least = 251;
+            line.plan.channels[4].window.least = 300;
         }),
         ("a crash mark on an up router", |line| {
             line.nodes[10].crash_marked = true;

@@ -39,7 +39,7 @@ impl Seen {
 fn practised_lines_stay_undamaged() {
     let mut random = Random::new(5);
     let mut seen = Seen::default();
-    for _ in 0..800 {
+    for _ in 0..1_000 {
         let plan = any_plan(&mut random);
         assert_eq!(Plan::read(&plan.write()), Ok(plan.clone()));
         let mut line = Line::of(plan);
@@ -79,6 +79,10 @@ fn practised_lines_stay_undamaged() {
         (20, "Take that drops a record for its mass alone"),
         (20, "a cap brings a record to the end of a window"),
         (4, "replay ended with a record that is free by its mass"),
+        (100, "Take that holds a tick"),
+        (50, "replay ended with a tick"),
+        (100, "Trim that drops a tick"),
+        (20, "Trim that drops what ticks alone let go"),
     ] {
         assert!(seen.events[event] > least, "{event} too seldom: {seen:?}");
     }

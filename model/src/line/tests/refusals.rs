@@ -189,11 +189,24 @@ fn records() {
     let mut line = ninth_line();
     assert_eq!(refuse(&line, &feed_bytes(0, UNSOUND)), 17);
     assert_eq!(refuse(&line, &feed_bytes(0, NONZERO)), 17);
+    let tick = Record::TICK.write();
+    let almost = [(3, 1), (4, 16), (4, 254), (5, 1), (7, 1)].map(|(at, byte)| {
+        let mut almost = tick;
+        almost[at] = byte;
+        almost
+    });
+    accept(&mut line.clone(), &[feed_bytes(0, tick)]);
     for piece in 0..64 {
+        for almost in almost {
+            assert_eq!(refuse(&line, &feed_bytes(0, almost)), 17);
+        }
         accept(&mut line, &[feed(0, piece, 1)]);
     }
     assert_eq!(refuse(&line, &feed(0, 64, 1)), 21);
+    assert_eq!(refuse(&line, &feed_bytes(0, tick)), 21);
     assert_eq!(refuse(&line, &feed_bytes(0, UNSOUND)), 17);
+    assert_eq!(refuse(&line, &feed_bytes(0, almost[0])), 17);
+    assert_eq!(refuse(&line, &feed_bytes(2, almost[0])), 14);
 }
 
 #[test]

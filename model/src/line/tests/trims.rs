@@ -2,18 +2,6 @@
 
 use super::*;
 
-/// Each is sent and taken on once.
-fn pass(line: &mut Line, channels: &[u8]) {
-    for &channel in channels {
-        accept(line, &[send(channel), take(channel)]);
-    }
-}
-
-fn times(line: &Line, node: usize) -> Vec<u32> {
-    let log = line.nodes[node].log.iter();
-    log.map(|entry| entry.message.time).collect()
-}
-
 fn low_times(line: &Line, node: usize) -> Vec<u32> {
     line.nodes[node].low_clock.times()
 }

@@ -19,25 +19,27 @@ pub fn fresh<T: Staged>() -> T {
     plan_of(2, vec![(0, 1)]).into()
 }
 
-/// A little of everything, of version 2: node 3 replays and holds a record and a tick
+/// A little of everything, of version 2: node 3 replays and holds a tick and a record
 /// from node 1, a tick waits before it, node 7 is down, messages wait before node 11.
 pub fn mixed<T: Staged>() -> T {
     let replay = [(0, 1), (1, 3), (2, 3), (3, 4), (3, 5)];
     let others = [(6, 7), (7, 8), (9, 10), (10, 11)];
     let mut line: T = windowed(plan_of(12, [&replay[..], &others[..]].concat())).into();
-    for record in [piece(1), piece(2), Record::TICK, Record::TICK] {
+    for record in [piece(1), piece(2), Record::TICK, piece(3)] {
         feed(&mut line, 0, record);
         pass(&mut line, 0);
         pass(&mut line, 1);
     }
     feed(&mut line, 2, piece(4));
     pass(&mut line, 2);
-    for channel in [3, 3, 3, 3, 3, 4] {
+    for channel in [3, 3, 3, 3, 3, 4, 4] {
         pass(&mut line, channel);
     }
     restart(&mut line, 3);
-    pass(&mut line, 1);
-    pass(&mut line, 1);
+    feed(&mut line, 0, Record::TICK);
+    for channel in [0, 1, 1] {
+        pass(&mut line, channel);
+    }
     accept(&mut line, Frame::Send { channel: 1 });
     accept(&mut line, Frame::Send { channel: 2 });
     feed(&mut line, 6, piece(5));
