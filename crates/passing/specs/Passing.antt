@@ -4,7 +4,8 @@ use mathlib.Core.Path.{_≡_}
 use mathlib.Core.Bool.{false}
 use mathlib.Core.List.{List}
 use mathlib.Core.Option.{Option, none, some}
-use lib.ListN.{length}
+use lib.ListN.{length, take, drop}
+use Rattle.plan.specs.Lawful.{Each}
 use Rattle.plan.specs.Plan.{planChannels}
 use Rattle.rules.specs.Line as line
 use Rattle.rules.specs.Line.{logLimit, nodeAt, laneAt, receiverOf, timeLimit}
@@ -18,6 +19,12 @@ use Rattle.passing.specs.declared.Next.the-variants.{Entry, Nothing}
 abbrev pub nextIs : Next → Option line.Entry
 nextIs (Entry e) = some (entryIs e)
 nextIs Nothing = none
+
+-- So many of a log's entries, the first ones, are not later than a mark, and all behind them are.
+pub record LaterFrom (mark : ℕ) (log : List line.Entry) (r : ℕ) : Type 0 where
+  pub within : r ≤ length log
+  pub early : Each (λ (e : line.Entry). e .time ≤ mark) (take r log)
+  pub late : Each (λ (e : line.Entry). mark < e .time) (drop r log)
 
 -- A node whose log has space, and whose time can rise.
 pub record Loggable (s : List ℕ) (n : ℕ) : Type 0 where

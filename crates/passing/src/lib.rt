@@ -1,13 +1,11 @@
 // Feed, Send, and Take of a node that is up, on the state's bytes (document 01, "Clocks and steps", kinds 1 to 3). Nothing is written before the answer is known to be 0.
 ghost use mathlib.Core.Path.{_≡_};
-ghost use mathlib.Core.Bool.{_&&_};
 ghost use mathlib.Core.List.{List};
 ghost use Prim.Native.Nat.{ℕ, _<_};
-ghost use lib.Dec.{ltb};
 ghost use lib.ListN.{length};
 ghost use Rattle.plan.specs.Record.{recordLayout, recordFits};
-ghost use Rattle.plan.specs.Channel.{takes};
-ghost use Rattle.rules.specs.Line.{queueLimit, laneAt};
+ghost use Rattle.plan.specs.Plan.{planNodes, planChannels};
+ghost use Rattle.rules.specs.Line.{queueLimit, nodeAt, laneAt};
 ghost use Rattle.rules.specs.Frame as frames;
 ghost use Rattle.rules.specs.Clock.{messageOf, logged, sentOn};
 ghost use Rattle.rules.specs.Step.{endDown, sendable, madeBy};
@@ -15,7 +13,7 @@ ghost use Rattle.state.specs.State.{lineOf};
 ghost use Rattle.buffer.specs.Ready.{Ready, OnChannel};
 ghost use Rattle.buffer.specs.Holds.{AtLane, NodeNow, LaneNow, Undamaged, Did};
 ghost use Rattle.slots.specs.Slots.{originIs, messageIs, entryIs};
-ghost use Rattle.passing.specs.Passing.{nextIs, Loggable, Taking};
+ghost use Rattle.passing.specs.Passing.{nextIs, LaterFrom, Loggable, Taking};
 use buffer::Line;
 use buffer::look;
 use plan::Channel;
@@ -94,29 +92,35 @@ pub fn feed(s: &mut [u8], n: usize, what: Record, fits: bool) -> u32
     0
 }
 
-// Whether a log entry is later than a channel's mark and the channel takes it.
-fn goes_on(c: Channel, mark: u32, e: Logged) -> bool
-    ensures { λ r. ⌜ r ≡ (ltb mark (e .time) && takes c (e .what)) ⌝ }
+// How many entries of a node's log are not later than a mark. Times rise, and most entries have been sent: from the last one back.
+fn not_later(s: &[u8], n: usize, mark: u32, count: usize) -> usize
+    requires { ⌜ Undamaged (now s) × (n < planNodes (now s)) × (count ≡ length (nodeAt (lineOf (now s)) n .log)) ⌝ }
+    ensures { λ r. ⌜ LaterFrom mark (nodeAt (lineOf (now (s .entry))) n .log) r ⌝ }
 {
-    if e.time <= mark {
-        return false;
+    let mut k = count;
+    while 0 < k {
+        let e = node_fields::entry_of(s, n, k - 1);
+        if e.time <= mark {
+            return k;
+        }
+        k -= 1;
     }
-    plan::channels::channel_takes(c, e.what)
+    0
 }
 
 // "the first logged message later than the belt's mark that the belt takes"
 fn next_of(s: &[u8], b: usize) -> Next
-    requires { ⌜ AtLane (now s) b ⌝ }
+    requires { ⌜ Undamaged (now s) × (b < planChannels (now s)) ⌝ }
     ensures { λ r. ⌜ nextIs r ≡ sendable (lineOf (now (s .entry))) b ⌝ }
 {
     let c = look::channel_of(s, b);
     let n = look::index(c.sender);
     let mark = channel_fields::mark_of(s, b);
     let count = node_fields::log_count(s, n);
-    let mut i: usize = 0;
+    let mut i = not_later(s, n, mark, count);
     while i < count {
         let e = node_fields::entry_of(s, n, i);
-        if goes_on(c, mark, e) {
+        if plan::channels::channel_takes(c, e.what) {
             return Next::Entry(e);
         }
         i += 1;

@@ -7,13 +7,13 @@ use Rattle.plan.specs.declared.Channel.{Channel}
 use Rattle.rules.specs.Line.{nodeAt}
 use Rattle.state.specs.State.{lineOf}
 use Rattle.slots.specs.Slots.{entryIs}
-use Rattle.passing.proofs.StateLaws.{on-channel, at-sender}
-use Rattle.passing.proofs.NextLaws.{Passed, sendable-in, none-passed, next-none, next-found, next-passed}
+use Rattle.passing.proofs.StateLaws.{at-lane, on-channel, at-sender}
+use Rattle.passing.proofs.NextLaws.{Searched, sendable-in, search-from, search-found, search-on, next-none}
 use Rattle.passing.proofs.next_of.Statement.{statement}
 use Rattle.passing.proofs.next_of.Tie as tie
 
 abbrev Inv-loop : tie.InvT-loop
-Inv-loop s b c n mark count i₀ i = Passed c mark (nodeAt (lineOf s) n .log) i
+Inv-loop s b c n mark count i₀ i = Searched c mark (nodeAt (lineOf s) n .log) i
 
 abbrev μ-loop : tie.MeasureT-loop
 μ-loop s b c n mark count i₀ i = count - i
@@ -21,50 +21,58 @@ abbrev μ-loop : tie.MeasureT-loop
 log-count-requires : tie.Need-log-count-requires Inv-loop μ-loop
 log-count-requires c κs =
     let at = c .before .before in
-    at-sender (at .before .before .pre) (c .before .index .ensures .0 ∙ ap (λ (d : Channel). d .sender) (at .channel-of .ensures))
+    let pre = at .before .before .pre in
+    at-sender (at-lane (pre .0) (pre .1)) (c .before .index .ensures .0 ∙ ap (λ (d : Channel). d .sender) (at .channel-of .ensures))
+
+not-later-requires : tie.Need-not-later-requires Inv-loop μ-loop
+not-later-requires c κs =
+    let at = c .before .before .before in
+    let pre = at .before .before .pre in
+    (pre .0, at-sender (at-lane (pre .0) (pre .1)) (c .before .before .index .ensures .0 ∙ ap (λ (d : Channel). d .sender) (at .channel-of .ensures)) .inside, c .log-count .ensures .0)
 
 loop-holds : tie.Need-loop-holds Inv-loop μ-loop
 loop-holds c =
-    let mark = c .before in
+    let mark = c .before .before in
     let at = mark .before .before in
-    none-passed (at .channel-of .result) (mark .mark-of .result) (nodeAt (lineOf (at .before .before .args .s .now)) (mark .before .index .result) .log)
+    search-from (at .channel-of .result) (mark .mark-of .result) (nodeAt (lineOf (at .before .before .args .s .now)) (mark .before .index .result) .log) (c .not-later .result) (c .not-later .ensures)
 
 entry-of-requires : tie.Need-entry-of-requires Inv-loop μ-loop
 entry-of-requires c κs =
-    let counted = c .before .before in
+    let counted = c .before .before .before in
     let at = counted .before .before .before in
-    (at-sender (at .before .before .pre) (counted .before .before .index .ensures .0 ∙ ap (λ (d : Channel). d .sender) (at .channel-of .ensures)), omega (arith, counted .log-count .ensures .0))
+    let pre = at .before .before .pre in
+    (at-sender (at-lane (pre .0) (pre .1)) (counted .before .before .index .ensures .0 ∙ ap (λ (d : Channel). d .sender) (at .channel-of .ensures)), omega (arith, counted .log-count .ensures .0))
 
 returns : tie.Need-returns Inv-loop μ-loop
 returns c =
     let e = c .before .before .entry-of in
     let turn = c .before .before .before .before in
-    let counted = turn .before in
+    let counted = turn .before .before in
     let mark = counted .before in
     let n = mark .before .index in
     let at = mark .before .before in
     let a = at .before .before .args in
     let log = nodeAt (lineOf (a .s .now)) (n .result) .log in
-    let h : turn .loop .i < length log = omega (arith, counted .log-count .ensures .0) in
+    let h : turn .loop .i < length log = omega (arith, c .before .before .before .loop-test .taken, counted .log-count .ensures .0) in
     sym
     (sendable-in (a .s .now) (a .b) (at .channel-of .result) (n .result) (mark .mark-of .result) (at .channel-of .ensures) (n .ensures .0 ∙ ap (λ (d : Channel). d .sender) (at .channel-of .ensures)) (mark .mark-of .ensures)
-    ∙ next-found (at .channel-of .result) (mark .mark-of .result) log (turn .loop .i) (turn .loop .inv) h (entryIs (e .result)) (e .ensures) (sym (c .before .goes-on .ensures) ∙ c .if1 .taken))
+    ∙ search-found (at .channel-of .result) (mark .mark-of .result) log (turn .loop .i) (turn .loop .inv) h (entryIs (e .result)) (e .ensures) (sym (c .before .channel-takes .ensures) ∙ c .if1 .taken))
 
 loop-again : tie.Need-loop-again Inv-loop μ-loop
 loop-again c =
     let e = c .before .before .entry-of in
     let turn = c .before .before .before .before in
-    let counted = turn .before in
+    let counted = turn .before .before in
     let mark = counted .before in
     let at = mark .before .before in
     let log = nodeAt (lineOf (at .before .before .args .s .now)) (mark .before .index .result) .log in
-    let h : turn .loop .i < length log = omega (arith, counted .log-count .ensures .0) in
-    next-passed (at .channel-of .result) (mark .mark-of .result) log (turn .loop .i) (turn .loop .inv) h (entryIs (e .result)) (e .ensures) (sym (c .before .goes-on .ensures) ∙ c .if1 .left)
+    let h : turn .loop .i < length log = omega (arith, c .before .before .before .loop-test .taken, counted .log-count .ensures .0) in
+    search-on (at .channel-of .result) (mark .mark-of .result) log (turn .loop .i) (turn .loop .inv) h (entryIs (e .result)) (e .ensures) (sym (c .before .channel-takes .ensures) ∙ c .if1 .left)
 
 returns-2 : tie.Need-returns-2 Inv-loop μ-loop
 returns-2 c =
     let turn = c .before in
-    let counted = turn .before in
+    let counted = turn .before .before in
     let mark = counted .before in
     let n = mark .before .index in
     let at = mark .before .before in
@@ -72,7 +80,7 @@ returns-2 c =
     let log = nodeAt (lineOf (a .s .now)) (n .result) .log in
     sym
     (sendable-in (a .s .now) (a .b) (at .channel-of .result) (n .result) (mark .mark-of .result) (at .channel-of .ensures) (n .ensures .0 ∙ ap (λ (d : Channel). d .sender) (at .channel-of .ensures)) (mark .mark-of .ensures)
-    ∙ next-none (at .channel-of .result) (mark .mark-of .result) log (turn .loop .i) (turn .loop .inv) (omega (arith, counted .log-count .ensures .0)))
+    ∙ next-none (at .channel-of .result) (mark .mark-of .result) log (turn .loop .i) (turn .loop .inv .passed) (omega (arith, counted .log-count .ensures .0)))
 
 pub next-of-spec : {M : Type 1} → statement M
 next-of-spec =
@@ -80,10 +88,11 @@ next-of-spec =
     (tie.spec
     Inv-loop
     μ-loop
-    (λ c κs. on-channel (c .before .pre))
+    (λ c κs. (let pre = c .before .pre in on-channel (at-lane (pre .0) (pre .1))))
     (λ c κs. tt)
     (λ c κs. search needs)
     log-count-requires
+    not-later-requires
     loop-holds
     entry-of-requires
     (λ c κs. tt)
