@@ -50,8 +50,8 @@ uint32_t line_load(const uint8_t *plan, size_t plan_length,
                    uint8_t *state, size_t state_length);
 
 /* Step: works one frame on the line in a state.
-   Returns 0, or the first number of document 01 and requests 2026-01 and 2026-04 that applies, in this order: 8 as
-   line_check does, 9 to 11, 25 for a console above 3, 12 for a console whose own 1,000,000 steps are accepted, 13,
+   Returns 0, or the first number of document 01 and requests 2026-01, 2026-04 and 2026-05 that applies, in this order:
+   8 as line_check does, 9 to 11, 25 for a console above 3, 12 for a console whose own 1,000,000 steps are accepted, 13,
    26 for a Trim while a node is down or replays, 14 to 21, 24.
    Accepted, the state holds the line after the step; a refusal leaves it as it was. The frame is only read. */
 uint32_t line_step(uint8_t *state, size_t state_length,

@@ -20,7 +20,7 @@ abbrev pub nextIs : Next → Option line.Entry
 nextIs (Entry e) = some (entryIs e)
 nextIs Nothing = none
 
--- So many of a log's entries, the first ones, are not later than a mark, and all behind them are.
+-- The first r entries of a log are not later than a mark, and all behind them are.
 pub record LaterFrom (mark : ℕ) (log : List line.Entry) (r : ℕ) : Type 0 where
   pub within : r ≤ length log
   pub early : Each (λ (e : line.Entry). e .time ≤ mark) (take r log)

@@ -92,8 +92,8 @@ pub fn feed(s: &mut [u8], n: usize, what: Record, fits: bool) -> u32
     0
 }
 
-// How many entries of a node's log are not later than a mark. Times rise, and most entries have been sent: from the last one back.
-fn not_later(s: &[u8], n: usize, mark: u32, count: usize) -> usize
+// The number of the first entry of a node's log that is later than a mark, or of entries if none is. Times rise, and most entries have been sent: from the last one back.
+fn first_later(s: &[u8], n: usize, mark: u32, count: usize) -> usize
     requires { ⌜ Undamaged (now s) × (n < planNodes (now s)) × (count ≡ length (nodeAt (lineOf (now s)) n .log)) ⌝ }
     ensures { λ r. ⌜ LaterFrom mark (nodeAt (lineOf (now (s .entry))) n .log) r ⌝ }
 {
@@ -117,7 +117,7 @@ fn next_of(s: &[u8], b: usize) -> Next
     let n = look::index(c.sender);
     let mark = channel_fields::mark_of(s, b);
     let count = node_fields::log_count(s, n);
-    let mut i = not_later(s, n, mark, count);
+    let mut i = first_later(s, n, mark, count);
     while i < count {
         let e = node_fields::entry_of(s, n, i);
         if plan::channels::channel_takes(c, e.what) {

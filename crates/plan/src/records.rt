@@ -9,7 +9,7 @@ pub fn is_tick(piece: u32, material: u8, mass: u16) -> bool
     (material == 255) & (piece == 0) & (mass == 0)
 }
 
-// Whether a record is of a material 0..15, or a tick. By a branch, so that of most records the material alone is read.
+// Whether a record is of a material 0..15, or a tick. By a branch, so that of most records the material alone is looked at.
 pub fn known(piece: u32, material: u8, mass: u16) -> bool
     ensures { λ t. ⌜ t ≡ knownRecord (record { piece = piece; material = material; mass = mass }) ⌝ }
 {

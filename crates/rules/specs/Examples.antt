@@ -1,4 +1,4 @@
--- Document 01's own examples of the numbers 1 to 7, 9 to 19 and 21, and some of ours that tell readings apart, those of 2026-01 and 2026-04 among them, computed. Its examples of 22 to 24 are in the placing's `Marked`, that of 8 in the state's `Examples`; P9 shows that of 20.
+-- Document 01's own examples of the numbers 1 to 7, 9 to 19 and 21, and some of ours that tell readings apart, those of 2026-01, 2026-04 and 2026-05 among them, computed. Its examples of 22 to 24 are in the placing's `Marked`, that of 8 in the state's `Examples`; P9 shows that of 20.
 use Prim.Native.Nat.{ℕ}
 use mathlib.Core.Path.{_≡_, refl}
 use mathlib.Core.List.{List, [], _∷_, _++_, map}

@@ -101,7 +101,7 @@ received-there : map (λ (n : ℕ). receivedBy n (storyFrom quietChannel (frames
 unfolding quietChannel told
 received-there = refl
 
--- A tick on the chain, all taken; then node 2 crashes and is restored: node 2's clock holds nothing more for node 0. So "no crash" is wanted.
+-- A tick on the chain, all taken; then node 2 crashes and is restored: node 2's clock no longer holds anything for node 0. So "no crash" is wanted.
 unfoldable pub crashedSince : Trace
 unfolding chain initialLine traced
 crashedSince = traceFrom (noTrace (initialLine chain)) ((true, tickFrame 0) ∷ unfollowed (moved 0 ++ (moved 1 ++ (moved 2 ++ frame 4 2 ∷ frame 5 2 ∷ []))))
@@ -123,7 +123,7 @@ unfoldable pub tickedInReplay : Trace
 unfolding replayBegun traced
 tickedInReplay =
     traceFrom (noTrace (replayBegun .line)) ((true, tickFrame 0) ∷ (true, tickFrame 1)
-    ∷ unfollowed (moved 0 ++ (moved 0 ++ (moved 0 ++ (moved 1 ++ (moved 1 ++ (moved 2 ++ (moved 2 ++ (moved 2 ++ (moved 3 ++ (moved 3 ++ (moved 3 ++ (moved 3 ++ moved 3)))))))))))))
+    ∷ unfollowed (moved 0 ++ (moved 0 ++ (moved 0 ++ (moved 1 ++ (moved 1 ++ (moved 2 ++ (moved 2 ++ (moved 3 ++ (moved 3 ++ (moved 3 ++ (moved 3 ++ moved 3))))))))))))
 
 after-the-replay : (tickedInReplay .crashes ≡ []) × ((fromEachSource replayPlan tickedInReplay ≡ true) × (takenByAll replayPlan tickedInReplay ≡ true))
 unfolding tickedInReplay replayPlan fromEachSource takenByAll

@@ -56,11 +56,12 @@ isFollowed ms n t = anyOf (λ (m : FollowedMessage). eqb (m .node) n && eqb (m .
 abbrev pub nextOf : Line → ℕ → Origin → FollowedMessage
 nextOf l n o = record { node = n; time = suc (nodeAt l n .time); origin = o }
 
--- Those that an accepted frame makes: a tick that is to be followed, and what an up receiver makes of one that it takes. (A replaying node makes nothing at once; it takes none of them either, see `NoneInReplay`.)
+-- What an up receiver makes of one that it takes. (A replaying node makes nothing at once; it takes none of them either, see `NoneInReplay`.)
 abbrev pub madeOf : Line → ℕ → List FollowedMessage → List Message → List FollowedMessage
 madeOf l b ms [] = []
 madeOf l b ms (m ∷ rest) = keepOne (isFollowed ms (senderOf l b) (m .time) && isUp (nodeAt l (receiverOf l b) .status)) (nextOf l (receiverOf l b) (made (senderOf l b) (m .time))) []
 
+-- Those that an accepted frame makes: a tick that is to be followed, or what a Take makes.
 abbrev pub newFollowed : Bool → Line → List FollowedMessage → Frame → List FollowedMessage
 newFollowed follow l ms (feed n r) = keepOne (follow && feedsTick (feed n r)) (nextOf l n fed) []
 newFollowed follow l ms (send b) = []
@@ -110,7 +111,7 @@ someFollowed t n = anyOf (λ (m : FollowedMessage). eqb (m .node) n) (t .followe
 abbrev pub lastFollowed : Trace → ℕ → ℕ
 lastFollowed t n = greatestOf (map (λ (m : FollowedMessage). m .time) (keep (λ (m : FollowedMessage). eqb (m .node) n) (t .followed)))
 
--- "a tick from each infeed": what is followed of a source's is a tick that was fed to it.
+-- "a tick from each infeed": what is followed at a source is a tick that was fed to it.
 unfoldable pub fromEachSource : Plan → Trace → Bool
 unfolding isSource
 fromEachSource p t = allOf (λ (n : ℕ). not (isSource p n) || someFollowed t n) (upTo 0 (nodeCount p))

@@ -24,8 +24,8 @@ log-count-requires c κs =
     let pre = at .before .before .pre in
     at-sender (at-lane (pre .0) (pre .1)) (c .before .index .ensures .0 ∙ ap (λ (d : Channel). d .sender) (at .channel-of .ensures))
 
-not-later-requires : tie.Need-not-later-requires Inv-loop μ-loop
-not-later-requires c κs =
+first-later-requires : tie.Need-first-later-requires Inv-loop μ-loop
+first-later-requires c κs =
     let at = c .before .before .before in
     let pre = at .before .before .pre in
     (pre .0, at-sender (at-lane (pre .0) (pre .1)) (c .before .before .index .ensures .0 ∙ ap (λ (d : Channel). d .sender) (at .channel-of .ensures)) .inside, c .log-count .ensures .0)
@@ -34,7 +34,7 @@ loop-holds : tie.Need-loop-holds Inv-loop μ-loop
 loop-holds c =
     let mark = c .before .before in
     let at = mark .before .before in
-    search-from (at .channel-of .result) (mark .mark-of .result) (nodeAt (lineOf (at .before .before .args .s .now)) (mark .before .index .result) .log) (c .not-later .result) (c .not-later .ensures)
+    search-from (at .channel-of .result) (mark .mark-of .result) (nodeAt (lineOf (at .before .before .args .s .now)) (mark .before .index .result) .log) (c .first-later .result) (c .first-later .ensures)
 
 entry-of-requires : tie.Need-entry-of-requires Inv-loop μ-loop
 entry-of-requires c κs =
@@ -92,7 +92,7 @@ next-of-spec =
     (λ c κs. tt)
     (λ c κs. search needs)
     log-count-requires
-    not-later-requires
+    first-later-requires
     loop-holds
     entry-of-requires
     (λ c κs. tt)

@@ -57,7 +57,7 @@ alive-kept p l k m ahead logs was =
           ];
     }
 
--- FollowedMessage a message that was made before: its time is not past its node's.
+-- Such a message that was made before: its time is not past its node's.
 pub record Standing (p : Plan) (l : Line) (m : FollowedMessage) : Type 0 where
   pub alive : Alive p l m
   pub in-time : m .time ≤ nodeAt l (m .node) .time

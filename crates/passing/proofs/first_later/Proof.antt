@@ -7,8 +7,8 @@ use Rattle.state.specs.State.{lineOf}
 use Rattle.slots.specs.Slots.{entryIs}
 use Rattle.passing.proofs.StateLaws.{at-node, log-rising}
 use Rattle.passing.proofs.NextLaws.{none-later, one-later, later-from, all-later}
-use Rattle.passing.proofs.not_later.Statement.{statement}
-use Rattle.passing.proofs.not_later.Tie as tie
+use Rattle.passing.proofs.first_later.Statement.{statement}
+use Rattle.passing.proofs.first_later.Tie as tie
 
 abbrev Inv-loop : tie.InvT-loop
 Inv-loop s n mark count k₀ k = (k ≤ length (nodeAt (lineOf s) n .log)) × Each (λ (e : Entry). mark < e .time) (drop k (nodeAt (lineOf s) n .log))
@@ -53,5 +53,5 @@ returns-2 c =
     let a = c .before .before .before .args in
     all-later (a .mark) (nodeAt (lineOf (a .s .now)) (a .n) .log) (turn .k) (c .loop-test .left) (turn .inv .1)
 
-pub not-later-spec : {M : Type 1} → statement M
-not-later-spec = tie.close (tie.spec Inv-loop μ-loop loop-holds (λ c. omega arith) entry-of-requires returns (λ c. omega arith) (λ c. omega arith) loop-again returns-2)
+pub first-later-spec : {M : Type 1} → statement M
+first-later-spec = tie.close (tie.spec Inv-loop μ-loop loop-holds (λ c. omega arith) entry-of-requires returns (λ c. omega arith) (λ c. omega arith) loop-again returns-2)
