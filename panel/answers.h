@@ -1,5 +1,5 @@
 /* The numbers that Load, Step, Check, Write, Placing and the check of a plan return: document 01, "Numbers returned",
-   and requests 2026-01, 2026-04 and 2026-05. A call returns the first that applies, in rising order; but 25 comes
+   and requests 2026-01 and 2026-04 to 2026-06. A call returns the first that applies, in rising order; but 25 comes
    between 11 and 12, and 26 between 13 and 14. */
 #ifndef ANSWERS_H
 #define ANSWERS_H

@@ -50,14 +50,15 @@ uint32_t line_load(const uint8_t *plan, size_t plan_length,
                    uint8_t *state, size_t state_length);
 
 /* Step: works one frame on the line in a state.
-   Returns 0, or the first number of document 01 and requests 2026-01, 2026-04 and 2026-05 that applies, in this order:
+   Returns 0, or the first number of document 01 and requests 2026-01 and 2026-04 to 2026-06 that applies, in this order:
    8 as line_check does, 9 to 11, 25 for a console above 3, 12 for a console whose own 1,000,000 steps are accepted, 13,
    26 for a Trim while a node is down or replays, 14 to 21, 24.
    Accepted, the state holds the line after the step; a refusal leaves it as it was. The frame is only read. */
 uint32_t line_step(uint8_t *state, size_t state_length,
                    const uint8_t *frame, size_t frame_length);
 
-/* Check: returns 0 for a line's state, or 8 for a state of another size or a damaged one. */
+/* Check: returns 0 for a line's state, or 8 for a state of another size or a damaged one. A state that was kept from
+   before request 2026-06 is damaged where a node has logged a record that a belt takes: its entries have no sets. */
 uint32_t line_check(const uint8_t *state, size_t state_length);
 
 /* Write: writes the plan of a state, the very bytes that were loaded, into an output.

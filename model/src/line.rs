@@ -49,6 +49,8 @@ pub struct Message {
 pub struct Entry {
     pub message: Message,
     pub input_made_from: Option<Origin>,
+    /// "The set of belts that take" it, as `Plan::set_of` gives it.
+    pub set: u8,
 }
 
 /// "The distinct triples (B-time, A, A-time)", ordered as they are stored.

@@ -1,5 +1,5 @@
-//! Document 01, "The line", and requests 2026-02 and 2026-05: the plan, read and
-//! written by one layout, and which channel takes a record.
+//! Document 01, "The line", and requests 2026-02, 2026-05 and 2026-06: the plan, read
+//! and written by one layout, and which channels take a record.
 
 pub mod practice;
 
@@ -55,7 +55,8 @@ impl Window {
         greatest: u16::MAX,
     };
 
-    fn has(&self, mass: u16) -> bool {
+    #[inline]
+    pub fn has(&self, mass: u16) -> bool {
         self.least <= mass && mass <= self.greatest
     }
 }
@@ -269,11 +270,18 @@ impl Plan {
         self.leaving(node).next().is_none()
     }
 
-    /// Whether some leaving channel of the node takes the record, which is one
-    /// that the node's rule has been applied to.
-    pub fn passes_on(&self, node: usize, record: &Record) -> bool {
+    /// "The set of belts that take" the record, "one bit a belt": the first of the
+    /// node's leaving channels is bit 0. The node's rule has been applied to it.
+    pub fn set_of(&self, node: usize, record: &Record) -> u8 {
         self.leaving(node)
-            .any(|channel| self.channels[channel].takes(record))
+            .enumerate()
+            .filter(|&(_, channel)| self.channels[channel].takes(record))
+            .fold(0, |set, (place, _)| set | 1 << place)
+    }
+
+    /// Whether some leaving channel of the node takes the record.
+    pub fn passes_on(&self, node: usize, record: &Record) -> bool {
+        self.set_of(node, record) != 0
     }
 }
 

@@ -15,18 +15,19 @@ use crate::state::{self, direct, read_line, LENGTH};
 const OPENING: &[u8] = b"LINE 1\n";
 
 pub fn sheet(input: &[u8]) -> Vec<u8> {
-    sheet_told(input, |_, _| {})
+    sheet_told(input, |_, _, _| {})
 }
 
-/// The same; `told` hears of each frame that is passed to the line, and its answer.
-pub fn sheet_told(input: &[u8], mut told: impl FnMut(&[u8], u32)) -> Vec<u8> {
+/// The same; `told` hears of each frame that is passed to the line, its answer, and the
+/// line after it.
+pub fn sheet_told(input: &[u8], mut told: impl FnMut(&[u8], u32, &Line)) -> Vec<u8> {
     let (plan, frames) = parts(input);
     match Line::load(plan) {
         Err(refusal) => refused(refusal),
         Ok(mut line) => {
             let mut text = answered(frames, |frame| {
                 let answer = step(&mut line, frame);
-                told(frame, answer);
+                told(frame, answer, &line);
                 answer
             });
             list_nodes(&mut text, &line);

@@ -61,6 +61,8 @@ fn main() {
     );
     report("2 nodes, no step", &staged::fresh());
     report("12 full logs, 24 full channels", &staged::full());
+    let by_piece = staged::by_piece(staged::full());
+    report("12 full logs, channels by piece", &by_piece);
     report("4 replays, 64 targets, 63 held", &staged::replaying());
     let by_mass = staged::by_mass(staged::replaying());
     report("the same, plan of version 2", &by_mass);

@@ -9,7 +9,7 @@ use borrow.Author.Tests.{ne-eqb, eqb-true}
 use lib.Dec.{eqb, eqb·zero-suc, eqb·suc-zero}
 use lib.Bits.{bitOr, or-zero-l, or-add-and, and-le-r}
 use lib.ListN.{length, getD, take, drop, set, replicate, length-drop}
-use lib.Seq.{length-take-le, take-suc, take-all, take-add, drop-drop, getD-drop, paste, paste-suc}
+use lib.Seq.{length-take-le, take-suc, take-all, take-add, drop-cons, drop-drop, getD-drop, paste, paste-suc}
 use Rattle.plan.specs.Layout.{spelled}
 use Rattle.plan.specs.Lawful.{Zeros}
 use Rattle.state.specs.State.{sameBytes}
@@ -67,6 +67,9 @@ first-two : (s : List ℕ) → 2 ≤ length s → zeroBytes (take 2 s) ≡ eqb (
 first-two [] h = let no : ⊥ = omega arith in absurd no
 first-two (a ∷ []) h = let no : ⊥ = omega arith in absurd no
 first-two (a ∷ b ∷ s) h = ap (λ (t : Bool). eqb 0 a && t) (and-true (eqb 0 b)) ∙ sym (or-test a b)
+
+pub one-zero : (a : ℕ) (s : List ℕ) → a < length s → zeroAt a 1 s ≡ eqb (getD s a 0) 0
+one-zero a s h = rw (drop-cons s a 0 h) (and-true (eqb 0 (getD s a 0)) ∙ sym (zero-test (getD s a 0)))
 
 pub two-zero : (a : ℕ) (s : List ℕ) → a + 2 ≤ length s → zeroAt a 2 s ≡ eqb (bitOr (getD s a 0) (getD s (a + 1) 0)) 0
 two-zero a s h = first-two (drop a s) (simp length-drop (omega arith)) ∙ simp (getD-drop, add-zero)

@@ -4,6 +4,7 @@ pub mod WordLaws
 pub mod PieceReads
 pub mod ReadyLaws
 pub mod LookLaws
+pub mod SetLaws
 pub mod OriginLaws
 pub mod TableLaws
 pub mod HoldsLaws

@@ -34,7 +34,7 @@ module _ (a : ℕ) (s : List ℕ) where
         origin = (ap (originLayout .read) (part-part 5 12 messageSize a s (lit≤ tt)) ∙ origin-in (a + 12) s) i;
       })
 
-  pub entry-in : entryLayout .read (take entrySize (drop a s)) ≡ record { what = recordIn a s; time = wordAt (a + 8) s; origin = originIn (a + 12) s; before = originIn (a + 17) s }
+  pub entry-in : entryLayout .read (take entrySize (drop a s)) ≡ record { what = recordIn a s; time = wordAt (a + 8) s; origin = originIn (a + 12) s; before = originIn (a + 17) s; set = getD s (a + 22) 0 }
   entry-in =
       entry-read (take entrySize (drop a s))
       ∙ (λ i. record {
@@ -42,6 +42,7 @@ module _ (a : ℕ) (s : List ℕ) where
         time = spelled 0 (part-part 4 8 entrySize a s (lit≤ tt) i);
         origin = (ap (originLayout .read) (part-part 5 12 entrySize a s (lit≤ tt)) ∙ origin-in (a + 12) s) i;
         before = (ap (originLayout .read) (part-part 5 17 entrySize a s (lit≤ tt)) ∙ origin-in (a + 17) s) i;
+        set = byte-part 22 entrySize a s (lit< tt) i;
       })
 
   pub held-in : heldLayout .read (take heldSize (drop a s)) ≡ record { what = recordIn a s; sender = getD s (a + 8) 0; time = wordAt (a + 9) s; before = originIn (a + 13) s }

@@ -26,7 +26,7 @@ unfoldable pub messageExact : ℕ → List ℕ → Bool
 messageExact a s = recordExact a s && originExact (a + 12) s && zeroAt (a + 17) 3 s
 
 unfoldable pub entryExact : ℕ → List ℕ → Bool
-entryExact a s = recordExact a s && originExact (a + 12) s && originExact (a + 17) s && zeroAt (a + 22) 2 s
+entryExact a s = recordExact a s && originExact (a + 12) s && originExact (a + 17) s && zeroAt (a + 23) 1 s
 
 unfoldable pub heldExact : ℕ → List ℕ → Bool
 heldExact a s = recordExact a s && originExact (a + 13) s && zeroAt (a + 18) 2 s

@@ -3,6 +3,7 @@ pub mod Words
 pub mod Zero
 pub mod Exact
 pub mod Ready
+pub mod Sets
 pub mod Look
 pub mod Table
 pub mod Check

@@ -6,7 +6,7 @@ abbrev pub noRecord : Record
 noRecord = record { piece = 0; material = 0; mass = 0 }
 
 abbrev pub noEntry : Entry
-noEntry = record { what = noRecord; time = 0; origin = fed; before = fed }
+noEntry = record { what = noRecord; time = 0; origin = fed; before = fed; set = 0 }
 
 abbrev pub noHeld : Held
 noHeld = record { what = noRecord; sender = 0; time = 0; before = fed }

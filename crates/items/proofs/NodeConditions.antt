@@ -11,8 +11,8 @@ use Rattle.plan.specs.Plan.{entering}
 use Rattle.rules.specs.Lists.{anyOf, joined}
 use Rattle.rules.specs.Line.{logLimit, heldLimit, targetLimit, Entry, Held, Target, Node, Line, nodeAt, acceptedSteps}
 use Rattle.rules.specs.Replay.{passedOn}
-use Rattle.rules.specs.Damaged.{workedOn, recordPastLimits, nodePastLimits, isParent, notParent, beforeNotParent, nodeWrongParent, originTimes, nodeNamedTimes, nodeOtherTimes, nodeTimePast, nodeTimeZero, originWrong, beforeWrong, nodeMakerWrong, logWrong, pastLane, pastClock, heldWrong, heldNotPassed, markMissing, markOnEnd, replayWrong, nodeHolds, nodeDamaged}
-use Rattle.items.specs.Items.{timesRise, countsRight}
+use Rattle.rules.specs.Damaged.{workedOn, recordPastLimits, nodePastLimits, isParent, notParent, beforeNotParent, nodeWrongParent, originTimes, nodeNamedTimes, nodeOtherTimes, nodeTimePast, nodeTimeZero, originWrong, beforeWrong, nodeMakerWrong, logWrong, setWrong, pastLane, pastClock, heldWrong, heldNotPassed, markMissing, markOnEnd, replayWrong, nodeHolds, nodeDamaged}
+use Rattle.items.specs.Items.{timesRise, setRight, countsRight}
 use Rattle.items.proofs.Tests.{not-above, all-true, all-false, false-all, any-append, any-map, any-joined}
 use Rattle.items.proofs.Rises.{rise-same}
 
@@ -46,6 +46,9 @@ module _ (l : Line) (n : ℕ) where
   abbrev pub notPassed : Held → Bool
   notPassed h = not (passedOn (l .plan) n (h .what))
 
+  abbrev pub wrongSet : Entry → Bool
+  wrongSet e = not (setRight (l .plan) n e)
+
   -- None of them applies.
   pub record Clear : Type 0 where
     pub counts : countsRight x ≡ true
@@ -60,6 +63,7 @@ module _ (l : Line) (n : ℕ) where
     pub inputs-nought : anyOf (inputTimes (eqb 0)) (workedOn x) ≡ false
     pub makers : anyOf wrongMaker (workedOn x) ≡ false
     pub log-rises : timesRise (λ (e : Entry). e .time) 0 (x .time) (x .log) ≡ true
+    pub sets : anyOf wrongSet (x .log) ≡ false
     pub clock : anyOf pastEntry (workedOn x) ≡ false
     pub rows : heldWrong l n ≡ false
     pub passed : anyOf notPassed (x .held) ≡ false
@@ -110,14 +114,14 @@ module _ (x : Node) where
 module _ (l : Line) (n : ℕ) where
   abbrev others : List Bool
   others =
-      nodeWrongParent (l .plan) n (x l n) ∷ nodeTimePast (acceptedSteps l) (x l n) ∷ nodeTimeZero (x l n) ∷ nodeMakerWrong (l .plan) n (x l n) ∷ logWrong (x l n) ∷ pastClock l n
+      nodeWrongParent (l .plan) n (x l n) ∷ nodeTimePast (acceptedSteps l) (x l n) ∷ nodeTimeZero (x l n) ∷ nodeMakerWrong (l .plan) n (x l n) ∷ logWrong (x l n) ∷ setWrong (l .plan) n (x l n) ∷ pastClock l n
       ∷ heldWrong l n ∷ heldNotPassed (l .plan) n (x l n) ∷ markMissing (x l n) ∷ markOnEnd (l .plan) n (x l n) ∷ replayWrong l n ∷ nodeHolds (x l n) ∷ []
 
   pub node-clear : nodeDamaged l n ≡ false → Clear l n
-  unfolding nodeDamaged nodeWrongParent nodeMakerWrong pastClock heldNotPassed
+  unfolding nodeDamaged nodeWrongParent nodeMakerWrong setWrong pastClock heldNotPassed
   node-clear e =
       let y : Node = nodeAt l n in
-      let (limits, (parents, (past, (nought, (makers, (log, (clock, (rows, (passed, (missing, (on-end, (again, holds)))))))))))) = all-false (nodePastLimits y) others e in
+      let (limits, (parents, (past, (nought, (makers, (log, (sets, (clock, (rows, (passed, (missing, (on-end, (again, holds))))))))))))) = all-false (nodePastLimits y) others e in
       let (counts, records) = limits-clear y limits in
       let (inputs, targets) = neither-true (anyOf (wrongInput l n) (workedOn y)) (anyOf (wrongTarget l n) (y .targets)) parents in
       let (log-past, (inputs-past, (time-past, targets-past))) =
@@ -136,6 +140,7 @@ module _ (l : Line) (n : ℕ) where
         inputs-nought = inputs-nought;
         makers = makers;
         log-rises = not-false (timesRise (λ (e : Entry). e .time) 0 (y .time) (y .log)) (sym (log-is y) ∙ log);
+        sets = sets;
         clock = clock;
         rows = rows;
         passed = passed;
@@ -146,7 +151,7 @@ module _ (l : Line) (n : ℕ) where
       }
 
   pub clear-node : Clear l n → nodeDamaged l n ≡ false
-  unfolding nodeDamaged nodeWrongParent nodeMakerWrong pastClock heldNotPassed
+  unfolding nodeDamaged nodeWrongParent nodeMakerWrong setWrong pastClock heldNotPassed
   clear-node c =
       let y : Node = nodeAt l n in
       let limits = clear-limits y (c .counts) (c .records) in
@@ -154,4 +159,4 @@ module _ (l : Line) (n : ℕ) where
       let past : nodeTimePast (acceptedSteps l) y ≡ false = past-is y (acceptedSteps l) ∙ rw (c .log-past, c .inputs-past, c .time-past, c .targets-past) in
       let nought : nodeTimeZero y ≡ false = zero-is y ∙ rw (c .log-nought, c .inputs-nought) in
       let log = log-is y ∙ ap not (c .log-rises) in
-      false-all (nodePastLimits y) others (limits, (parents, (past, (nought, (c .makers, (log, (c .clock, (c .rows, (c .passed, (c .missing, (c .on-end, (c .again, c .holds))))))))))))
+      false-all (nodePastLimits y) others (limits, (parents, (past, (nought, (c .makers, (log, (c .sets, (c .clock, (c .rows, (c .passed, (c .missing, (c .on-end, (c .again, c .holds)))))))))))))

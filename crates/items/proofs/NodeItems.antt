@@ -11,14 +11,14 @@ use Rattle.basics.specs.Bools.{both-true, neither-true}
 use Rattle.plan.specs.Plan.{nodeCount, entering}
 use Rattle.rules.specs.Lists.{allOf, anyOf}
 use Rattle.rules.specs.Line.{made, Entry, Held, Target, Node, Line, nodeAt, acceptedSteps}
-use Rattle.rules.specs.Replay.{entryAt, passedOn}
+use Rattle.rules.specs.Replay.{heldEntry, passedOn}
 use Rattle.rules.specs.Step.{replaying}
 use Rattle.rules.specs.Damaged.{workedOn, recordPastLimits, isParent, notParent, markMissing, markOnEnd, replayWrong, nodeHolds, nodeDamaged}
 use Rattle.rules.proofs.lists.Members.{In, in-left, in-right, in-map, map-in, append-in, none-any, all-in}
-use Rattle.items.specs.Items.{ifFound, fromSender, recordRight, originRight, timesRise, entryRight, heldRight, heldRise, noneHeld, targetRight, countsRight, logRight, heldAllRight, statusRight, replayRight, nodeRight}
+use Rattle.items.specs.Items.{ifFound, fromSender, recordRight, originRight, timesRise, entryRight, heldRight, heldRise, noneHeld, targetRight, countsRight, setRight, entriesRight, logRight, heldAllRight, statusRight, replayRight, nodeRight}
 use Rattle.items.proofs.Tests.{opposite, not-above, all-true, all-false, each-all, each-none}
 use Rattle.items.proofs.Rises.{rise-within}
-use Rattle.items.proofs.NodeConditions.{pastLimits, inputTimes, targetTimes, wrongInput, wrongMaker, pastEntry, wrongTarget, notPassed, Clear, node-clear, clear-node}
+use Rattle.items.proofs.NodeConditions.{pastLimits, inputTimes, targetTimes, wrongInput, wrongMaker, pastEntry, wrongTarget, notPassed, wrongSet, Clear, node-clear, clear-node}
 use Rattle.items.proofs.Origins.{Formed, Clean, parent-found, clean-right, right-clean}
 use Rattle.items.proofs.HeldRows.{held-opposite}
 use Rattle.items.proofs.ReplayItems.{replay-items}
@@ -40,11 +40,11 @@ module _ (l : Line) (line : Formed l) (n : ℕ) where
       let (fits, origin) = both-true (recordRight (e .what)) (originRight l n (e .origin) (e .before)) r in
       record { fits = ap not fits; clean = right-clean l line n (e .origin) (e .before) origin }
 
-  worked-held : (h : Held) → Worked l n (entryAt 0 h) → passedOn (l .plan) n (h .what) ≡ true → heldRight l n h ≡ true
+  worked-held : (h : Held) → Worked l n (heldEntry h) → passedOn (l .plan) n (h .what) ≡ true → heldRight l n h ≡ true
   unfolding heldRight
   worked-held h w passed = rw (not-false (recordRight (h .what)) (w .fits), clean-right l line n (made (h .sender) (h .time)) (h .before) (w .clean), passed)
 
-  held-worked : (h : Held) → heldRight l n h ≡ true → Worked l n (entryAt 0 h) × (passedOn (l .plan) n (h .what) ≡ true)
+  held-worked : (h : Held) → heldRight l n h ≡ true → Worked l n (heldEntry h) × (passedOn (l .plan) n (h .what) ≡ true)
   unfolding heldRight
   held-worked h r =
       let (fits, (origin, passed)) = all-true (recordRight (h .what)) (originRight l n (made (h .sender) (h .time)) (h .before) ∷ passedOn (l .plan) n (h .what) ∷ []) r in
@@ -75,24 +75,26 @@ module _ (l : Line) (line : Formed l) (n : ℕ) (inside : n < nodeCount (l .plan
     time : leb (x .time) (acceptedSteps l) ≡ true
     worked : (e : Entry) → In e (workedOn x) → Worked l n e
     log-rises : timesRise (λ (e : Entry). e .time) 0 (x .time) (x .log) ≡ true
+    sets : (e : Entry) → In e (x .log) → setRight (l .plan) n e ≡ true
     passed : (h : Held) → In h (x .held) → passedOn (l .plan) n (h .what) ≡ true
     held-rises : heldRise noneHeld (x .held) ≡ true
     targets : (t : Target) → In t (x .targets) → targetRight l n t ≡ true
     status : statusRight (l .plan) n x ≡ true
     replays : (not (replaying l n) || replayRight l n) ≡ true
 
-  held-among : (h : Held) → In h (x .held) → In (entryAt 0 h) (workedOn x)
-  held-among h i = in-right (x .log) (in-map (entryAt 0) i)
+  held-among : (h : Held) → In h (x .held) → In (heldEntry h) (workedOn x)
+  held-among h i = in-right (x .log) (in-map heldEntry i)
 
   sound-right : Sound → nodeRight l n ≡ true
-  unfolding nodeRight logRight heldAllRight
+  unfolding nodeRight logRight entriesRight heldAllRight
   sound-right s =
       rw (
         s .counts,
         s .time,
-        each-all (entryRight l n) (x .log) (λ e i. worked-entry l line n e (s .worked e (in-left (map (entryAt 0) (x .held)) i))),
+        each-all (entryRight l n) (x .log) (λ e i. worked-entry l line n e (s .worked e (in-left (map heldEntry (x .held)) i))),
         s .log-rises,
-        each-all (heldRight l n) (x .held) (λ h i. worked-held l line n h (s .worked (entryAt 0 h) (held-among h i)) (s .passed h i)),
+        each-all (setRight (l .plan) n) (x .log) (s .sets),
+        each-all (heldRight l n) (x .held) (λ h i. worked-held l line n h (s .worked (heldEntry h) (held-among h i)) (s .passed h i)),
         s .held-rises,
         each-all (targetRight l n) (x .targets) (s .targets),
         s .status,
@@ -100,20 +102,21 @@ module _ (l : Line) (line : Formed l) (n : ℕ) (inside : n < nodeCount (l .plan
       )
 
   right-sound : nodeRight l n ≡ true → Sound
-  unfolding nodeRight logRight heldAllRight
+  unfolding nodeRight logRight entriesRight heldAllRight
   right-sound e =
       let (counts, (time, (log, (held, (targets, (status, replays)))))) =
       all-true (countsRight x) (leb (x .time) (acceptedSteps l) ∷ logRight l n (x .log) ∷ heldAllRight l n (x .held) ∷ allOf (targetRight l n) (x .targets) ∷ statusRight (l .plan) n x ∷ (not (replaying l n) || replayRight l n) ∷ []) e in
-      let (entries, log-rises) = both-true (allOf (entryRight l n) (x .log)) (timesRise (λ (e : Entry). e .time) 0 (x .time) (x .log)) log in
+      let (entries, (log-rises, sets)) = all-true (allOf (entryRight l n) (x .log)) (timesRise (λ (e : Entry). e .time) 0 (x .time) (x .log) ∷ allOf (setRight (l .plan) n) (x .log) ∷ []) log in
       let (helds, held-rises) = both-true (allOf (heldRight l n) (x .held)) (heldRise noneHeld (x .held)) held in
       record {
         counts = counts;
         time = time;
         worked = λ e i. elim (append-in (x .log) i) [
           | inl j ↦ entry-worked l line n e (all-in (entryRight l n) entries j)
-          | inr j ↦ (let (h, k, is) = map-in (entryAt 0) (x .held) j in subst (Worked l n) (sym is) (held-worked l line n h (all-in (heldRight l n) helds k) .0))
+          | inr j ↦ (let (h, k, is) = map-in heldEntry (x .held) j in subst (Worked l n) (sym is) (held-worked l line n h (all-in (heldRight l n) helds k) .0))
         ];
         log-rises = log-rises;
+        sets = λ e i. all-in (setRight (l .plan) n) sets i;
         passed = λ h i. held-worked l line n h (all-in (heldRight l n) helds i) .1;
         held-rises = held-rises;
         targets = λ t i. all-in (targetRight l n) targets i;
@@ -123,7 +126,7 @@ module _ (l : Line) (line : Formed l) (n : ℕ) (inside : n < nodeCount (l .plan
 
   -- The held records' senders are parents.
   held-parents : ((e : Entry) → In e (workedOn x) → Worked l n e) → (h : Held) → In h (x .held) → isParent (l .plan) n (h .sender) ≡ true
-  held-parents worked h i = not-false (isParent (l .plan) n (h .sender)) (neither-true (not (isParent (l .plan) n (h .sender))) (notParent (l .plan) (h .sender) (h .before)) (worked (entryAt 0 h) (held-among h i) .clean .parents) .0)
+  held-parents worked h i = not-false (isParent (l .plan) n (h .sender)) (neither-true (not (isParent (l .plan) n (h .sender))) (notParent (l .plan) (h .sender) (h .before)) (worked (heldEntry h) (held-among h i) .clean .parents) .0)
 
   replays-by : (t : Bool) → replaying l n ≡ t → replayWrong l n ≡ not (not t || replayRight l n)
   unfolding replayWrong
@@ -160,6 +163,7 @@ module _ (l : Line) (line : Formed l) (n : ℕ) (inside : n < nodeCount (l .plan
         time = not-above (x .time) (acceptedSteps l) ∙ ap not (c .time-past);
         worked = worked;
         log-rises = c .log-rises;
+        sets = λ e i. not-false (setRight (l .plan) n e) (none-any (wrongSet l n) (c .sets) i);
         passed = λ h i. not-false (passedOn (l .plan) n (h .what)) (none-any (notPassed l n) (c .passed) i);
         held-rises = not-false (heldRise noneHeld (x .held)) (sym (held-opposite l line n inside (held-parents worked)) ∙ c .rows);
         targets = λ t i. target-right l line n t (none-any (wrongTarget l n) (c .parents) i) (none-any (targetTimes (ltb (acceptedSteps l))) (c .targets-past) i);
@@ -185,6 +189,7 @@ module _ (l : Line) (line : Formed l) (n : ℕ) (inside : n < nodeCount (l .plan
         inputs-nought = each-none (inputTimes (eqb 0)) (workedOn x) (λ e i. s .worked e i .clean .nought);
         makers = each-none (wrongMaker l n) (workedOn x) (λ e i. s .worked e i .clean .makers);
         log-rises = s .log-rises;
+        sets = each-none (wrongSet l n) (x .log) (λ e i. ap not (s .sets e i));
         clock = each-none (pastEntry l n) (workedOn x) (λ e i. s .worked e i .clean .clock);
         rows = held-opposite l line n inside (held-parents (s .worked)) ∙ ap not (s .held-rises);
         passed = each-none (notPassed l n) (x .held) (λ h i. ap not (s .passed h i));

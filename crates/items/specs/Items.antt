@@ -8,6 +8,7 @@ use lib.Dec.{leb, ltb, eqb}
 use Rattle.plan.specs.declared.Record.{Record}
 use Rattle.plan.specs.Record.{knownRecord}
 use Rattle.plan.specs.Plan.{Plan, nodeCount, channelCount, channelAt, entering, isSource}
+use Rattle.plan.specs.Mask.{setOf}
 use Rattle.plan.specs.Check.{planFits}
 use Rattle.rules.specs.Lists.{isEmpty, allOf}
 use Rattle.rules.specs.Line.{logLimit, queueLimit, heldLimit, targetLimit, stepLimit, consoleCount, Origin, fed, made, Message, Entry, Held, Target, Node, Lane, Line, nodeAt, laneAt, nodeNumbers, channelNumbersOf, senderOf, parents, acceptedSteps}
@@ -58,7 +59,7 @@ abbrev pub timesRise : {A : Type 0} → (A → ℕ) → ℕ → ℕ → List A �
 timesRise time last top [] = true
 timesRise time last top (x ∷ xs) = ltb last (time x) && leb (time x) top && timesRise time (time x) top xs
 
--- A log entry; its own time is tested in the pass over the log, whose top is within the steps.
+-- A log entry; its own time is tested in the pass over the log, whose top is within the steps, and its set in another.
 unfoldable pub entryRight : Line → ℕ → Entry → Bool
 unfolding originRight
 entryRight l n e = recordRight (e .what) && originRight l n (e .origin) (e .before)
@@ -83,9 +84,17 @@ targetRight l n t = leb (t .time) (acceptedSteps l) && leb (t .parentTime) (acce
 unfoldable pub countsRight : Node → Bool
 countsRight x = leb (length (x .log)) logLimit && leb (length (x .held)) heldLimit && leb (length (x .targets)) targetLimit
 
-unfoldable pub logRight : Line → ℕ → List Entry → Bool
+-- The log's entries, their sets aside; the sets, in a pass of their own; both.
+unfoldable pub entriesRight : Line → ℕ → List Entry → Bool
 unfolding entryRight
-logRight l n log = allOf (entryRight l n) log && timesRise (λ (e : Entry). e .time) 0 (nodeAt l n .time) log
+entriesRight l n log = allOf (entryRight l n) log && timesRise (λ (e : Entry). e .time) 0 (nodeAt l n .time) log
+
+abbrev pub setRight : Plan → ℕ → Entry → Bool
+setRight p n e = eqb (e .set) (setOf p n (e .what))
+
+unfoldable pub logRight : Line → ℕ → List Entry → Bool
+unfolding entriesRight setOf
+logRight l n log = entriesRight l n log && allOf (setRight (l .plan) n) log
 
 unfoldable pub heldAllRight : Line → ℕ → List Held → Bool
 unfolding heldRight noneHeld

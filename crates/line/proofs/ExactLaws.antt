@@ -60,7 +60,7 @@ module _ (s : List ℕ) where
   pub entry-stands : (a : ℕ) → Stands (entryExact a s) (EntryRight a s)
   unfolding entryExact
   entry-stands a =
-      stands-as (and-stands (and-stands (and-stands (eqb-stands (getD s (a + 5) 0) 0) (unless-stands (getD s (a + 12) 0) (wordAt (a + 12 + 1) s))) (unless-stands (getD s (a + 17) 0) (wordAt (a + 17 + 1) s))) (zero-stands (a + 22) 2 s))
+      stands-as (and-stands (and-stands (and-stands (eqb-stands (getD s (a + 5) 0) 0) (unless-stands (getD s (a + 12) 0) (wordAt (a + 12 + 1) s))) (unless-stands (getD s (a + 17) 0) (wordAt (a + 17 + 1) s))) (zero-stands (a + 23) 1 s))
       (λ r. record { what = r .0 .0 .0; origin = r .0 .0 .1; before = r .0 .1; unused = r .1 }) (λ r. (((r .what, r .origin), r .before), r .unused))
 
   pub held-stands : (a : ℕ) → Stands (heldExact a s) (HeldRight a s)

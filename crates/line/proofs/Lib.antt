@@ -12,6 +12,8 @@ pub mod OrderExamples
 pub mod RestartRun
 -- A step does not depend on who sent it, on bytes.
 pub mod ConsoleRun
+-- No step reads a set, on bytes.
+pub mod SetRun
 -- Plans of both versions run alike, on bytes.
 pub mod VersionRun
 -- Trims change nothing that anybody receives, and make space, on bytes.

@@ -3,6 +3,7 @@ pub mod Load
 pub mod Order
 pub mod Restart
 pub mod Console
+pub mod Sets
 pub mod Versions
 pub mod Trimming
 pub mod Ticks

@@ -2,3 +2,5 @@
 pub mod SlotLaws
 pub mod PieceBytes
 pub mod NodeLaws
+pub mod MaterialLaws
+pub mod SetLaws

@@ -1,7 +1,7 @@
 -- The lists of a node's page, as the check goes over them.
 use Prim.Native.Nat.{ℕ, zero, suc, _+_, _*_, _-_, min, _≤_, _<_}
 use mathlib.Core.Path.{_≡_, refl, sym, ap, _∙_}
-use mathlib.Core.Bool.{Bool, true, false, not, _&&_, _||_, and-true, and-false, Bool·not-not}
+use mathlib.Core.Bool.{Bool, true, false, not, _&&_, _||_, and-true, and-false, and-assoc, Bool·not-not}
 use mathlib.Core.List.{List, [], _∷_}
 use native.Mathlib.Nat.{add-zero}
 use native.Mathlib.Omega.{arith}
@@ -10,7 +10,7 @@ use lib.Dec.{leb, ltb, eqb, eqb·suc-zero}
 use lib.Bits.{bitOr}
 use lib.ListN.{length, getD, set}
 use lib.Seq.{ext-getD}
-use Rattle.plan.specs.Plan.{planOf, isSource, isSink}
+use Rattle.plan.specs.Plan.{Plan, planOf, isSource, isSink}
 use Rattle.rules.specs.Lists.{allOf, isEmpty}
 use Rattle.rules.specs.Line.{logLimit, heldLimit, targetLimit, Entry, Held, Target, Node, Line, nodeAt, isUp, acceptedSteps}
 use Rattle.rules.specs.Damaged.{markMissing, markOnEnd, nodeHolds, holdsByStatus}
@@ -21,7 +21,7 @@ use Rattle.state.specs.State.{lineOf}
 use Rattle.state.specs.Right.{wordAt}
 use Rattle.state.proofs.InPlace.{Counted, line-plan}
 use Rattle.state.proofs.OffsetLaws.{line-status, line-crashed, line-time, line-log-count, line-log-at, line-held-count, line-held-at, line-targets-count, line-target-at}
-use Rattle.items.specs.Items.{timesRise, entryRight, logRight, heldRise, noneHeld, heldRight, heldAllRight, targetRight, countsRight, statusRight, nodePlain}
+use Rattle.items.specs.Items.{timesRise, entryRight, entriesRight, setRight, logRight, heldRise, noneHeld, heldRight, heldAllRight, targetRight, countsRight, statusRight, nodePlain}
 use Rattle.buffer.specs.Exact.{zeroAt, entryExact, heldExact, targetExact, slotsExact, listExact, pageExact}
 use Rattle.node_check.specs.NodeCheck.{PageOf, entryIn, heldIn, targetIn, headExact, entryPlain, entryMade, heldPlain, heldMade, holdsNothing}
 use Rattle.buffer.specs.Nothing.{noEntry, noHeld, noTarget}
@@ -96,7 +96,7 @@ module _ (s : List ℕ) (n : ℕ) where
   time-in at page t e = e ∙ rw (page .start) (sym (line-time s (counted (page .ready)) n (page .within)))
 
   module _ (at : ℕ) (page : PageOf s n at) (count : ℕ) (is : count ≡ wordAt (pageAt n + logAt) s) (small : count ≤ logLimit) where
-    log-slots : nodeIn .log ≡ slotsIn entryIn entrySize (pageAt n + logAt + countSize) count s
+    pub log-slots : nodeIn .log ≡ slotsIn entryIn entrySize (pageAt n + logAt + countSize) count s
     log-slots =
         list-slots entryIn noEntry entrySize (pageAt n + logAt + countSize) count s (nodeIn .log)
         (line-log-count s (counted (page .ready)) n (page .within) ∙ rw (← is) (omega arith))
@@ -104,8 +104,8 @@ module _ (s : List ℕ) (n : ℕ) where
         (let there : pageAt n + (logAt + countSize + entrySize * i) ≡ pageAt n + logAt + countSize + entrySize * i = omega arith in
         line-log-at s (counted (page .ready)) n (page .within) i noEntry (omega arith) (omega arith) ∙ ap (λ (a : ℕ). entryIn a s) there))
 
-    pub log-whole : logPass s n 0 (pageAt n + logAt + countSize) count ≡ (slotsExact entryExact entrySize (pageAt n + logAt + countSize) count s && logRight lineIn n (nodeIn .log))
-    unfolding logRight
+    pub log-whole : logPass s n 0 (pageAt n + logAt + countSize) count ≡ (slotsExact entryExact entrySize (pageAt n + logAt + countSize) count s && entriesRight lineIn n (nodeIn .log))
+    unfolding entriesRight
     log-whole =
         slots-pass entryIn entrySize s entryExact (entryPasses lineIn n (nodeIn .time)) (entryNext lineIn n (nodeIn .time)) 0 (pageAt n + logAt + countSize) count
         ∙ ap (λ (t : Bool). slotsExact entryExact entrySize (pageAt n + logAt + countSize) count s && t) (ap (passes (entryPasses lineIn n (nodeIn .time)) (entryNext lineIn n (nodeIn .time)) 0) (sym log-slots) ∙ log-passes lineIn n (nodeIn .time) 0 (nodeIn .log))
@@ -215,6 +215,41 @@ module _ (slot : ℕ → List ℕ → Bool) (limit size a : ℕ) (s : List ℕ) 
       → (used && unused) ≡ (listExact slot limit size a s && right)
   unfolding listExact
   list-few used unused h e f = rw (e, f, le-leb (wordAt a s) limit h) (list-parts (slotsExact slot size (a + countSize) (wordAt a s) s) (zeroAt (a + countSize + size * wordAt a s) (size * (limit - wordAt a s)) s) right)
+
+-- The log: its entries, their sets, and what stands behind them.
+module _ (s : List ℕ) (n : ℕ) where
+  abbrev at : ℕ
+  at = pageAt n + logAt
+
+  abbrev log : List Entry
+  log = nodeAt (lineOf s) n .log
+
+  abbrev behind : Bool
+  behind = zeroAt (at + countSize + entrySize * wordAt at s) (entrySize * (logLimit - wordAt at s)) s
+
+  -- As many as there may be, and whether they are right but for their sets.
+  pub record LogUsed (used : Bool) : Type 0 where
+    pub few : wordAt at s ≤ logLimit
+    pub is : used ≡ (slotsExact entryExact entrySize (at + countSize) (wordAt at s) s && entriesRight (lineOf s) n log)
+
+  module _ (used : Bool) (u : LogUsed used) where
+    log-tested : (sets unused : Bool) → sets ≡ allOf (setRight (planOf s) n) log → unused ≡ behind → (used && sets && unused) ≡ (listExact entryExact logLimit entrySize at s && logRight (lineOf s) n log)
+    unfolding logRight
+    log-tested sets unused e f =
+        list-few entryExact logLimit entrySize at s (logRight (lineOf s) n log) (used && sets) unused (u .few)
+        ((λ i. u .is i && (e ∙ ap (λ (p : Plan). allOf (setRight p n) log) (sym (line-plan s))) i)
+        ∙ and-assoc (slotsExact entryExact entrySize (at + countSize) (wordAt at s) s) (entriesRight (lineOf s) n log) (allOf (setRight (lineOf s .plan) n) log))
+        f
+
+    pub log-unused : used ≡ false → false ≡ (listExact entryExact logLimit entrySize at s && logRight (lineOf s) n log)
+    log-unused h = sym (ap (λ (t : Bool). t && allOf (setRight (planOf s) n) log && behind) h) ∙ log-tested (allOf (setRight (planOf s) n) log) behind refl refl
+
+    module _ (sets : Bool) (right : used ≡ true) (e : sets ≡ allOf (setRight (planOf s) n) log) where
+      pub log-unset : sets ≡ false → false ≡ (listExact entryExact logLimit entrySize at s && logRight (lineOf s) n log)
+      log-unset h = sym (λ i. right i && h i && behind) ∙ log-tested sets behind e refl
+
+      pub log-used : sets ≡ true → (unused : Bool) → unused ≡ behind → unused ≡ (listExact entryExact logLimit entrySize at s && logRight (lineOf s) n log)
+      log-used h unused f = sym (λ i. right i && h i && unused) ∙ log-tested sets unused e f
 
 -- ---- the head, the status
 

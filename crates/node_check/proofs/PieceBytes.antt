@@ -8,6 +8,9 @@ use lib.Dec.{leb, eqb}
 use lib.Bits.{bitOr}
 use lib.ListN.{length, getD, take, drop}
 use Rattle.plan.specs.declared.Record.{Record}
+use Rattle.plan.specs.Layout.{bytesOf}
+use Rattle.plan.specs.Lawful.{Bytes}
+use Rattle.plan.specs.Record.{recordFields, recordLayout}
 use Rattle.plan.specs.Plan.{planOf, planChannels, isNone, entering, leaving}
 use Rattle.plan.specs.Mask.{taking, someTakes, planMask}
 use Rattle.plan.proofs.TakingLaws.{taking-some}
@@ -21,7 +24,9 @@ use Rattle.items.specs.Items.{ifFound, fromSender, recordRight, originRight, en
 use Rattle.buffer.specs.Exact.{zeroAt, recordExact, timeNamed, originExact, entryExact, heldExact, targetExact}
 use Rattle.buffer.specs.Zero.{zeroBytes}
 use Rattle.buffer.specs.Check.{recordIn}
-use Rattle.buffer.proofs.BytesLaws.{two-zero, three-zero}
+use Rattle.buffer.specs.Words.{number64}
+use Rattle.buffer.proofs.BytesLaws.{one-zero, two-zero, three-zero}
+use Rattle.buffer.proofs.WordLaws.{part-written}
 use Rattle.buffer.proofs.PieceReads.{entry-in, held-in, target-in}
 use Rattle.node_check.specs.NodeCheck.{entryIn, heldIn, targetIn, entryPlain, entryMade, heldPlain, heldMade}
 
@@ -33,10 +38,22 @@ zero-part from to at k s e f = λ i. zeroBytes (take (f i) (drop (e i) s))
 
 -- ---- log entries and held records
 
--- A record and two bytes unused, at the end of a slot.
-pub plain-tested : (k after a : ℕ) (s : List ℕ) (what : Bool) → after ≡ a + k + 1 → a + k + 2 ≤ length s → what ≡ (recordExact a s && recordRight (recordIn a s))
-    → (what && eqb (bitOr (getD s (a + k) 0) (getD s after 0)) 0) ≡ (recordExact a s && recordRight (recordIn a s) && zeroAt (a + k) 2 s)
-plain-tested k after a s what next long e = rw (e, next, ← two-zero (a + k) s long) refl
+-- A record by its fields, of the number that its bytes spell.
+pub record-fields : (a : ℕ) (s : List ℕ) (number piece material mass : ℕ) → Bytes s → a + 8 ≤ length s → number ≡ number64 a s
+    → piece ≡ getD (recordFields .read (bytesOf 8 number)) 0 0 → material ≡ getD (recordFields .read (bytesOf 8 number)) 1 0 → mass ≡ getD (recordFields .read (bytesOf 8 number)) 3 0
+    → _≡_ {A = Record} (record { piece = piece; material = material; mass = mass }) (recordIn a s)
+unfolding recordLayout
+record-fields a s number piece material mass bytes long e f g h =
+    (λ i. record { piece = f i; material = g i; mass = h i }) ∙ ap (λ (x : ℕ). recordLayout .read (bytesOf 8 x)) e ∙ ap (recordLayout .read) (part-written 8 a s bytes long)
+
+-- A log entry's record and its byte unused; a held record's and its two.
+pub entry-plain : (a : ℕ) (s : List ℕ) (what : Bool) → a + 23 < length s → what ≡ (recordExact a s && recordRight (recordIn a s)) → (what && eqb (getD s (a + 23) 0) 0) ≡ entryPlain a s
+unfolding entryPlain
+entry-plain a s what long e = rw (e, one-zero (a + 23) s long) refl
+
+pub held-plain : (a : ℕ) (s : List ℕ) (what : Bool) → a + 20 ≤ length s → what ≡ (recordExact a s && recordRight (recordIn a s)) → (what && eqb (bitOr (getD s (a + 18) 0) (getD s (a + 19) 0)) 0) ≡ heldPlain a s
+unfolding heldPlain
+held-plain a s what long e = let next : a + 19 ≡ a + 18 + 1 = omega arith in rw (e, next, ← two-zero (a + 18) s (omega arith)) refl
 
 module _ (n a : ℕ) (s : List ℕ) where
   pub entry-made : (q t e u : ℕ) → q ≡ getD s (a + 12) 0 → t ≡ wordAt (a + 13) s → e ≡ getD s (a + 17) 0 → u ≡ wordAt (a + 18) s
@@ -75,9 +92,9 @@ held-parts r o z w b p t =
 pub entry-ordered : (n a : ℕ) (s : List ℕ) (rises : Bool) → (entryExact a s && (entryRight (lineOf s) n (entryIn a s) && rises)) ≡ ((entryPlain a s && rises) && entryMade n a s)
 unfolding entryExact entryRight entryPlain entryMade
 entry-ordered n a s rises =
-    ap (λ (x : Record). ((recordExact a s && originExact (a + 12) s && originExact (a + 17) s && zeroAt (a + 22) 2 s) && ((recordRight x && originRight (lineOf s) n (entryIn a s .origin) (entryIn a s .before)) && rises))) (ap (λ (x : Entry). x .what) (entry-in a s))
-    ∙ ap (λ (v : Bool). ((v && zeroAt (a + 22) 2 s) && ((recordRight (recordIn a s) && originRight (lineOf s) n (entryIn a s .origin) (entryIn a s .before)) && rises))) (and-assoc (recordExact a s) (originExact (a + 12) s) (originExact (a + 17) s))
-    ∙ entry-parts (recordExact a s) (originExact (a + 12) s && originExact (a + 17) s) (zeroAt (a + 22) 2 s) (recordRight (recordIn a s)) (originRight (lineOf s) n (entryIn a s .origin) (entryIn a s .before)) rises
+    ap (λ (x : Record). ((recordExact a s && originExact (a + 12) s && originExact (a + 17) s && zeroAt (a + 23) 1 s) && ((recordRight x && originRight (lineOf s) n (entryIn a s .origin) (entryIn a s .before)) && rises))) (ap (λ (x : Entry). x .what) (entry-in a s))
+    ∙ ap (λ (v : Bool). ((v && zeroAt (a + 23) 1 s) && ((recordRight (recordIn a s) && originRight (lineOf s) n (entryIn a s .origin) (entryIn a s .before)) && rises))) (and-assoc (recordExact a s) (originExact (a + 12) s) (originExact (a + 17) s))
+    ∙ entry-parts (recordExact a s) (originExact (a + 12) s && originExact (a + 17) s) (zeroAt (a + 23) 1 s) (recordRight (recordIn a s)) (originRight (lineOf s) n (entryIn a s .origin) (entryIn a s .before)) rises
 
 pub held-ordered : (n a : ℕ) (s : List ℕ) (rises : Bool) → (heldExact a s && (heldRight (lineOf s) n (heldIn a s) && rises)) ≡ ((heldPlain a s && rises) && (heldMade n a s && passedOn (lineOf s .plan) n (recordIn a s)))
 unfolding heldExact heldRight heldPlain heldMade

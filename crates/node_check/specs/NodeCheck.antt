@@ -35,9 +35,9 @@ targetIn a s = targetLayout .read (take targetSize (drop a s))
 abbrev pub headExact : ℕ → List ℕ → Bool
 headExact a s = leb (getD s (a + statusAt) 0) 2 && leb (getD s (a + crashedAt) 0) 1 && zeroAt (a + 2) 2 s
 
--- A log entry at a: its record and two bytes unused; what it was made from.
+-- A log entry at a, its set aside: its record and a byte unused; what it was made from.
 unfoldable pub entryPlain : ℕ → List ℕ → Bool
-entryPlain a s = recordExact a s && recordRight (recordIn a s) && zeroAt (a + 22) 2 s
+entryPlain a s = recordExact a s && recordRight (recordIn a s) && zeroAt (a + 23) 1 s
 
 unfoldable pub entryMade : ℕ → ℕ → List ℕ → Bool
 unfolding originRight

@@ -12,7 +12,7 @@ ghost use Rattle.rules.specs.Replay.{passedOn};
 ghost use Rattle.state.specs.Sizes.{pageAt, countSize, timeAt, logAt, entrySize, heldAt, heldSize, targetsAt, targetSize};
 ghost use Rattle.state.specs.State.{lineOf};
 ghost use Rattle.state.specs.Right.{wordAt};
-ghost use Rattle.items.specs.Items.{logRight, heldAllRight, targetRight, statusRight, nodePlain};
+ghost use Rattle.items.specs.Items.{entriesRight, logRight, heldAllRight, targetRight, statusRight, nodePlain};
 ghost use Rattle.buffer.specs.Exact.{entryExact, heldExact, targetExact, slotsExact, listExact, pageExact};
 ghost use Rattle.node_check.specs.NodeCheck.{PageOf, targetIn, headExact, entryPlain, entryMade, heldPlain, heldMade, holdsNothing};
 ghost use Rattle.buffer.specs.Check.{Tabled, recordIn};
@@ -26,13 +26,15 @@ use buffer::origin;
 use buffer::record;
 use buffer::table;
 
-// A log entry's record and its two unused bytes.
+mod sets;
+
+// A log entry's record and its unused byte.
 fn entry_plain(s: &[u8], at: usize) -> bool
     requires { ⌜ at + 24 ≤ length (now s) ⌝ }
     ensures { λ r. ⌜ r ≡ entryPlain at (now (s .entry)) ⌝ }
 {
     let what = origin::record_ok(s, at);
-    what & ((s[at + 22] | s[at + 23]) == 0)
+    what & (s[at + 23] == 0)
 }
 
 // What a log entry was made from, and what that was made from.
@@ -47,10 +49,10 @@ fn entry_made(s: &[u8], t: &[u8; 156], n: usize, at: usize) -> bool
     origin::origin_ok(s, t, n, from, time, earlier, since)
 }
 
-// The log's entries, so many: their times rise to the node's.
+// The log's entries, so many, their sets aside: their times rise to the node's.
 fn entries_ok(s: &[u8], t: &[u8; 156], n: usize, at: usize, count: u32) -> bool
     requires { ⌜ PageOf (now s) n at × Table (now s) (now t) × (count ≡ wordAt (pageAt n + logAt) (now s)) × (count ≤ logLimit) ⌝ }
-    ensures { λ r. ⌜ r ≡ (slotsExact entryExact entrySize (pageAt n + logAt + countSize) count (now (s .entry)) && logRight (lineOf (now (s .entry))) n (nodeAt (lineOf (now (s .entry))) n .log)) ⌝ }
+    ensures { λ r. ⌜ r ≡ (slotsExact entryExact entrySize (pageAt n + logAt + countSize) count (now (s .entry)) && entriesRight (lineOf (now (s .entry))) n (nodeAt (lineOf (now (s .entry))) n .log)) ⌝ }
 {
     let top = bytes::get32(s, at + layout::TIME);
     let mut last: u32 = 0;
@@ -72,7 +74,7 @@ fn entries_ok(s: &[u8], t: &[u8; 156], n: usize, at: usize, count: u32) -> bool
     true
 }
 
-// The log: its count, its entries, and zero bytes behind them.
+// The log: its count, its entries, their sets, and zero bytes behind them.
 fn log_ok(s: &[u8], t: &[u8; 156], n: usize, at: usize) -> bool
     requires { ⌜ PageOf (now s) n at × Table (now s) (now t) ⌝ }
     ensures { λ r. ⌜ r ≡ (listExact entryExact logLimit entrySize (pageAt n + logAt) (now (s .entry)) && logRight (lineOf (now (s .entry))) n (nodeAt (lineOf (now (s .entry))) n .log)) ⌝ }
@@ -82,12 +84,17 @@ fn log_ok(s: &[u8], t: &[u8; 156], n: usize, at: usize) -> bool
         return false;
     }
     let used = entries_ok(s, t, n, at, count);
-    let unused = bytes::all_zero(
+    if !used {
+        return false;
+    }
+    if !sets::sets_ok(s, n, at, count) {
+        return false;
+    }
+    bytes::all_zero(
         s,
         at + layout::LOG_SLOTS + layout::ENTRY_SIZE * (count as usize),
         at + layout::HELD,
-    );
-    used & unused
+    )
 }
 
 // Whether one of the channels that leave a node, as a mask, takes the record.

@@ -11,6 +11,7 @@ use lib.ListN.{length}
 use Rattle.plan.specs.declared.Record.{Record}
 use Rattle.plan.specs.Record.{recordLayout, recordFits}
 use Rattle.plan.specs.Plan.{planOf, planNodes, nodeCount, isSource}
+use Rattle.plan.specs.Mask.{setOf}
 use Rattle.rules.specs.Line.{logLimit, Origin, fed, Node, Line, nodeAt, withNode}
 use Rattle.rules.specs.Frame.{feed}
 use Rattle.rules.specs.Clock.{logged}
@@ -23,12 +24,16 @@ use Rattle.buffer.proofs.HoldsLaws.{holds-nodes}
 use Rattle.passing.proofs.RefusalLaws.{feed-number, refused, accepted}
 
 -- The entry is appended and the time set.
-pub logged-twice : (what : Record) (origin before : Origin) (x : Node) (time : ℕ) → time ≡ x .time + 1
-    → withTime time (moreLogged (record { what = what; time = time; origin = origin; before = before }) x) ≡ logged what origin before x
+pub logged-twice : (chosen : ℕ) (what : Record) (origin before : Origin) (x : Node) (time : ℕ) → time ≡ x .time + 1
+    → withTime time (moreLogged (record { what = what; time = time; origin = origin; before = before; set = chosen }) x) ≡ logged chosen what origin before x
 unfolding logged
-logged-twice what origin before x time e = rw (e, add-one)
+logged-twice chosen what origin before x time e = rw (e, add-one)
 
-feed-effect : (l : Line) (n : ℕ) (r : List ℕ) → effect l (feed n r) ≡ some (withNode n (logged (madeBy l n (recordLayout .read r)) fed fed (nodeAt l n)) l)
+-- What a source makes of what is fed, with its set.
+abbrev pub fedTo : Line → ℕ → List ℕ → Node → Node
+fedTo l n r = let what = madeBy l n (recordLayout .read r) in logged (setOf (l .plan) n what) what fed fed
+
+feed-effect : (l : Line) (n : ℕ) (r : List ℕ) → effect l (feed n r) ≡ some (withNode n (fedTo l n r (nodeAt l n)) l)
 unfolding effect
 feed-effect l n r = refl
 
@@ -50,10 +55,10 @@ module _ (s : List ℕ) (n : ℕ) (r : List ℕ) (held : Holds s (lineOf s)) whe
             refused s (feed n r) 21 (λ e. omega arith)
             (feed-number (lineOf s) n r ∙ rw (lt-leb (nodeCount (lineOf s .plan)) n (rw (← holds-nodes held) inside), line-plan s, source, fits, le-leb logLimit (length (nodeAt (lineOf s) n .log)) h))
 
-        pub feed-done : (t : List ℕ) → length (nodeAt (lineOf s) n .log) < logLimit → NodeNow s n (logged (madeBy (lineOf s) n (recordLayout .read r)) fed fed) t → Did s (feed n r) t 0
+        pub feed-done : (t : List ℕ) → length (nodeAt (lineOf s) n .log) < logLimit → NodeNow s n (fedTo (lineOf s) n r) t → Did s (feed n r) t 0
         feed-done t h now =
             let l = lineOf s in
-            accepted s t (feed n r) (withNode n (logged (madeBy l n (recordLayout .read r)) fed fed (nodeAt l n)) l)
+            accepted s t (feed n r) (withNode n (fedTo l n r (nodeAt l n)) l)
             (feed-number l n r ∙ rw (lt-leb (nodeCount (l .plan)) n (rw (← holds-nodes held) inside), line-plan s, source, fits, lt-leb logLimit (length (nodeAt l n .log)) h))
             (feed-effect l n r)
             (now .holds)

@@ -24,10 +24,10 @@ use Rattle.state.proofs.InPlace.{line-plan}
 use Rattle.buffer.specs.Nothing.{noEntry}
 use Rattle.passing.specs.Passing.{LaterFrom}
 
-pub sendable-in : (s : List ℕ) (b : ℕ) (c : Channel) (n mark : ℕ) → c ≡ channelAt (planOf s) b → n ≡ channelAt (planOf s) b .sender → mark ≡ laneAt (lineOf s) b .mark
-    → sendable (lineOf s) b ≡ nextToSend c mark (nodeAt (lineOf s) n .log)
+pub sendable-in : (s : List ℕ) (b n mark : ℕ) → n ≡ channelAt (planOf s) b .sender → mark ≡ laneAt (lineOf s) b .mark
+    → sendable (lineOf s) b ≡ nextToSend (channelAt (planOf s) b) mark (nodeAt (lineOf s) n .log)
 unfolding sendable
-sendable-in s b c n mark on from marked = rw (on, from, marked, line-plan s)
+sendable-in s b n mark from marked = rw (from, marked, line-plan s)
 
 -- The first i entries of a log are not sent.
 pub record Passed (c : Channel) (mark : ℕ) (log : List Entry) (i : ℕ) : Type 0 where

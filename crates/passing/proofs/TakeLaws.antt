@@ -11,6 +11,7 @@ use lib.ListN.{length, getD, drop}
 use Rattle.plan.specs.declared.Record.{Record}
 use Rattle.plan.specs.declared.Channel.{Channel}
 use Rattle.plan.specs.Plan.{Plan, planOf, channelCount, channelAt}
+use Rattle.plan.specs.Mask.{setOf}
 use Rattle.rules.specs.Lists.{isEmpty}
 use Rattle.rules.specs.Line.{logLimit, Message, Line, nodeAt, laneAt, receiverOf}
 use Rattle.rules.specs.Frame.{take}
@@ -48,6 +49,10 @@ module _ (s t : List ℕ) (b : ℕ) (m : Message) (rest : List Message) (h : Hol
   taken-node : (n : ℕ) → nodeAt (lineOf t) n ≡ nodeAt (lineOf s) n
   taken-node n = ap (λ (k : Line). nodeAt k n) (h .same) ∙ taken-nodes b m rest (lineOf s) n
 
+  -- The plan in front is as it was.
+  pub taken-in-front : planOf t ≡ planOf s
+  taken-in-front = sym (line-plan t) ∙ ap (λ (k : Line). k .plan) (h .same) ∙ taken-plan b m rest (lineOf s) ∙ line-plan s
+
   pub taken-loggable : (n : ℕ) → Loggable s n → Loggable t n
   taken-loggable n g = record {
     at = onward-node (onward (g .at .holds) h (taken-plan b m rest (lineOf s))) (g .at);
@@ -57,7 +62,7 @@ module _ (s t : List ℕ) (b : ℕ) (m : Message) (rest : List Message) (h : Hol
 
   -- The message logged by the receiver.
   pub taken-up : (u : List ℕ) (c : Channel) (n : ℕ) (what : Record) → c ≡ channelAt (planOf s) b → n ≡ c .receiver → what ≡ madeBy (lineOf t) n (m .what)
-      → NodeNow t n (logged what (originFrom (c .sender + 1) (m .time)) (m .origin)) u → Holds u (takenUp b m (takenLane b m rest (lineOf s)))
+      → NodeNow t n (logged (setOf (lineOf t .plan) n what) what (originFrom (c .sender + 1) (m .time)) (m .origin)) u → Holds u (takenUp b m (takenLane b m rest (lineOf s)))
   unfolding takenUp
   taken-up u c n what on to is now =
       let k = takenLane b m rest (lineOf s) in

@@ -4,18 +4,21 @@ ghost use mathlib.Core.List.{List};
 ghost use Prim.Native.Nat.{ℕ, _<_};
 ghost use lib.ListN.{length};
 ghost use Rattle.plan.specs.Record.{recordLayout, recordFits};
-ghost use Rattle.plan.specs.Plan.{planNodes, planChannels};
+ghost use Rattle.plan.specs.Plan.{planOf, planNodes, planChannels};
+ghost use Rattle.plan.specs.Mask.{setOf};
 ghost use Rattle.rules.specs.Line.{queueLimit, nodeAt, laneAt};
 ghost use Rattle.rules.specs.Frame as frames;
 ghost use Rattle.rules.specs.Clock.{messageOf, logged, sentOn};
 ghost use Rattle.rules.specs.Step.{endDown, sendable, madeBy};
 ghost use Rattle.state.specs.State.{lineOf};
 ghost use Rattle.buffer.specs.Ready.{Ready, OnChannel};
+ghost use Rattle.buffer.specs.Sets.{LeaveFrom};
 ghost use Rattle.buffer.specs.Holds.{AtLane, NodeNow, LaneNow, Undamaged, Did};
 ghost use Rattle.slots.specs.Slots.{originIs, messageIs, entryIs};
 ghost use Rattle.passing.specs.Passing.{nextIs, LaterFrom, Loggable, Taking};
 use buffer::Line;
 use buffer::look;
+use buffer::sets;
 use plan::Channel;
 use plan::Record;
 use slots::Logged;
@@ -50,11 +53,13 @@ pub fn made_by(s: &[u8], n: usize, what: Record) -> Record
     plan::nodes::apply(plan::nodes::node_rule(s, n), what)
 }
 
-// A node's time rises by 1 and the record that it made is logged, with what it was made from.
-fn log_made(s: &mut [u8], n: usize, what: Record, made: Made, before: Made)
-    requires { ⌜ Loggable (now s) n ⌝ }
-    ensures { λ _. ⌜ NodeNow (now (s .entry)) n (logged what (originIs made) (originIs before)) (now (s .exit)) ⌝ }
+// A node's time rises by 1 and the record that it made is logged, with what it was made from and the set of channels that take it; none of the channels before `from` leaves the node.
+fn log_made(s: &mut [u8], n: usize, from: usize, what: Record, made: Made, before: Made)
+    requires { ⌜ Loggable (now s) n × LeaveFrom (planOf (now s)) n from ⌝ }
+    ensures { λ _. ⌜ NodeNow (now (s .entry)) n (logged (setOf (lineOf (now (s .entry)) .plan) n what) what (originIs made) (originIs before)) (now (s .exit)) ⌝ }
 {
+    let first = sets::leaving_from(s, n, from);
+    let set = sets::set_of(s, n, first, what.piece, what.material, what.mass);
     let time = node_fields::time_of(s, n) + 1;
     node_fields::append_entry(
         s,
@@ -64,6 +69,7 @@ fn log_made(s: &mut [u8], n: usize, what: Record, made: Made, before: Made)
             time,
             made,
             before,
+            set,
         },
     );
     node_fields::set_time(s, n, time);
@@ -88,7 +94,7 @@ pub fn feed(s: &mut [u8], n: usize, what: Record, fits: bool) -> u32
     }
     let made = made_by(s, n, what);
     let nothing = Made { from: 0, time: 0 };
-    log_made(s, n, made, nothing, nothing);
+    log_made(s, n, 0, made, nothing, nothing);
     0
 }
 
@@ -108,19 +114,19 @@ fn first_later(s: &[u8], n: usize, mark: u32, count: usize) -> usize
     0
 }
 
-// "the first logged message later than the belt's mark that the belt takes"
+// "the first logged message later than the belt's mark that the belt takes", by the channel's bit in the entries' sets
 fn next_of(s: &[u8], b: usize) -> Next
     requires { ⌜ Undamaged (now s) × (b < planChannels (now s)) ⌝ }
     ensures { λ r. ⌜ nextIs r ≡ sendable (lineOf (now (s .entry))) b ⌝ }
 {
-    let c = look::channel_of(s, b);
-    let n = look::index(c.sender);
+    let n = look::sender_of(s, b);
+    let bit = sets::bit_of(s, b);
     let mark = channel_fields::mark_of(s, b);
     let count = node_fields::log_count(s, n);
     let mut i = first_later(s, n, mark, count);
     while i < count {
         let e = node_fields::entry_of(s, n, i);
-        if plan::channels::channel_takes(c, e.what) {
+        if (e.set >> bit) % 2 == 1 {
             return Next::Entry(e);
         }
         i += 1;
@@ -189,6 +195,6 @@ pub fn take_up(s: &mut [u8], b: usize) -> u32
         from: c.sender + 1,
         time: m.time,
     };
-    log_made(s, n, what, made, m.made);
+    log_made(s, n, b + 1, what, made, m.made);
     0
 }

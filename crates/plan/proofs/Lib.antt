@@ -11,6 +11,7 @@ pub mod LoopLaws
 pub mod AcceptedLaws
 pub mod DegreeLaws
 pub mod TakingLaws
+pub mod SetLaws
 pub mod FitsLaws
 pub mod VersionLaws
 pub mod TickLaws

@@ -38,11 +38,11 @@ numbers-rise k f (x ∷ xs) = rising-kept (f x) k (numbersFrom (suc k) f xs) (nu
 odd-times : (b a : ℕ) → 2 ^ b + a * 2 ^ suc b ≡ (a * 2 + 1) * 2 ^ b
 odd-times b a = omega (arith, add-mul (a * 2) 1 (2 ^ b), mul-assoc a 2 (2 ^ b), ap (λ (x : ℕ). a * x) (pow-succ' 2 b))
 
-ones-zero : ones 0 ≡ 0
+pub ones-zero : ones 0 ≡ 0
 unfolding ones
 ones-zero = refl
 
-ones-one : ones 1 ≡ 1
+pub ones-one : ones 1 ≡ 1
 unfolding ones
 ones-one = refl
 

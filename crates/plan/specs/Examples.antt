@@ -12,6 +12,7 @@ use Rattle.plan.specs.Record.{recordLayout, recordFits}
 use Rattle.plan.specs.Rule.{applied}
 use Rattle.plan.specs.Channel.{takes}
 use Rattle.plan.specs.Plan.{Plan, planOf, planBytes, isSource, isSink}
+use Rattle.plan.specs.Mask.{setOf}
 use Rattle.plan.specs.Check.{planRefusal, planFits}
 use Rattle.plan.specs.Ticks.{tick}
 use Rattle.plan.specs.Versions.{inVersionTwo}
@@ -216,6 +217,15 @@ capped-into = refl
 tick-takes : map (λ (c : Channel). takes c tick) (channelOf 1 1 0 ∷ channelOf 2 4 3 ∷ channelFor 50 60 ∷ []) ≡ true ∷ true ∷ true ∷ []
 unfolding takes
 tick-takes = refl
+
+-- 2026-06, "one bit a belt": node 1's three belts behind one of node 0, the first lowest; taken by the first and the second, by the second alone, by the third, by none; a tick; at an outfeed
+abbrev three : Plan
+three = let from : ℕ → ℕ → ℕ → Channel = λ sender receiver mask. record { sender = sender; receiver = receiver; mask = mask; modulus = 1; remainder = 0; least = 0; greatest = 65_535 } in
+    record { version = 1; rules = Keep ∷ Keep ∷ Keep ∷ Keep ∷ Keep ∷ []; channels = from 0 1 65_535 ∷ from 1 2 2 ∷ from 1 3 6 ∷ from 1 4 8 ∷ [] }
+
+sets : map (setOf three 1) (recordOf 1 3 ∷ recordOf 2 3 ∷ recordOf 3 3 ∷ recordOf 4 3 ∷ tick ∷ []) ++ setOf three 4 tick ∷ [] ≡ 3 ∷ 2 ∷ 4 ∷ 0 ∷ 7 ∷ 0 ∷ []
+unfolding setOf
+sets = refl
 
 -- The bytes of version 2 with the same rules and channels: four behind each remainder.
 in-version-two : inVersionTwo spelledPlan ≡ plan 2 3 1 (keeps 1 ++ (1 ∷ 2 ∷ 0 ∷ 3 ∷ 2 ∷ 0 ∷ 1 ∷ 4 ∷ 0 ∷ 2 ∷ 1 ∷ 5 ∷ 7 ∷ 6 ∷ 0 ∷ 0 ∷ 255 ∷ 255 ∷ []))

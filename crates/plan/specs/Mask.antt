@@ -1,8 +1,8 @@
 -- Sets of channels as masks (document 01, "The belts that take a record form a mask; ones count them, trailing zeros give the next belt").
-use Prim.Native.Nat.{ℕ, zero, suc, _+_, _/_, _%_, _^_, _≤_}
+use Prim.Native.Nat.{ℕ, zero, suc, _+_, _*_, _/_, _%_, _^_, _≤_}
 use mathlib.Core.Path.{_≡_}
 use mathlib.Core.Bool.{Bool, cond, not, _&&_}
-use mathlib.Core.List.{List, [], _∷_}
+use mathlib.Core.List.{List, [], _∷_, map}
 use lib.ListN.{length, getD}
 use lib.Dec.{leb, eqb}
 use lib.Count.{ones, trailingZeros}
@@ -11,7 +11,7 @@ use Rattle.plan.specs.declared.Channel.{Channel}
 use Rattle.plan.specs.declared.Pick.{Pick}
 use Rattle.plan.specs.declared.Pick.the-variants.{Entering, Leaving}
 use Rattle.plan.specs.Channel.{takes}
-use Rattle.plan.specs.Plan.{Plan, planOf, planChannels, channelAt, keepIf, numbersFrom, isNone}
+use Rattle.plan.specs.Plan.{Plan, planOf, planChannels, channelAt, keepIf, numbersFrom, isNone, leaving}
 
 -- The mask of a list of channel numbers: bit b for channel b.
 abbrev pub maskOf : List ℕ → ℕ
@@ -44,6 +44,16 @@ picked (Leaving n) c = eqb (c .sender) n
 -- The channels that leave a node and take a record, by number.
 unfoldable pub taking : Plan → ℕ → Record → List ℕ
 taking p n r = numbersFrom 0 (λ (c : Channel). eqb (c .sender) n && takes c r) (p .channels)
+
+-- Truth values as the bits of a number, the first one lowest.
+abbrev pub bits : List Bool → ℕ
+bits [] = 0
+bits (t ∷ ts) = cond t 1 0 + 2 * bits ts
+
+-- 2026-06: the set of channels that take a record, "one bit a belt": of those that leave the node, the first one lowest. A sink's is empty.
+unfoldable pub setOf : Plan → ℕ → Record → ℕ
+unfolding leaving takes
+setOf p n r = bits (map (λ (c : ℕ). takes (channelAt p c) r) (leaving p n))
 
 -- Whether the channel of a number takes a record.
 abbrev pub takesAt : Plan → Record → ℕ → Bool

@@ -21,12 +21,15 @@ fn bit_set(mask: u16, i: u8) -> bool
     (mask >> i) % 2 == 1
 }
 
-// A piece number's remainder; by 0 it is the number itself.
+// A piece number's remainder; by 0 it is the number itself. By 1, which most channels have, nothing is divided.
 fn left_over(piece: u32, modulus: u8) -> u32
     ensures { λ r. ⌜ r ≡ piece % modulus ⌝ }
 {
-    if modulus == 0 {
-        return piece;
+    if modulus <= 1 {
+        if modulus == 0 {
+            return piece;
+        }
+        return 0;
     }
     piece % (modulus as u32)
 }

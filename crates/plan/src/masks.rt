@@ -3,7 +3,7 @@ ghost use mathlib.Core.Path.{_≡_};
 ghost use mathlib.Core.Bool.{cond};
 ghost use Prim.Native.Nat.{_+_, _-_, _^_, _≤_, _<_};
 ghost use Rattle.plan.specs.Plan.{planOf, planChannels, channelAt, numbersFrom, entering, leaving};
-ghost use Rattle.plan.specs.Mask.{picked, taking, someTakes, planMask, CountOf, FirstOf, TakingOf};
+ghost use Rattle.plan.specs.Mask.{picked, someTakes, planMask, CountOf, FirstOf, TakingOf};
 use crate::Pick;
 use crate::Record;
 use crate::bytes;
@@ -122,11 +122,4 @@ pub fn some_takes(plan: &[u8], mask: u32, piece: u32, material: u8, mass: u16) -
         left -= bit_of(b);
     }
     false
-}
-
-// The channels that leave a node and take a record, as a mask.
-pub fn taking_mask(plan: &[u8], node: usize, r: Record) -> u32
-    ensures { λ m. ⌜ m ≡ planMask (now (plan .entry)) (taking (planOf (now (plan .entry))) node r) ⌝ }
-{
-    taking_among(plan, leaving_mask(plan, node), r)
 }

@@ -2,7 +2,7 @@
 use Prim.Native.Nat.{ℕ, _≤_, _<_}
 use mathlib.Core.Path.{_≡_, refl, sym, ap, ap₂, subst, _∙_}
 use mathlib.Core.Bool.{Bool, true, false, _&&_}
-use mathlib.Core.List.{List, [], _∷_, _++_}
+use mathlib.Core.List.{List, [], _∷_}
 use mathlib.Core.Option.{Option, none, some}
 use native.Mathlib.Omega.{arith}
 use lib.Dec.{leb, eqb}
@@ -13,7 +13,7 @@ use Rattle.plan.proofs.FitsLaws.{fitting}
 use Rattle.rules.specs.Line.{logLimit, heldLimit, Message, Held, Status, Line, nodeAt, laneAt, receiverOf, parents, withNode}
 use Rattle.rules.specs.Frame.{take}
 use Rattle.rules.specs.Recover.{rowGoal, rowComplete}
-use Rattle.rules.specs.Replay.{passedOn, entryAt, replayEnd}
+use Rattle.rules.specs.Replay.{passedOn, heldEntry, replayEnd}
 use Rattle.rules.specs.Step.{endDown, replaying, isNothing, effect, lineRefusal}
 use Rattle.rules.specs.Damaged.{isParent}
 use Rattle.rules.proofs.lists.Members.{in-map, map-in, in-right, any-in, in-at}
@@ -26,12 +26,12 @@ use Rattle.state.specs.State.{lineOf}
 use Rattle.state.proofs.InPlace.{line-plan}
 use Rattle.buffer.specs.Nothing.{noHeld, noMessage}
 use Rattle.buffer.specs.Ready.{Ready}
-use Rattle.buffer.specs.Holds.{Holds, AtNode, Undamaged, Did}
+use Rattle.buffer.specs.Holds.{Holds, Undamaged, Did}
 use Rattle.buffer.proofs.HoldsLaws.{holds-channels}
 use Rattle.passing.proofs.RefusalLaws.{refused, accepted}
 use Rattle.buffer.specs.Rows.{Rows}
-use Rattle.replay_table.specs.Ends.{heldWith, loggedFrom, Ends}
-use Rattle.replay.specs.After.{rowsAfter, wouldHold, takenNow, heldMore, endedNode, Loggable, Seen}
+use Rattle.replay_table.specs.Ends.{heldWith, Ends}
+use Rattle.replay.specs.After.{rowsAfter, wouldHold, takenNow, heldMore, endLog, endedNode, Enters, Loggable, Seen}
 use Rattle.replay.proofs.TakeLaws.{inside, as-in, goes-on, comes-up, ended-is, number-is}
 
 -- ---- what an undamaged line says of a replaying node
@@ -49,8 +49,8 @@ module _ (l : Line) (sound : Sound l) (n : ℕ) (within : n < nodeCount (l .plan
 
   held-small : (i : ℕ) → i < length (nodeAt l n .held) → getD (nodeAt l n .held) i noHeld .sender < 255
   held-small i h =
-      let e = in-right (nodeAt l n .log) (in-map (entryAt 0) (in-at (nodeAt l n .held) i noHeld h)) in
-      parent-small (getD (nodeAt l n .held) i noHeld .sender) (sound .standing .nodes n within .fits .entries (entryAt 0 (getD (nodeAt l n .held) i noHeld)) e .origin .0)
+      let e = in-right (nodeAt l n .log) (in-map heldEntry (in-at (nodeAt l n .held) i noHeld h)) in
+      parent-small (getD (nodeAt l n .held) i noHeld .sender) (sound .standing .nodes n within .fits .entries (heldEntry (getD (nodeAt l n .held) i noHeld)) e .origin .0)
 
   log-empty : replaying l n ≡ true → nodeAt l n .log ≡ []
   log-empty e = subst (λ (z : Status). Empties z (nodeAt l n)) (is-replay (nodeAt l n .status) e) (sound .standing .nodes n within .fits .empties)
@@ -58,8 +58,11 @@ module _ (l : Line) (sound : Sound l) (n : ℕ) (within : n < nodeCount (l .plan
 -- ---- refused
 
 -- The receiver in the line's plan.
-pub to-line : (s : List ℕ) (b n : ℕ) → n ≡ channelAt (planOf s) b .receiver → n ≡ receiverOf (lineOf s) b
+to-line : (s : List ℕ) (b n : ℕ) → n ≡ channelAt (planOf s) b .receiver → n ≡ receiverOf (lineOf s) b
 to-line s b n e = e ∙ ap (λ (p : Plan). channelAt p b .receiver) (sym (line-plan s))
+
+pub entered : (s : List ℕ) (b n : ℕ) → Holds s (lineOf s) → b < planChannels s → (n ≡ channelAt (planOf s) b .receiver) × (n < planNodes s) → Enters s n b
+entered s b n h below to = record { on = record { holds = h; inside = to .1 }; below = below; to = to-line s b n (to .0) }
 
 first-of : (q : List Message) (m : Message) → 0 < length q → m ≡ getD q 0 noMessage → q ≡ m ∷ drop 1 q
 first-of [] m h e = let no : ⊥ = omega arith in absurd no
@@ -104,8 +107,8 @@ module _ {s : List ℕ} {b n : ℕ} {m : Message} {h : Held} {goes : Bool} (v : 
   abbrev goesOn : Bool
   goesOn = passedOn (lineOf s .plan) (receiverOf (lineOf s) b) (wouldHold (lineOf s) b m .what)
 
-  pub at-node : AtNode s n
-  at-node = record { holds = u .holds; inside = v .inside }
+  pub enters : Enters s n b
+  enters = record { on = record { holds = u .holds; inside = v .inside }; below = v .below; to = v .to }
 
   same-goes : goes ≡ goesOn
   same-goes = v .on ∙ ap₂ (λ (j : ℕ) (g : Held). passedOn (l .plan) j (g .what)) (v .to) (v .is)
@@ -186,9 +189,9 @@ module _ {s : List ℕ} {b n : ℕ} {m : Message} {h : Held} {goes : Bool} (v : 
           at-most true {x} z = omega (arith, z, length-append (nodeAt l n .held) (h ∷ []))
           at-most false {x} z = omega arith
 
-      pub ended : r ≤ logLimit → (t : List ℕ) → Holds t (withNode n (endedNode (lineOf s) n (loggedFrom (nodeAt (lineOf s) n .held ++ h ∷ []) out r)) (takenNow (lineOf s) b m)) → Did s (take b) t 0
+      pub ended : r ≤ logLimit → (t : List ℕ) → Holds t (withNode n (endedNode (lineOf s) n (endLog (lineOf s) n h out r)) (takenNow (lineOf s) b m)) → Did s (take b) t 0
       ended q t now =
-          let last = withNode k (endedNode l k (loggedFrom (nodeAt l k .held ++ w ∷ []) out r)) (takenNow l b m) in
+          let last = withNode k (endedNode l k (endLog l k w out r)) (takenNow l b m) in
           let goal : effect l (take b) ≡ some last = leads ∙ found .ended q after (as-in s u b (v .below) m (v .first) (v .again)) ∙ ap some (ended-is s u b (v .below) m (v .first) (v .again) out r (found .inside q)) in
           accepted s t (take b) last (number (some last) false goal refl) goal
-          (subst (λ (x : (ℕ × Held)). Holds t (withNode (x .0) (endedNode l (x .0) (loggedFrom (nodeAt l (x .0) .held ++ x .1 ∷ []) out r)) (takenNow l b m))) (λ i. (v .to i, v .is i)) now)
+          (subst (λ (x : (ℕ × Held)). Holds t (withNode (x .0) (endedNode l (x .0) (endLog l (x .0) (x .1) out r)) (takenNow l b m))) (λ i. (v .to i, v .is i)) now)

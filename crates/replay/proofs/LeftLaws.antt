@@ -1,23 +1,27 @@
 -- What a Take of a replaying node leaves, write by write.
 use Prim.Native.Nat.{ℕ, zero, suc, _+_, _≤_, _<_}
-use mathlib.Core.Path.{_≡_, refl, sym, ap, subst, _∙_}
+use mathlib.Core.Path.{_≡_, refl, sym, ap, ap₂, subst, _∙_}
 use mathlib.Core.Bool.{Bool, true, false}
 use mathlib.Core.List.{List, [], _∷_, _++_}
 use native.Mathlib.Numerals.{add-one}
 use native.Mathlib.Omega.{arith}
 use lib.ListN.{length, getD, length-append}
+use Rattle.plan.specs.declared.Record.{Record}
+use Rattle.plan.specs.Plan.{Plan, planOf, channelAt}
+use Rattle.plan.specs.Mask.{setOf}
 use Rattle.rules.specs.Line.{logLimit, Message, Entry, Held, up, Node, Line, nodeAt, laneAt, withNode, withLane}
 use Rattle.rules.specs.Recover.{highOf}
-use Rattle.rules.specs.Replay.{entryAt}
 use Rattle.rules.specs.Step.{takenLane}
 use Rattle.rules.specs.Trim.{withLog}
 use Rattle.state.specs.Changes.{withStatus, withTime, withHeld, withTargets, moreLogged, moreHeld}
 use Rattle.state.specs.State.{lineOf}
+use Rattle.state.proofs.InPlace.{line-plan}
 use Rattle.buffer.specs.Nothing.{noHeld}
+use Rattle.buffer.specs.Sets.{Begin}
 use Rattle.buffer.specs.Holds.{Holds, AtNode, NodeNow}
-use Rattle.buffer.proofs.HoldsLaws.{Onward, onward, onward-node, node-after, node-then, node-same}
+use Rattle.buffer.proofs.HoldsLaws.{Onward, onward, onward-node, node-onward, node-after, node-then, node-same}
 use Rattle.replay_table.specs.Ends.{entryFrom, loggedFrom}
-use Rattle.replay.specs.After.{First, takenNow, heldMore, endedNode, Loggable}
+use Rattle.replay.specs.After.{First, takenNow, heldMore, endLog, endedNode, Enters, Loggable}
 
 pub first-some : (l : Line) (b : ℕ) (m : Message) → First l b m → 0 < length (laneAt l b .queue)
 first-some l b m e = subst (λ (q : List Message). 0 < length q) (sym e) (omega arith)
@@ -33,6 +37,10 @@ module _ {s t : List ℕ} (at : Holds s (lineOf s)) (b : ℕ) (m : Message) (now
   unfolding takenLane withLane
   taken-node n = ap (λ (l : Line). nodeAt l n) (now .same)
 
+  pub taken-plan : lineOf t .plan ≡ lineOf s .plan
+  unfolding takenLane withLane
+  taken-plan = ap (λ (l : Line). l .plan) (now .same)
+
   -- One more is held then, or none.
   pub held-now : (n : ℕ) (goes : Bool) (h : Held) {u : List ℕ} → goes ≡ true → NodeNow t n (moreHeld h) u → Holds u (heldMore n goes h (takenNow (lineOf s) b m))
   held-now n goes h {u} e more = subst (λ (g : Bool). Holds u (heldMore n g h (takenNow (lineOf s) b m))) (sym e) (subst (λ (l : Line). Holds u (withNode n (moreHeld h (nodeAt l n)) l)) (now .same) (more .holds))
@@ -46,21 +54,21 @@ module _ {s t : List ℕ} (at : Holds s (lineOf s)) (b : ℕ) (m : Message) (now
 
 -- ---- the log, entry by entry
 
-logged-long : (hs : List Held) (out : List ℕ) (j : ℕ) → length (loggedFrom hs out j) ≡ j
-logged-long hs out zero = refl
-logged-long hs out (suc j) = length-append (loggedFrom hs out j) (entryFrom hs out j ∷ []) ∙ (let e = logged-long hs out j in omega arith)
+logged-long : (sets : Record → ℕ) (hs : List Held) (out : List ℕ) (j : ℕ) → length (loggedFrom sets hs out j) ≡ j
+logged-long sets hs out zero = refl
+logged-long sets hs out (suc j) = length-append (loggedFrom sets hs out j) (entryFrom sets hs out j ∷ []) ∙ (let e = logged-long sets hs out j in omega arith)
 
 -- So many entries are written.
 pub record LoggedTo (s₀ : List ℕ) (n : ℕ) (last : Held) (out : List ℕ) (count : ℕ) (s : List ℕ) (j : ℕ) : Type 0 where
   pub within : j ≤ count
-  pub now : NodeNow s₀ n (withLog (loggedFrom (nodeAt (lineOf s₀) n .held ++ last ∷ []) out j)) s
+  pub now : NodeNow s₀ n (withLog (endLog (lineOf s₀) n last out j)) s
 
 module _ (s₀ : List ℕ) (n : ℕ) (last : Held) (out : List ℕ) (count : ℕ) (at : AtNode s₀ n) (ok : Loggable (lineOf s₀) n last out count) where
   abbrev x : Node
   x = nodeAt (lineOf s₀) n
 
-  abbrev hs : List Held
-  hs = nodeAt (lineOf s₀) n .held ++ last ∷ []
+  abbrev log : ℕ → List Entry
+  log = endLog (lineOf s₀) n last out
 
   pub logged-start : LoggedTo s₀ n last out count s₀ 0
   logged-start = record {
@@ -69,14 +77,20 @@ module _ (s₀ : List ℕ) (n : ℕ) (last : Held) (out : List ℕ) (count : ℕ
   }
 
   module _ (s : List ℕ) (j : ℕ) (so-far : LoggedTo s₀ n last out count s j) where
-    there : nodeAt (lineOf s) n ≡ withLog (loggedFrom hs out j) x
-    there = node-after at (withLog (loggedFrom hs out j) x) (so-far .now .holds)
+    there : nodeAt (lineOf s) n ≡ withLog (log j) x
+    there = node-after at (withLog (log j) x) (so-far .now .holds)
+
+    same-plan : planOf s ≡ planOf s₀
+    same-plan = node-onward at (withLog (log j) x) (so-far .now .holds) .plan
+
+    pub logged-begin : (first : ℕ) → Begin (planOf s₀) n first → Begin (planOf s) n first
+    logged-begin first = subst (λ (p : Plan). Begin p n first) (sym same-plan)
 
     pub logged-held : nodeAt (lineOf s) n .held ≡ nodeAt (lineOf s₀) n .held
     logged-held = ap (λ (y : Node). y .held) there
 
     pub logged-few : j < count → length (nodeAt (lineOf s) n .log) < logLimit
-    logged-few h = rw (ap (λ (y : Node). length (y .log)) there ∙ logged-long hs out j) (omega (arith, ok .few))
+    logged-few h = rw (ap (λ (y : Node). length (y .log)) there ∙ logged-long (setOf (lineOf s₀ .plan) n) (x .held ++ last ∷ []) out j) (omega (arith, ok .few))
 
     pub logged-number : j < count → getD out j 0 ≤ length (nodeAt (lineOf s) n .held)
     logged-number h = rw logged-held (ok .numbers j h)
@@ -84,13 +98,14 @@ module _ (s₀ : List ℕ) (n : ℕ) (last : Held) (out : List ℕ) (count : ℕ
     pub logged-senders : (i : ℕ) → i < length (nodeAt (lineOf s) n .held) → getD (nodeAt (lineOf s) n .held) i noHeld .sender < 255
     logged-senders = subst (λ (ys : List Held). (i : ℕ) → i < length ys → getD ys i noHeld .sender < 255) (sym logged-held) (ok .senders)
 
-    pub logged-turn : (e : Entry) (t : List ℕ) → j < count → e ≡ entryAt (getD out (logLimit + j) 0) (getD (nodeAt (lineOf s) n .held ++ last ∷ []) (getD out j 0) noHeld) → NodeNow s n (moreLogged e) t
+    pub logged-turn : (e : Entry) (t : List ℕ) → j < count → e ≡ entryFrom (setOf (lineOf s .plan) n) (nodeAt (lineOf s) n .held ++ last ∷ []) out j → NodeNow s n (moreLogged e) t
         → LoggedTo s₀ n last out count t (j + 1)
     logged-turn e t h q more =
-        let right : e ≡ entryFrom hs out j = q ∙ ap (λ (ys : List Held). entryAt (getD out (logLimit + j) 0) (getD (ys ++ last ∷ []) (getD out j 0) noHeld)) logged-held in
+        let plan : lineOf s .plan ≡ lineOf s₀ .plan = line-plan s ∙ same-plan ∙ sym (line-plan s₀) in
+        let right : e ≡ entryFrom (setOf (lineOf s₀ .plan) n) (x .held ++ last ∷ []) out j = q ∙ ap₂ (λ (p : Plan) (ys : List Held). entryFrom (setOf p n) (ys ++ last ∷ []) out j) plan logged-held in
         record {
           within = omega arith;
-          now = subst (λ (es : List Entry). NodeNow s₀ n (withLog es) t) (ap (λ (d : Entry). loggedFrom hs out j ++ d ∷ []) right ∙ ap (loggedFrom hs out) (sym (add-one j)))
+          now = subst (λ (es : List Entry). NodeNow s₀ n (withLog es) t) (ap (λ (d : Entry). log j ++ d ∷ []) right ∙ ap log (sym (add-one j)))
               (node-then at (so-far .now) more);
         }
 
@@ -106,23 +121,29 @@ loggable-same l k n last out count e ok = record {
   lastSender = ok .lastSender;
 }
 
-module _ {s t : List ℕ} {n : ℕ} (at : AtNode s n) (b : ℕ) (m : Message) (now : Holds t (takenNow (lineOf s) b m)) where
-  pub at-taken : AtNode t n
-  at-taken = onward-node (taken-onward (at .holds) b m now) at
+module _ {s t : List ℕ} {n b : ℕ} (e : Enters s n b) (m : Message) (now : Holds t (takenNow (lineOf s) b m)) where
+  abbrev at : Holds s (lineOf s)
+  at = e .on .holds
 
-  pub end-now : (last : Held) (out : List ℕ) (count high : ℕ) {u v w x y : List ℕ} → NodeNow t n (withLog (loggedFrom (nodeAt (lineOf t) n .held ++ last ∷ []) out count)) u → NodeNow u n (withHeld []) v
+  pub enters-taken : Enters t n b
+  enters-taken =
+      let on = taken-onward at b m now in
+      record { on = onward-node on (e .on); below = rw (on .channels) (e .below); to = e .to ∙ sym (ap (λ (p : Plan). channelAt p b .receiver) (taken-plan at b m now)) }
+
+  pub end-now : (last : Held) (out : List ℕ) (count high : ℕ) {u v w x y : List ℕ} → NodeNow t n (withLog (endLog (lineOf t) n last out count)) u → NodeNow u n (withHeld []) v
       → NodeNow v n (withTargets []) w → NodeNow w n (withTime high) x → NodeNow x n (withStatus up) y → high ≡ highOf (lineOf s) n
-      → Holds y (withNode n (endedNode (lineOf s) n (loggedFrom (nodeAt (lineOf s) n .held ++ last ∷ []) out count)) (takenNow (lineOf s) b m))
-  end-now last out count high {u} {v} {w} {x} {y} logged held targets timed status e =
-      let log : Node → Node = withLog (loggedFrom (nodeAt (lineOf t) n .held ++ last ∷ []) out count) in
-      let all = node-then at-taken (node-then at-taken (node-then at-taken (node-then at-taken logged held) targets) timed) status in
+      → Holds y (withNode n (endedNode (lineOf s) n (endLog (lineOf s) n last out count)) (takenNow (lineOf s) b m))
+  end-now last out count high {u} {v} {w} {x} {y} logged held targets timed status is =
+      let log : Node → Node = withLog (endLog (lineOf t) n last out count) in
+      let on = enters-taken .on in
+      let all = node-then on (node-then on (node-then on (node-then on logged held) targets) timed) status in
       subst (Holds y)
       (λ i. withNode n (record {
         status = up;
         crashed = nodeAt (lineOf s) n .crashed;
-        time = e i;
-        log = loggedFrom (taken-node (at .holds) b m now n i .held ++ last ∷ []) out count;
+        time = is i;
+        log = loggedFrom (setOf (taken-plan at b m now i) n) (taken-node at b m now n i .held ++ last ∷ []) out count;
         held = [];
         targets = [];
       }) (takenNow (lineOf s) b m))
-      (node-now (at .holds) b m now n (λ (z : Node). withStatus up (withTime high (withTargets [] (withHeld [] (log z))))) all)
+      (node-now at b m now n (λ (z : Node). withStatus up (withTime high (withTargets [] (withHeld [] (log z))))) all)

@@ -10,6 +10,8 @@ use borrow.Author.Tests.{ne-eqb, eq-eqb, lt-leb}
 use lib.Dec.{leb}
 use lib.ListN.{length, getD, drop, List·getD-append}
 use lib.Seq.{set-set}
+use Rattle.plan.specs.declared.Record.{Record}
+use Rattle.plan.specs.Mask.{setOf}
 use Rattle.plan.specs.Plan.{Plan, planChannels, nodeCount, channelCount, channelAt, entering}
 use Rattle.plan.proofs.FitsLaws.{fitting}
 use Rattle.plan.proofs.PlanLaws.{channel-count}
@@ -31,7 +33,7 @@ use Rattle.buffer.specs.Nothing.{noHeld}
 use Rattle.buffer.specs.Holds.{Undamaged}
 use Rattle.passing.proofs.RefusalLaws.{firstOf, refusal-first}
 use Rattle.replay_table.specs.Ends.{heldWith, AsIn, loggedFrom}
-use Rattle.replay.specs.After.{takenAfter, rowsAfter, wouldHold, First, takenNow, heldMore, endedNode}
+use Rattle.replay.specs.After.{takenAfter, rowsAfter, wouldHold, First, takenNow, heldMore, endLog, endedNode}
 
 -- ---- where one more is held, or none
 
@@ -62,10 +64,10 @@ module _ (n : ℕ) (h : Held) (k : Line) (inside : n < length (k .nodes)) where
   more-gone false x = refl
 
 -- The same entries by the held records there are, where no number is past them.
-logged-same : (hs gs : List Held) (out : List ℕ) (r : ℕ) → ((j : ℕ) → j < r → getD out j 0 < length hs) → loggedFrom hs out r ≡ loggedFrom (hs ++ gs) out r
-logged-same hs gs out zero f = refl
-logged-same hs gs out (suc j) f =
-    ap₂ (λ (es : List Entry) (g : Held). es ++ entryAt (getD out (logLimit + j) 0) g ∷ []) (logged-same hs gs out j (λ i k. f i (omega arith))) (sym (List·getD-append hs gs noHeld (getD out j 0) (f j (omega arith))))
+logged-same : (sets : Record → ℕ) (hs gs : List Held) (out : List ℕ) (r : ℕ) → ((j : ℕ) → j < r → getD out j 0 < length hs) → loggedFrom sets hs out r ≡ loggedFrom sets (hs ++ gs) out r
+logged-same sets hs gs out zero f = refl
+logged-same sets hs gs out (suc j) f =
+    ap₂ (λ (es : List Entry) (g : Held). es ++ entryAt sets (getD out (logLimit + j) 0) g ∷ []) (logged-same sets hs gs out j (λ i k. f i (omega arith))) (sym (List·getD-append hs gs noHeld (getD out j 0) (f j (omega arith))))
 
 module _ (s : List ℕ) (u : Undamaged s) (b : ℕ) (below : b < planChannels s) (m : Message) (first : First (lineOf s) b m) (again : replaying (lineOf s) (receiverOf (lineOf s) b) ≡ true) where
   abbrev l : Line
@@ -183,11 +185,11 @@ module _ (s : List ℕ) (u : Undamaged s) (b : ℕ) (below : b < planChannels s)
 
   -- The line left, by what is written: the message taken, and the node as it is when its replay has ended.
   pub ended-is : (out : List ℕ) (r : ℕ) → ((j : ℕ) → j < r → getD out j 0 < length (heldWith (lineOf s) (receiverOf (lineOf s) b) goes h))
-      → withNode (receiverOf (lineOf s) b) (endedNode (heldMore (receiverOf (lineOf s) b) goes h (takenNow (lineOf s) b m)) (receiverOf (lineOf s) b) (loggedFrom (heldWith (lineOf s) (receiverOf (lineOf s) b) goes h) out r))
+      → withNode (receiverOf (lineOf s) b) (endedNode (heldMore (receiverOf (lineOf s) b) goes h (takenNow (lineOf s) b m)) (receiverOf (lineOf s) b) (loggedFrom (setOf (lineOf s .plan) (receiverOf (lineOf s) b)) (heldWith (lineOf s) (receiverOf (lineOf s) b) goes h) out r))
       (heldMore (receiverOf (lineOf s) b) goes h (takenNow (lineOf s) b m))
-      ≡ withNode (receiverOf (lineOf s) b) (endedNode (lineOf s) (receiverOf (lineOf s) b) (loggedFrom (nodeAt (lineOf s) (receiverOf (lineOf s) b) .held ++ h ∷ []) out r)) (takenNow (lineOf s) b m)
+      ≡ withNode (receiverOf (lineOf s) b) (endedNode (lineOf s) (receiverOf (lineOf s) b) (endLog (lineOf s) (receiverOf (lineOf s) b) h out r)) (takenNow (lineOf s) b m)
   ended-is out r f =
-      more-gone n h (takenNow l b m) in-now goes (endedNode after n (loggedFrom (heldWith l n goes h) out r))
+      more-gone n h (takenNow l b m) in-now goes (endedNode after n (loggedFrom (setOf (l .plan) n) (heldWith l n goes h) out r))
       ∙ (λ i. withNode n (record {
         status = up;
         crashed = after-part (λ (x : Node). x .crashed) refl i;
@@ -197,9 +199,9 @@ module _ (s : List ℕ) (u : Undamaged s) (b : ℕ) (below : b < planChannels s)
         targets = [];
       }) (takenNow l b m))
     where
-      logged : (t : Bool) → ((j : ℕ) → j < r → getD out j 0 < length (heldWith l n t h)) → loggedFrom (heldWith l n t h) out r ≡ loggedFrom (nodeAt l n .held ++ h ∷ []) out r
+      logged : (t : Bool) → ((j : ℕ) → j < r → getD out j 0 < length (heldWith l n t h)) → loggedFrom (setOf (l .plan) n) (heldWith l n t h) out r ≡ endLog l n h out r
       logged true g = refl
-      logged false g = logged-same (nodeAt l n .held) (h ∷ []) out r g
+      logged false g = logged-same (setOf (l .plan) n) (nodeAt l n .held) (h ∷ []) out r g
 
   -- ---- the number
 

@@ -2,9 +2,10 @@
 use Prim.Native.Nat.{ℕ, max, _≤_, _<_}
 use mathlib.Core.Path.{_≡_}
 use mathlib.Core.Bool.{Bool, true, false, cond, _&&_}
-use mathlib.Core.List.{List, [], _∷_}
+use mathlib.Core.List.{List, [], _∷_, _++_}
 use lib.Dec.{leb, eqb}
 use lib.ListN.{length, getD, drop}
+use Rattle.plan.specs.Mask.{setOf}
 use Rattle.plan.specs.Plan.{planNodes, planChannels, entering}
 use Rattle.rules.specs.Lists.{allOf}
 use Rattle.rules.specs.Line.{logLimit, heldLimit, Message, Entry, Held, up, Node, Line, nodeAt, laneAt, senderOf, receiverOf, withNode}
@@ -14,7 +15,8 @@ use Rattle.rules.specs.Step.{endDown, replaying, madeBy, takenLane}
 use Rattle.state.specs.State.{lineOf}
 use Rattle.state.specs.Changes.{moreHeld}
 use Rattle.buffer.specs.Nothing.{noHeld}
-use Rattle.buffer.specs.Holds.{Undamaged}
+use Rattle.buffer.specs.Holds.{AtNode, Undamaged}
+use Rattle.replay_table.specs.Ends.{loggedFrom}
 
 -- The entry on channel c once a message of a time is taken from channel b.
 abbrev pub takenAfter : Line → ℕ → ℕ → ℕ → ℕ
@@ -44,9 +46,19 @@ abbrev pub heldMore : ℕ → Bool → Held → Line → Line
 heldMore n true h l = withNode n (moreHeld h (nodeAt l n)) l
 heldMore n false h l = l
 
--- The node when its replay has ended.
+-- The log when the node's replay has ended: the held records and one more, by the numbers.
+abbrev pub endLog : Line → ℕ → Held → List ℕ → ℕ → List Entry
+endLog l n last out r = loggedFrom (setOf (l .plan) n) (nodeAt l n .held ++ last ∷ []) out r
+
+-- The node then.
 abbrev pub endedNode : Line → ℕ → List Entry → Node
 endedNode l n log = record { status = up; crashed = nodeAt l n .crashed; time = highOf l n; log = log; held = []; targets = [] }
+
+-- A channel b that enters a node n.
+pub record Enters (s : List ℕ) (n b : ℕ) : Type 0 where
+  pub on : AtNode s n
+  pub below : b < planChannels s
+  pub to : n ≡ receiverOf (lineOf s) b
 
 -- What the log's numbers must be: none past the held records and one more, whose senders a byte can name.
 pub record Loggable (l : Line) (n : ℕ) (last : Held) (out : List ℕ) (count : ℕ) : Type 0 where

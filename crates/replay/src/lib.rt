@@ -5,7 +5,8 @@ ghost use mathlib.Core.List.{[], _∷_, _++_};
 ghost use Prim.Native.Nat.{ℕ, _≤_, _<_};
 ghost use lib.Dec.{eqb};
 ghost use lib.ListN.{length, getD};
-ghost use Rattle.plan.specs.Plan.{planChannels};
+ghost use Rattle.plan.specs.Plan.{planOf, planChannels};
+ghost use Rattle.plan.specs.Mask.{setOf};
 ghost use Rattle.rules.specs.Line.{heldLimit, nodeAt, laneAt, receiverOf, withNode};
 ghost use Rattle.rules.specs.Frame as frames;
 ghost use Rattle.rules.specs.Recover.{rowGoal};
@@ -14,14 +15,15 @@ ghost use Rattle.rules.specs.Step.{replaying, endDown};
 ghost use Rattle.rules.specs.Trim.{withLog};
 ghost use Rattle.state.specs.State.{lineOf};
 ghost use Rattle.buffer.specs.Nothing.{noHeld};
+ghost use Rattle.buffer.specs.Sets.{Begin};
 ghost use Rattle.buffer.specs.Holds.{Holds, AtNode, NodeNow, Undamaged, Did};
 ghost use Rattle.slots.specs.Slots.{messageIs, entryIs, heldIs};
 ghost use Rattle.buffer.specs.Rows.{Rows};
-ghost use Rattle.replay_table.specs.Ends.{loggedFrom};
-ghost use Rattle.replay.specs.After.{rowAfter, rowsAfter, wouldHold, First, takenNow, heldMore, endedNode, Loggable, Open};
+ghost use Rattle.replay.specs.After.{rowAfter, rowsAfter, wouldHold, First, takenNow, heldMore, endLog, endedNode, Enters, Loggable, Open};
 use buffer::Line;
 use buffer::bytes;
 use buffer::look;
+use buffer::sets;
 use plan::Record;
 use recover::rows;
 use slots::Logged;
@@ -83,17 +85,19 @@ fn rows_after(s: &[u8], n: usize, goals: &[u32; 12], b: usize, time: u32) -> boo
 
 // ---- the record
 
-// Whether some channel that leaves the node takes a record: those that do form a mask, and its ones count them.
-fn goes_on(s: &[u8], n: usize, what: Record) -> bool
-    requires { ⌜ AtNode (now s) n ⌝ }
+// Whether some channel that leaves the node takes a record: its set is a mask, and the ones count them. Channel b enters the node, so none up to it leaves.
+fn goes_on(s: &[u8], n: usize, b: usize, what: Record) -> bool
+    requires { ⌜ Enters (now s) n b ⌝ }
     ensures { λ r. ⌜ r ≡ passedOn (lineOf (now (s .entry)) .plan) n what ⌝ }
 {
-    plan::masks::mask_count(plan::masks::taking_mask(s, n, what)) != 0
+    let first = sets::leaving_from(s, n, b + 1);
+    let set = sets::set_of(s, n, first, what.piece, what.material, what.mass);
+    plan::masks::mask_count(set as u32) != 0
 }
 
 // The first message of channel b as its receiver n would hold it.
 fn waiting_of(s: &[u8], n: usize, b: usize, m: Sent) -> Waiting
-    requires { ⌜ AtNode (now s) n × (b < planChannels (now s)) × (n ≡ receiverOf (lineOf (now s)) b) ⌝ }
+    requires { ⌜ Enters (now s) n b ⌝ }
     ensures { λ r. ⌜ heldIs r ≡ wouldHold (lineOf (now (s .entry))) b (messageIs m) ⌝ }
 {
     let c = look::channel_of(s, b);
@@ -119,10 +123,10 @@ fn hold(s: &mut [u8], n: usize, b: usize, m: Sent, goes: bool, last: Waiting)
     }
 }
 
-// A held record as it is logged in a column.
-fn logged(h: Waiting, column: u32) -> Logged
+// A held record as it is logged in a column, with its set.
+fn logged(h: Waiting, column: u32, set: u8) -> Logged
     requires { ⌜ h .sender < 255 ⌝ }
-    ensures { λ r. ⌜ entryIs r ≡ entryAt column (heldIs h) ⌝ }
+    ensures { λ r. ⌜ entryIs r ≡ entryAt (λ _. set) column (heldIs h) ⌝ }
 {
     let what = h.what;
     let before = h.before;
@@ -134,28 +138,33 @@ fn logged(h: Waiting, column: u32) -> Logged
             time: h.time,
         },
         before,
+        set,
     }
 }
 
-// The held record of a number, `last` behind those that are stored, as it is logged in a column.
-fn entry_for(s: &[u8], n: usize, last: Waiting, number: usize, column: u32) -> Logged
-    requires { ⌜ AtNode (now s) n × (number ≤ length (nodeAt (lineOf (now s)) n .held)) × (last .sender < 255) × ((i : ℕ) → i < length (nodeAt (lineOf (now s)) n .held) → getD (nodeAt (lineOf (now s)) n .held) i noHeld .sender < 255) ⌝ }
-    ensures { λ r. ⌜ entryIs r ≡ entryAt column (getD (nodeAt (lineOf (now (s .entry))) n .held ++ heldIs last ∷ []) number noHeld) ⌝ }
+// The held record of a number, `last` behind those that are stored, as it is logged in a column; `first` is where the channels that leave the node begin.
+fn entry_for(s: &[u8], n: usize, first: usize, last: Waiting, number: usize, column: u32) -> Logged
+    requires { ⌜ AtNode (now s) n × Begin (planOf (now s)) n first × (number ≤ length (nodeAt (lineOf (now s)) n .held)) × (last .sender < 255) × ((i : ℕ) → i < length (nodeAt (lineOf (now s)) n .held) → getD (nodeAt (lineOf (now s)) n .held) i noHeld .sender < 255) ⌝ }
+    ensures { λ r. ⌜ entryIs r ≡ entryAt (setOf (lineOf (now (s .entry)) .plan) n) column (getD (nodeAt (lineOf (now (s .entry))) n .held ++ heldIs last ∷ []) number noHeld) ⌝ }
 {
+    let mut h = last;
     if number < node_fields::held_count(s, n) {
-        return logged(node_fields::held_of(s, n, number), column);
+        h = node_fields::held_of(s, n, number);
     }
-    logged(last, column)
+    let what = h.what;
+    let set = sets::set_of(s, n, first, what.piece, what.material, what.mass);
+    logged(h, column, set)
 }
 
 // The log of a replay's end, entry by entry.
-fn log_placed(s: &mut [u8], n: usize, last: Waiting, out: &[u32; 128], count: usize)
-    requires { ⌜ AtNode (now s) n × Loggable (lineOf (now s)) n (heldIs last) (now out) count ⌝ }
-    ensures { λ _. ⌜ NodeNow (now (s .entry)) n (withLog (loggedFrom (nodeAt (lineOf (now (s .entry))) n .held ++ heldIs last ∷ []) (now (out .entry)) count)) (now (s .exit)) ⌝ }
+fn log_placed(s: &mut [u8], n: usize, b: usize, last: Waiting, out: &[u32; 128], count: usize)
+    requires { ⌜ Enters (now s) n b × Loggable (lineOf (now s)) n (heldIs last) (now out) count ⌝ }
+    ensures { λ _. ⌜ NodeNow (now (s .entry)) n (withLog (endLog (lineOf (now (s .entry))) n (heldIs last) (now (out .entry)) count)) (now (s .exit)) ⌝ }
 {
+    let first = sets::leaving_from(s, n, b + 1);
     let mut j: usize = 0;
     while j < count {
-        let e = entry_for(s, n, last, bytes::size(out[j]), out[LOG_LIMIT + j]);
+        let e = entry_for(s, n, first, last, bytes::size(out[j]), out[LOG_LIMIT + j]);
         node_fields::append_entry(s, n, e);
         j += 1;
     }
@@ -163,12 +172,12 @@ fn log_placed(s: &mut [u8], n: usize, last: Waiting, out: &[u32; 128], count: us
 
 // "held records are placed, logged in order of column as their times, B's time becomes high, and B is up, targets and held list emptied"
 fn end(s: &mut [u8], n: usize, b: usize, m: Sent, last: Waiting, out: &[u32; 128], count: usize)
-    requires { ⌜ AtNode (now s) n × (b < planChannels (now s)) × First (lineOf (now s)) b (messageIs m) × Loggable (lineOf (now s)) n (heldIs last) (now out) count ⌝ }
-    ensures { λ _. ⌜ Holds (now (s .exit)) (withNode n (endedNode (lineOf (now (s .entry))) n (loggedFrom (nodeAt (lineOf (now (s .entry))) n .held ++ heldIs last ∷ []) (now (out .entry)) count)) (takenNow (lineOf (now (s .entry))) b (messageIs m))) ⌝ }
+    requires { ⌜ Enters (now s) n b × First (lineOf (now s)) b (messageIs m) × Loggable (lineOf (now s)) n (heldIs last) (now out) count ⌝ }
+    ensures { λ _. ⌜ Holds (now (s .exit)) (withNode n (endedNode (lineOf (now (s .entry))) n (endLog (lineOf (now (s .entry))) n (heldIs last) (now (out .entry)) count)) (takenNow (lineOf (now (s .entry))) b (messageIs m))) ⌝ }
 {
     let high = recover::told::high_of(s, n);
     channel_fields::take_first(s, b, m);
-    log_placed(s, n, last, out, count);
+    log_placed(s, n, b, last, out, count);
     node_fields::clear_held(s, n);
     node_fields::clear_targets(s, n);
     node_fields::set_time(s, n, high);
@@ -216,7 +225,7 @@ pub fn take_replaying(s: &mut [u8], b: usize) -> u32
     }
     let m = channel_fields::first_of(s, b);
     let last = waiting_of(s, n, b, m);
-    let goes = goes_on(s, n, last.what);
+    let goes = goes_on(s, n, b, last.what);
     let full = HELD_LIMIT <= node_fields::held_count(s, n);
     if goes & full {
         return 21;

@@ -5,6 +5,8 @@ use mathlib.Core.Bool.{Bool, true, false}
 use mathlib.Core.List.{List, [], _∷_, _++_}
 use mathlib.Core.Option.{none, some}
 use lib.ListN.{length, getD}
+use Rattle.plan.specs.declared.Record.{Record}
+use Rattle.plan.specs.Mask.{setOf}
 use Rattle.rules.specs.Line.{logLimit, Entry, Held, up, Line, nodeAt, laneAt, senderOf, withNode}
 use Rattle.rules.specs.Recover.{highOf}
 use Rattle.rules.specs.Replay.{entryAt, replayEnd}
@@ -24,12 +26,12 @@ pub record AsIn (l : Line) (n : ℕ) (hs : List Held) (k : Line) : Type 0 where
   pub taken : (c : ℕ) → senderOf l c ≡ n → laneAt k c .taken ≡ laneAt l c .taken
 
 -- The log by numbers: entry j's held record at j, its column at 64 + j.
-abbrev pub entryFrom : List Held → List ℕ → ℕ → Entry
-entryFrom hs out j = entryAt (getD out (logLimit + j) 0) (getD hs (getD out j 0) noHeld)
+abbrev pub entryFrom : (Record → ℕ) → List Held → List ℕ → ℕ → Entry
+entryFrom sets hs out j = entryAt sets (getD out (logLimit + j) 0) (getD hs (getD out j 0) noHeld)
 
-abbrev pub loggedFrom : List Held → List ℕ → ℕ → List Entry
-loggedFrom hs out zero = []
-loggedFrom hs out (suc j) = loggedFrom hs out j ++ entryFrom hs out j ∷ []
+abbrev pub loggedFrom : (Record → ℕ) → List Held → List ℕ → ℕ → List Entry
+loggedFrom sets hs out zero = []
+loggedFrom sets hs out (suc j) = loggedFrom sets hs out j ++ entryFrom sets hs out j ∷ []
 
 -- The end found: r entries in the log, by the numbers; 65 where there is none.
 pub record Ends (l : Line) (n : ℕ) (hs : List Held) (out : List ℕ) (r : ℕ) : Type 0 where
@@ -37,6 +39,6 @@ pub record Ends (l : Line) (n : ℕ) (hs : List Held) (out : List ℕ) (r : ℕ)
   pub few : r ≤ 65
   pub none : r ≡ 65 → (k : Line) → AsIn l n hs k → replayEnd n k ≡ none
   pub ended : r ≤ logLimit → (k : Line) → AsIn l n hs k
-      → replayEnd n k ≡ some (withNode n (record { status = up; crashed = nodeAt k n .crashed; time = highOf k n; log = loggedFrom hs out r; held = []; targets = [] }) k)
+      → replayEnd n k ≡ some (withNode n (record { status = up; crashed = nodeAt k n .crashed; time = highOf k n; log = loggedFrom (setOf (l .plan) n) hs out r; held = []; targets = [] }) k)
   pub inside : r ≤ logLimit → (j : ℕ) → j < r → getD out j 0 < length hs
   pub placed : r ≤ logLimit → r ≤ length hs

@@ -1,4 +1,4 @@
--- The theorems are Order's and AlwaysBack's, and those of `console`, `versions`, `trimming` and `ticks`; the folders are what they rest on, in this order, and `undamaged` is the other law of steps.
+-- The theorems are Order's, AlwaysBack's and WithoutSets', and those of `console`, `versions`, `trimming` and `ticks`; the folders are what they rest on, in this order, and `undamaged` is the other law of steps.
 -- Lists.
 pub mod lists
 -- The line after a change, and the channels of a node.
@@ -26,5 +26,7 @@ pub mod console
 pub mod versions
 -- Trims change nothing that anybody receives, and make space.
 pub mod trimming
+-- No step reads a set.
+pub mod WithoutSets
 -- Floor times rise after ticks.
 pub mod ticks

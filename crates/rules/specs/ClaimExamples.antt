@@ -5,7 +5,7 @@ use mathlib.Core.Bool.{Bool, true, false}
 use mathlib.Core.List.{List, [], _∷_, _++_, map}
 use Rattle.plan.specs.declared.Rule.the-variants.{Keep, Relabel}
 use Rattle.plan.specs.Plan.{Plan}
-use Rattle.rules.specs.Line.{Line, initialLine}
+use Rattle.rules.specs.Line.{Entry, Node, Line, initialLine}
 use Rattle.rules.specs.Plain.{Act, feeds, takesFrom, Receipt, plainRun, runFeeds, atRest}
 use Rattle.rules.specs.Claim.{Story, startOf, storyFrom, told, named, receivedBy, quiet}
 use Rattle.rules.specs.Marked.{channel, feedFrame, frame, moved, replayPlan, replayBegun, replayRefused, replayAfter}
@@ -114,6 +114,11 @@ relabelStory = storyFrom (startOf (initialLine relabels)) (feedFrame 0 1 1 ∷ (
 fed-before-the-rule : relabelStory .fedActs ≡ feeds 0 (piece 1 1) ∷ []
 unfolding relabelStory
 fed-before-the-rule = refl
+
+-- Each entry's set is of the record after the rule: the channel behind it takes that one alone.
+sets-after-the-rule : map (λ (x : Node). map (λ (e : Entry). e .set) (x .log)) (relabelStory .line .nodes) ≡ (1 ∷ []) ∷ (1 ∷ []) ∷ (0 ∷ []) ∷ []
+unfolding relabelStory
+sets-after-the-rule = refl
 
 received-after-the-rule : relabelStory .receipts ∷ plainRun relabels (feeds 0 (piece 1 1) ∷ takesFrom 0 ∷ takesFrom 1 ∷ []) .received ∷ []
     ≡ (receipt 1 1 2 0 ∷ receipt 2 1 3 1 ∷ []) ∷ (receipt 1 1 2 0 ∷ receipt 2 1 3 1 ∷ []) ∷ []

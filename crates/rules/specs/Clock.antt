@@ -9,14 +9,14 @@ use Rattle.plan.specs.declared.Channel.{Channel}
 use Rattle.plan.specs.Channel.{takes}
 use Rattle.rules.specs.Line.{Origin, fed, made, Message, Entry, Node, Lane}
 
--- A node's time rises by 1 and the message is logged.
-unfoldable pub logged : Record → Origin → Origin → Node → Node
-logged what origin before x =
+-- A node's time rises by 1 and the message is logged; 2026-06: the set of channels that take it is written "when the entry is made".
+unfoldable pub logged : ℕ → Record → Origin → Origin → Node → Node
+logged set what origin before x =
     record {
       status = x .status;
       crashed = x .crashed;
       time = suc (x .time);
-      log = x .log ++ record { what = what; time = suc (x .time); origin = origin; before = before } ∷ [];
+      log = x .log ++ record { what = what; time = suc (x .time); origin = origin; before = before; set = set } ∷ [];
       held = x .held;
       targets = x .targets;
     }

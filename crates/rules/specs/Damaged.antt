@@ -1,4 +1,4 @@
--- What makes a line damaged (document 01, "Damaged"; document 02, 2026-04 and 2026-05): conditions of the line, of a node n and of a channel b, each by itself. What a line cannot spell is the layout's matter: unused bytes, counts past their limits, status and crash mark bytes that no node has, and in the stored plan its length and rule bytes that no rule has.
+-- What makes a line damaged (document 01, "Damaged"; document 02, 2026-04 to 2026-06): conditions of the line, of a node n and of a channel b, each by itself. What a line cannot spell is the layout's matter: unused bytes, counts past their limits, status and crash mark bytes that no node has, and in the stored plan its length and rule bytes that no rule has.
 use Prim.Native.Nat.{ℕ, suc, _^_}
 use mathlib.Core.Bool.{Bool, true, false, not, _&&_, _||_}
 use mathlib.Core.List.{List, [], _∷_, _++_, map}
@@ -9,10 +9,11 @@ use Rattle.plan.specs.declared.Record.{Record}
 use Rattle.plan.specs.Record.{knownRecord}
 use Rattle.plan.specs.Plan.{Plan, nodeCount, channelCount, channelAt, entering, isSource, isSink}
 use Rattle.plan.specs.Check.{planFits}
+use Rattle.plan.specs.Mask.{setOf}
 use Rattle.rules.specs.Lists.{isEmpty, allOf, anyOf, joined}
 use Rattle.rules.specs.Line.{logLimit, queueLimit, heldLimit, targetLimit, stepLimit, consoleCount, Origin, fed, made, Message, Entry, Held, Target, Status, up, down, replay, Node, Lane, Line, nodeAt, laneAt, nodeNumbers, channelNumbersOf, senderOf, receiverOf, parents, isUp, isReplay, acceptedSteps}
 use Rattle.rules.specs.Recover.{sameTarget}
-use Rattle.rules.specs.Replay.{passedOn, entryAt, heldByRow}
+use Rattle.rules.specs.Replay.{passedOn, heldEntry, heldByRow}
 use Rattle.rules.specs.Step.{endDown, nodeDown, replaying, recoverGives}
 
 -- Something holds of a node, or of a channel.
@@ -39,7 +40,7 @@ misshapen l =
 
 -- What a node has worked on: its log, and its held records as the entries that they are to become.
 abbrev pub workedOn : Node → List Entry
-workedOn x = x .log ++ map (entryAt 0) (x .held)
+workedOn x = x .log ++ map heldEntry (x .held)
 
 -- "a number is outside its limits": the steps of each console, the counts and the records, of which "the state check" lets a tick through (2026-05).
 unfoldable pub stepsPast : Line → Bool
@@ -159,6 +160,11 @@ unfoldable pub pastClock : Line → ℕ → Bool
 unfolding entering parents
 pastClock l n = anyOf (λ (e : Entry). anyOf (λ (b : ℕ). pastLane l b (e .origin) (e .before)) (entering (l .plan) n)) (workedOn (nodeAt l n))
 
+-- 2026-06: "A state whose set differs from what the plan gives is damaged."
+unfoldable pub setWrong : Plan → ℕ → Node → Bool
+unfolding setOf
+setWrong p n x = anyOf (λ (e : Entry). not (eqb (e .set) (setOf p n (e .what)))) (x .log)
+
 -- "held times of a row don't rise strictly"
 unfoldable pub heldWrong : Line → ℕ → Bool
 unfolding entering
@@ -231,10 +237,10 @@ lowWrong s = lowPast (s .low) (s .taken ∷ s .heard)
 
 -- All the conditions of a node, and of a channel.
 unfoldable pub nodeDamaged : Line → ℕ → Bool
-unfolding nodePastLimits nodeWrongParent nodeTimePast nodeTimeZero nodeMakerWrong logWrong pastClock heldWrong heldNotPassed markMissing markOnEnd replayWrong nodeHolds
+unfolding nodePastLimits nodeWrongParent nodeTimePast nodeTimeZero nodeMakerWrong logWrong setWrong pastClock heldWrong heldNotPassed markMissing markOnEnd replayWrong nodeHolds
 nodeDamaged l n =
     let x = nodeAt l n in
-    nodePastLimits x || nodeWrongParent (l .plan) n x || nodeTimePast (acceptedSteps l) x || nodeTimeZero x || nodeMakerWrong (l .plan) n x || logWrong x || pastClock l n
+    nodePastLimits x || nodeWrongParent (l .plan) n x || nodeTimePast (acceptedSteps l) x || nodeTimeZero x || nodeMakerWrong (l .plan) n x || logWrong x || setWrong (l .plan) n x || pastClock l n
     || heldWrong l n || heldNotPassed (l .plan) n x || markMissing x || markOnEnd (l .plan) n x || replayWrong l n || nodeHolds x
 
 unfoldable pub channelDamaged : Line → ℕ → Bool

@@ -13,9 +13,9 @@ use Rattle.rules.specs.Lists.{isEmpty, joined, upTo}
 use Rattle.rules.specs.Claim.{Story, startOf, storyFrom, told}
 use Rattle.rules.specs.Marked.{channel, feedFrame, frame, moved as twoSteps, replayPlan, replayBegun, replayEnded}
 use Rattle.rules.specs.Examples.{chain}
-use Rattle.rules.specs.Damaged.{someNode, someChannel, planBroken, misshapen, stepsPast, nodePastLimits, nodeWrongParent, nodeTimePast, nodeTimeZero, nodeMakerWrong, logWrong, pastClock, heldWrong, heldNotPassed, markMissing, markOnEnd, replayWrong, nodeHolds, channelPastLimits, channelWrongParent, channelTimePast, channelTimeZero, channelMakerWrong, queueWrong, marksJoined, channelHolds, lowWrong, damaged}
+use Rattle.rules.specs.Damaged.{someNode, someChannel, planBroken, misshapen, stepsPast, nodePastLimits, nodeWrongParent, nodeTimePast, nodeTimeZero, nodeMakerWrong, logWrong, setWrong, pastClock, heldWrong, heldNotPassed, markMissing, markOnEnd, replayWrong, nodeHolds, channelPastLimits, channelWrongParent, channelTimePast, channelTimeZero, channelMakerWrong, queueWrong, marksJoined, channelHolds, lowWrong, damaged}
 
--- The conditions in the order in which `damaged` has them; `met` gives the numbers, from 1, of those that hold.
+-- The conditions in the order in which `damaged` has them, but 2026-06's set last; `met` gives the numbers, from 1, of those that hold.
 abbrev numbersOf : ℕ → List Bool → List ℕ
 numbersOf k [] = []
 numbersOf k (true ∷ bs) = k ∷ numbersOf (suc k) bs
@@ -28,7 +28,7 @@ abbrev atChannel : Line → (ℕ → Lane → Bool) → Bool
 atChannel l f = someChannel l (λ (b : ℕ). f b (laneAt l b))
 
 unfoldable pub met : Line → List ℕ
-unfolding planBroken misshapen stepsPast nodePastLimits nodeWrongParent nodeTimePast nodeTimeZero nodeMakerWrong logWrong pastClock heldWrong heldNotPassed markMissing markOnEnd replayWrong nodeHolds channelPastLimits channelWrongParent channelTimePast channelTimeZero channelMakerWrong queueWrong marksJoined channelHolds lowWrong
+unfolding planBroken misshapen stepsPast nodePastLimits nodeWrongParent nodeTimePast nodeTimeZero nodeMakerWrong logWrong pastClock heldWrong heldNotPassed markMissing markOnEnd replayWrong nodeHolds channelPastLimits channelWrongParent channelTimePast channelTimeZero channelMakerWrong queueWrong marksJoined channelHolds lowWrong setWrong
 met l =
     let p = l .plan in
     numbersOf 1 (
@@ -57,6 +57,7 @@ met l =
     ∷ someChannel l (marksJoined l)
     ∷ someChannel l (channelHolds l)
     ∷ atChannel l (λ b s. lowWrong s)
+    ∷ atNode l (setWrong p)
     ∷ [])
 
 unfoldable pub begun : Line
@@ -130,16 +131,19 @@ abbrev held : ℕ → ℕ → Held
 held material time = record { what = piece 1 material; sender = 0; time = time; before = fed }
 
 abbrev before : Origin → Entry → Entry
-before o e = record { what = e .what; time = e .time; origin = e .origin; before = o }
+before o e = record { what = e .what; time = e .time; origin = e .origin; before = o; set = e .set }
 
 abbrev origin : Origin → Entry → Entry
-origin o e = record { what = e .what; time = e .time; origin = o; before = e .before }
+origin o e = record { what = e .what; time = e .time; origin = o; before = e .before; set = e .set }
+
+abbrev leavingBy : ℕ → Entry → Entry
+leavingBy k e = record { what = e .what; time = e .time; origin = e .origin; before = e .before; set = k }
 
 abbrev at : ℕ → Entry → Entry
-at t e = record { what = e .what; time = t; origin = e .origin; before = e .before }
+at t e = record { what = e .what; time = t; origin = e .origin; before = e .before; set = e .set }
 
 abbrev of : Record → Entry → Entry
-of r e = record { what = r; time = e .time; origin = e .origin; before = e .before }
+of r e = record { what = r; time = e .time; origin = e .origin; before = e .before; set = e .set }
 
 abbrev withLog : List Entry → Node → Node
 withLog es x = record { status = x .status; crashed = x .crashed; time = x .time; log = es; held = x .held; targets = x .targets }
@@ -160,7 +164,7 @@ abbrev shaped : List Node → List Lane → Line → Line
 shaped ns ls l = record { plan = l .plan; steps = l .steps; nodes = ns; lanes = ls }
 
 abbrev ownEntry : ℕ → Origin → Origin → Entry
-ownEntry t o b = record { what = piece 1 1; time = t; origin = o; before = b }
+ownEntry t o b = record { what = piece 1 1; time = t; origin = o; before = b; set = 1 }
 
 abbrev message : ℕ → Origin → Message
 message t o = record { what = piece 1 1; time = t; origin = o }
@@ -220,7 +224,7 @@ trials =
     -- a down node's child keeps its clock
     ∷ trial (lane 2 (moved 0 2) fallen) []
     -- the line
-    ∷ trial (replanned 1 undivided begun) (1 ∷ [])
+    ∷ trial (replanned 1 undivided begun) (1 ∷ 26 ∷ [])
     -- a version that is none; a window that only version 2 can spell
     ∷ trial (replanned 3 (λ c. c) begun) (1 ∷ [])
     ∷ trial (replanned 2 (λ c. c) begun) []
@@ -263,6 +267,11 @@ trials =
     ∷ trial (lane 2 (keeps (3 ∷ 1 ∷ 0 ∷ [])) ended) (25 ∷ [])
     ∷ trial (lane 2 (keeps (2 ∷ 2 ∷ 0 ∷ [])) ended) (25 ∷ [])
     ∷ trial (lane 0 (keeps (1 ∷ [])) fallen) (25 ∷ [])
+    -- a set that is not what the plan gives: a source's, a sink's
+    ∷ trial (node 0 (logs (leavingBy 1)) ended) []
+    ∷ trial (node 0 (logs (leavingBy 0)) ended) (26 ∷ [])
+    ∷ trial (node 0 (logs (leavingBy 3)) ended) (26 ∷ [])
+    ∷ trial (node 3 (logs (leavingBy 1)) ended) (26 ∷ [])
     -- times of nodes and channels past the steps; a marked sink beside a marked node
     ∷ trial (steps 1 begun) (6 ∷ 19 ∷ [])
     ∷ trial (node 3 (marked true) begun) (14 ∷ 23 ∷ [])
@@ -352,10 +361,10 @@ parts =
     ∷ trial (node 0 (marked true) (initialLine replayPlan)) (14 ∷ [])
     -- "what Recover would give": up; 24, one time with two inputs; fewer targets
     ∷ trial (node 2 (standing replay) (node 2 (marked true) (initialLine replayPlan))) (15 ∷ [])
-    ∷ trial (node 2 (aims (target 2 0 1 ∷ target 2 1 1 ∷ [])) (lane 2 (hears (1 ∷ 1 ∷ [])) (node 3 (timed 2) (node 3 (withLog (ownEntry 1 (made 2 2) (made 0 1) ∷ ownEntry 2 (made 2 2) (made 1 1) ∷ [])) begun)))) (15 ∷ [])
+    ∷ trial (node 2 (aims (target 2 0 1 ∷ target 2 1 1 ∷ [])) (lane 2 (hears (1 ∷ 1 ∷ [])) (node 3 (timed 2) (node 3 (withLog (leavingBy 0 (ownEntry 1 (made 2 2) (made 0 1)) ∷ leavingBy 0 (ownEntry 2 (made 2 2) (made 1 1)) ∷ [])) begun)))) (15 ∷ [])
     ∷ trial (node 2 (aims (target 2 0 1 ∷ target 3 0 2 ∷ [])) begun) (15 ∷ [])
     -- "a down node's belts or emptied parts": its log, held list and targets; on entering belts mark, message and heard times; on leaving ones a message
-    ∷ trial (node 2 (withLog (ownEntry 1 (made 0 1) fed ∷ [])) fallen) (9 ∷ 10 ∷ 16 ∷ [])
+    ∷ trial (node 2 (withLog (leavingBy 3 (ownEntry 1 (made 0 1) fed) ∷ [])) fallen) (9 ∷ 10 ∷ 16 ∷ [])
     ∷ trial (node 2 (holds (held 1 1 ∷ [])) fallen) (10 ∷ 16 ∷ [])
     ∷ trial (node 2 (aims (target 2 0 1 ∷ [])) fallen) (16 ∷ [])
     ∷ trial (lane 0 (moved 1 0) fallen) (24 ∷ [])
@@ -365,7 +374,7 @@ parts =
     -- "an up node's targets or held list"
     ∷ trial (node 2 (holds (held 1 1 ∷ [])) ended) (16 ∷ [])
     -- "a replaying node's log or leaving belts"
-    ∷ trial (node 2 (withLog (ownEntry 1 (made 0 1) fed ∷ [])) later) (16 ∷ [])
+    ∷ trial (node 2 (withLog (leavingBy 3 (ownEntry 1 (made 0 1) fed) ∷ [])) later) (16 ∷ [])
     ∷ trial (lane 3 (queued (message 2 (made 0 1) ∷ [])) (lane 3 (moved 2 0) begun)) (24 ∷ [])
     ∷ []
 

@@ -78,7 +78,7 @@ loggedOn p frames =
 
 -- An entry made from node s's message at a time, which was made from another's.
 abbrev madeFrom : ℕ → ℕ → ℕ → ℕ → Entry
-madeFrom s t q u = record { what = record { piece = 1; material = 1; mass = 0 }; time = 1; origin = made s t; before = made q u }
+madeFrom s t q u = record { what = record { piece = 1; material = 1; mass = 0 }; time = 1; origin = made s t; before = made q u; set = 0 }
 
 abbrev clockNumbers : Lane → List ℕ
 clockNumbers s = s .mark ∷ s .taken ∷ s .heard

@@ -16,6 +16,7 @@ pub mod Ticks
 pub mod Order
 pub mod Restart
 pub mod Console
+pub mod Sets
 pub mod Versions
 pub mod Marked
 pub mod Examples

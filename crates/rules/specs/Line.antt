@@ -48,12 +48,13 @@ pub record Message : Type 0 where
   pub time : ℕ
   pub origin : Origin
 
--- "Each log entry is such a message, made by this node, and keeps also the sender and time that its input was made from, if any."
+-- "Each log entry is such a message, made by this node, and keeps also the sender and time that its input was made from, if any." 2026-06: and the set of channels that take it, "one bit a belt" (`setOf`).
 pub record Entry : Type 0 where
   pub what : Record
   pub time : ℕ
   pub origin : Origin
   pub before : Origin
+  pub set : ℕ
 
 -- A held record (buffered in a replay): the record as the node would log it, the parent and the parent's time, and what that message was made from.
 pub record Held : Type 0 where

@@ -7,7 +7,7 @@ use lib.Dec.{ltb, eqb}
 use Rattle.plan.specs.declared.Record.{Record}
 use Rattle.plan.specs.Channel.{takes}
 use Rattle.plan.specs.Plan.{Plan, channelAt, entering}
-use Rattle.plan.specs.Mask.{taking}
+use Rattle.plan.specs.Mask.{taking, setOf}
 use Rattle.placing.specs.Item.{Item}
 use Rattle.placing.specs.Table.{tableFits, boundsFit, itemFits, fixedFits, comesAfter}
 use Rattle.placing.specs.Walk.{walked, begun, rowsOf, chosenRow, lastColumn}
@@ -55,17 +55,21 @@ abbrev pub isHeld : List Held → Target → Bool
 isHeld hs t = anyOf (λ (h : Held). eqb (h .sender) (t .parent) && eqb (h .time) (t .parentTime)) hs
 
 -- Held records "logged in order of column as their times".
-abbrev pub entryAt : ℕ → Held → Entry
-entryAt t h = record { what = h .what; time = t; origin = made (h .sender) (h .time); before = h .before }
+abbrev pub entryAt : (Record → ℕ) → ℕ → Held → Entry
+entryAt sets t h = record { what = h .what; time = t; origin = made (h .sender) (h .time); before = h .before; set = sets (h .what) }
+
+-- A held record seen as an entry that has neither time nor set yet.
+abbrev pub heldEntry : Held → Entry
+heldEntry = entryAt (λ (r : Record). 0) 0
 
 abbrev pub addEntry : Entry → List Entry → List Entry
 addEntry e [] = e ∷ []
 addEntry e (d ∷ ds) = elim (ltb (e .time) (d .time)) [ true ↦ e ∷ d ∷ ds | false ↦ d ∷ addEntry e ds ]
 
-abbrev pub placedLog : List Held → List ℕ → List Entry
-placedLog [] columns = []
-placedLog (h ∷ hs) [] = []
-placedLog (h ∷ hs) (t ∷ columns) = addEntry (entryAt t h) (placedLog hs columns)
+abbrev pub placedLog : (Record → ℕ) → List Held → List ℕ → List Entry
+placedLog sets [] columns = []
+placedLog sets (h ∷ hs) [] = []
+placedLog sets (h ∷ hs) (t ∷ columns) = addEntry (entryAt sets t h) (placedLog sets hs columns)
 
 -- The columns that the placing gives a table, if it gives any.
 unfoldable pub placing : ℕ → ℕ → List Item → Option (List ℕ)
@@ -74,8 +78,8 @@ placing low high table = elim (tableFits low high table && not (unplaceable low 
 
 -- The node once its held records are placed: "B's time becomes high, and B is up, targets and held list emptied".
 unfoldable pub nodePlaced : Line → ℕ → List Held → List ℕ → Node
-unfolding highOf
-nodePlaced l b hs columns = record { status = up; crashed = nodeAt l b .crashed; time = highOf l b; log = placedLog hs columns; held = []; targets = [] }
+unfolding highOf setOf
+nodePlaced l b hs columns = record { status = up; crashed = nodeAt l b .crashed; time = highOf l b; log = placedLog (setOf (l .plan) b) hs columns; held = []; targets = [] }
 
 -- The replay's end: nothing where a target is not held or no placing exists.
 unfoldable pub replayEnd : ℕ → Line → Option Line

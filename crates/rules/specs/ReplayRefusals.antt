@@ -33,7 +33,7 @@ replays t hs ts = record { status = replay; crashed = true; time = t; log = []; 
 
 -- an entry of a child of 2
 abbrev entry : ℕ → ℕ → ℕ → ℕ → Entry
-entry t b a u = record { what = piece 1 1; time = t; origin = made 2 b; before = made a u }
+entry t b a u = record { what = piece 1 1; time = t; origin = made 2 b; before = made a u; set = 0 }
 
 abbrev line : Rule → List Node → List Lane → Line
 line r ns ls = record { plan = plan r; steps = onlyCount 500; nodes = ns; lanes = ls }
@@ -115,7 +115,7 @@ fullOther = line Keep (around (replays 0 (heldFrom 64 0) (target 10 1 66 ∷ [])
 -- an up router with a full log
 abbrev ownFrom : ℕ → ℕ → List Entry
 ownFrom zero t = []
-ownFrom (suc n) t = record { what = piece 1 1; time = suc t; origin = made 0 (suc t); before = fed } ∷ ownFrom n (suc t)
+ownFrom (suc n) t = record { what = piece 1 1; time = suc t; origin = made 0 (suc t); before = fed; set = 3 } ∷ ownFrom n (suc t)
 
 abbrev fullLog : Line
 fullLog = line Keep (around (upNode 64 (ownFrom 64 0)) (upNode 0 []) (upNode 0 []) (upNode 0 [])) (lane 65 64 [] (message 3 65 ∷ []) ∷ none ∷ lane 0 0 (0 ∷ 0 ∷ []) [] ∷ lane 0 0 (0 ∷ 0 ∷ []) [] ∷ lane 0 0 (0 ∷ 0 ∷ []) [] ∷ [])
@@ -176,7 +176,7 @@ unfoldable pub keptStory : Story
 unfolding deepBegun told
 keptStory = storyFrom deepBegun (moved 1)
 
-before-is-kept : nodeAt (keptStory .line) 2 .log ≡ record { what = piece 1 1; time = 1; origin = made 1 1; before = made 0 2 } ∷ []
+before-is-kept : nodeAt (keptStory .line) 2 .log ≡ record { what = piece 1 1; time = 1; origin = made 1 1; before = made 0 2; set = 3 } ∷ []
 unfolding keptStory
 before-is-kept = refl
 

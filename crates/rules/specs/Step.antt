@@ -10,6 +10,7 @@ use Rattle.plan.specs.Record.{recordLayout, recordFits}
 use Rattle.plan.specs.Rule.{applied}
 use Rattle.plan.specs.Channel.{takes}
 use Rattle.plan.specs.Plan.{nodeCount, channelCount, ruleAt, channelAt, entering, leaving, isSource, isSink}
+use Rattle.plan.specs.Mask.{setOf}
 use Rattle.rules.specs.Lists.{isEmpty, anyOf}
 use Rattle.rules.specs.Line.{nodeNumbers, isUp, logLimit, queueLimit, heldLimit, targetLimit, stepLimit, fed, made, Message, Entry, down, Lane, Line, nodeAt, laneAt, stepsFrom, senderOf, receiverOf, withNode, withLane, counted, withLanes, isDown, isReplay, parents, freshLane}
 use Rattle.rules.specs.Frame.{Frame, feed, send, take, crash, recover, trim, frameConsole, frameOf, frameRefusal}
@@ -160,8 +161,10 @@ noSpace l (trim n) = false
 
 -- Feed: "an infeed applies its rule, its time rises by 1, the message is logged".
 unfoldable pub fedLine : ℕ → List ℕ → Line → Line
-unfolding logged withNode recordLayout
-fedLine n r l = withNode n (logged (madeBy l n (recordLayout .read r)) fed fed (nodeAt l n)) l
+unfolding logged withNode recordLayout setOf
+fedLine n r l =
+    let what = madeBy l n (recordLayout .read r) in
+    withNode n (logged (setOf (l .plan) n what) what fed fed (nodeAt l n)) l
 
 -- Send: the message "goes on the belt".
 abbrev pub sentLine : ℕ → Option Entry → Line → Line
@@ -170,8 +173,10 @@ sentLine b (some e) l = withLane b (sentOn e (laneAt l b)) l
 
 -- Take, of a node that is up: it "applies its rule, raises its time by 1 and logs".
 unfoldable pub takenUp : ℕ → Message → Line → Line
-unfolding logged withNode
-takenUp b m l = withNode (receiverOf l b) (logged (madeBy l (receiverOf l b) (m .what)) (made (senderOf l b) (m .time)) (m .origin) (nodeAt l (receiverOf l b))) l
+unfolding logged withNode setOf
+takenUp b m l =
+    let what = madeBy l (receiverOf l b) (m .what) in
+    withNode (receiverOf l b) (logged (setOf (l .plan) (receiverOf l b) what) what (made (senderOf l b) (m .time)) (m .origin) (nodeAt l (receiverOf l b))) l
 
 -- Take, of a node that replays: "raises the clock only; a record that no belt takes is dropped, another is held".
 unfoldable pub takenReplaying : ℕ → Message → Line → Line

@@ -33,7 +33,7 @@ module _ (at : ℕ) where
 
   abbrev entryParts : Entry → List (ℕ × List ℕ)
   entryParts e =
-      (at, recordLayout .write (e .what)) ∷ (at + 8, bytesOf 4 (e .time)) ∷ (at + 12, originLayout .write (e .origin)) ∷ (at + 17, originLayout .write (e .before)) ∷ (at + 22, bytesOf 2 0) ∷ []
+      (at, recordLayout .write (e .what)) ∷ (at + 8, bytesOf 4 (e .time)) ∷ (at + 12, originLayout .write (e .origin)) ∷ (at + 17, originLayout .write (e .before)) ∷ (at + 22, bytesOf 1 (e .set)) ∷ (at + 23, bytesOf 1 0) ∷ []
 
   abbrev heldParts : Held → List (ℕ × List ℕ)
   heldParts g = (at, recordLayout .write (g .what)) ∷ (at + 8, bytesOf 1 (g .sender)) ∷ (at + 9, bytesOf 4 (g .time)) ∷ (at + 13, originLayout .write (g .before)) ∷ (at + 18, bytesOf 2 0) ∷ []
@@ -62,7 +62,7 @@ module _ (s : List ℕ) (at : ℕ) (h : at ≤ length s) where
   entry-written e =
       let long = origin-long (e .origin) in
       let long-before = origin-long (e .before) in
-      puts-joined s at (entryParts at e) h (refl, (omega arith, (omega arith, (omega arith, (omega arith, tt))))) ∙ simp append-assoc
+      puts-joined s at (entryParts at e) h (refl, (omega arith, (omega arith, (omega arith, (omega arith, (omega arith, tt)))))) ∙ simp append-assoc
 
   pub held-written : (g : Held) → puts s (heldParts at g) ≡ put s at (heldLayout .write g)
   unfolding heldLayout

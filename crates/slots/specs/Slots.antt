@@ -20,7 +20,7 @@ abbrev pub messageIs : Sent → Message
 messageIs m = record { what = m .what; time = m .time; origin = originIs (m .made) }
 
 abbrev pub entryIs : Logged → Entry
-entryIs e = record { what = e .what; time = e .time; origin = originIs (e .made); before = originIs (e .before) }
+entryIs e = record { what = e .what; time = e .time; origin = originIs (e .made); before = originIs (e .before); set = e .set }
 
 abbrev pub heldIs : Waiting → Held
 heldIs h = record { what = h .what; sender = h .sender; time = h .time; before = originIs (h .before) }

@@ -26,12 +26,13 @@ pub struct Sent {
     pub made: Made,
 }
 
-// A log entry.
+// A log entry, with the set of channels that take it.
 pub struct Logged {
     pub what: Record,
     pub time: u32,
     pub made: Made,
     pub before: Made,
+    pub set: u8,
 }
 
 // A held record.
@@ -88,6 +89,7 @@ pub fn entry_at(s: &[u8], at: usize) -> Logged
         time: bytes::get32(s, at + 8),
         made: made_at(s, at + 12),
         before: made_at(s, at + 17),
+        set: s[at + 22],
     }
 }
 
@@ -157,7 +159,8 @@ pub fn put_entry(s: &mut [u8], at: usize, e: Logged)
     bytes::put32(s, at + 8, e.time);
     put_made(s, at + 12, e.made);
     put_made(s, at + 17, e.before);
-    bytes::put16(s, at + 22, 0);
+    bytes::put8(s, at + 22, e.set);
+    bytes::put8(s, at + 23, 0);
 }
 
 pub fn put_held(s: &mut [u8], at: usize, h: Waiting)

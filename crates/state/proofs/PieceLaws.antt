@@ -1,15 +1,19 @@
 -- The pieces' layouts are sound.
-use Prim.Native.Nat.{ℕ, zero, suc, _<_}
-use mathlib.Core.Path.{_≡_, refl, ap}
-use mathlib.Core.List.{List, [], _∷_}
+use Prim.Native.Nat.{ℕ, zero, suc, _/_, _%_, _<_}
+use mathlib.Core.Path.{_≡_, refl, sym, ap, _∙_}
+use mathlib.Core.List.{List, [], _∷_, _++_, append-assoc}
+use native.Mathlib.Omega.{arith}
+use lib.ListN.{length, set, length-append}
+use lib.Seq.{set-append-seam}
 use lib.Dec.{lit<}
-use Rattle.plan.specs.Layout.{via}
+use Rattle.plan.specs.Layout.{bytesOf, via}
 use Rattle.plan.specs.Lawful.{FieldsFit}
 use Rattle.plan.specs.Fits.{RecordFits}
 use Rattle.plan.specs.Record.{recordWidths, recordOf, recordLayout}
 use Rattle.plan.proofs.LayoutLaws.{fields-front}
 use Rattle.plan.proofs.ValueLaws.{record-lawful}
-use Rattle.rules.specs.Line.{Origin, fed, made}
+use Rattle.rules.specs.Line.{Origin, fed, made, Entry}
+use Rattle.rules.specs.Sets.{withoutSet}
 use Rattle.state.specs.Sound.{Sound}
 use Rattle.state.specs.Pieces.{originNumbers, originFrom, originOf, originWidths, originLayout, messageSeen, messageFrom, messageParts, messageLayout, entrySeen, entryFrom, entryParts, entryLayout, heldSeen, heldFrom, heldParts, heldLayout, targetWidths, targetNumbers, targetOf, targetFields, targetLayout}
 use Rattle.state.specs.Fits.{TimeFits, OriginFits, MessageFits, EntryFits, HeldFits, TargetFits}
@@ -54,12 +58,12 @@ message-sound = padded-sound message-body-sound 3
 pub entry-body-sound : Sound (via entryParts entrySeen entryFrom) EntryFits
 unfolding entryParts
 entry-body-sound =
-    via-sound (pair-sound record-sound (pair-sound (number-sound 4) (pair-sound origin-sound origin-sound))) entrySeen entryFrom
-    (λ e h. (h .what, (h .time, (h .origin, h .before)))) (λ e h. refl) (λ p h. record { what = h .0; time = h .1 .0; origin = h .1 .1 .0; before = h .1 .1 .1 })
+    via-sound (pair-sound record-sound (pair-sound (number-sound 4) (pair-sound origin-sound (pair-sound origin-sound (number-sound 1))))) entrySeen entryFrom
+    (λ e h. (h .what, (h .time, (h .origin, (h .before, h .set))))) (λ e h. refl) (λ p h. record { what = h .0; time = h .1 .0; origin = h .1 .1 .0; before = h .1 .1 .1 .0; set = h .1 .1 .1 .1 })
 
 pub entry-sound : Sound entryLayout EntryFits
 unfolding entryLayout
-entry-sound = padded-sound entry-body-sound 2
+entry-sound = padded-sound entry-body-sound 1
 
 pub held-body-sound : Sound (via heldParts heldSeen heldFrom) HeldFits
 unfolding heldParts
@@ -85,3 +89,25 @@ target-body-sound = via-sound (fields-sound targetWidths) targetNumbers targetOf
 pub target-sound : Sound targetLayout TargetFits
 unfolding targetLayout
 target-sound = padded-sound target-body-sound 3
+
+-- ---- a set is one byte of its slot
+
+four-then : (r t o b : List ℕ) (x y : ℕ) → (r ++ (t ++ (o ++ (b ++ x ∷ [])))) ++ y ∷ [] ≡ (r ++ (t ++ (o ++ b))) ++ x ∷ y ∷ []
+four-then r t o b x y = simp append-assoc
+
+four-long : (r t o b : List ℕ) → length r ≡ 8 → length t ≡ 4 → length o ≡ 5 → length b ≡ 5 → length (r ++ (t ++ (o ++ b))) ≡ 22
+four-long r t o b i j k l = omega (arith, length-append r (t ++ (o ++ b)), length-append t (o ++ b), length-append o b, i, j, k, l)
+
+pub set-in-slot : (e : Entry) → e .set < 256 → entryLayout .write e ≡ set (entryLayout .write (withoutSet e)) 22 (e .set)
+unfolding entryLayout
+set-in-slot e h =
+    let what = recordLayout .write (e .what) in
+    let time = bytesOf 4 (e .time) in
+    let origin = originLayout .write (e .origin) in
+    let before = originLayout .write (e .before) in
+    let long = four-long what time origin before (record-sound .sized (e .what)) refl (origin-sound .sized (e .origin)) (origin-sound .sized (e .before)) in
+    let small : e .set / 1 % 256 ≡ e .set = omega (arith, h) in
+    four-then what time origin before (e .set / 1 % 256) 0
+    ∙ ap (λ (x : ℕ). (what ++ (time ++ (origin ++ before))) ++ x ∷ 0 ∷ []) small
+    ∙ sym (ap (λ (k : ℕ). set ((what ++ (time ++ (origin ++ before))) ++ 0 ∷ 0 ∷ []) k (e .set)) (sym long) ∙ set-append-seam (what ++ (time ++ (origin ++ before))) 0 (0 ∷ []) (e .set))
+    ∙ ap (λ (s : List ℕ). set s 22 (e .set)) (sym (four-then what time origin before 0 0))

@@ -72,19 +72,21 @@ module _ (s : List ℕ) (k : Bytes s) where
   pub entry-at : (a : ℕ) → a + 24 ≤ length s → RightAt entryLayout a s ↔ EntryRight a s
   unfolding entryLayout
   entry-at a h =
-      let whole = padded-at entry-body-sound a s 2 h in
-      let first = pair-at record-sound a s (pair (number 4) (pair originLayout originLayout)) in
-      let second = pair-at (number-sound 4) (a + 8) s (pair originLayout originLayout) in
-      let third = pair-at origin-sound (a + 8 + 4) s originLayout in
+      let whole = padded-at entry-body-sound a s 1 h in
+      let first = pair-at record-sound a s (pair (number 4) (pair originLayout (pair originLayout (number 1)))) in
+      let second = pair-at (number-sound 4) (a + 8) s (pair originLayout (pair originLayout (number 1))) in
+      let third = pair-at origin-sound (a + 8 + 4) s (pair originLayout (number 1)) in
+      let fourth = pair-at origin-sound (a + 8 + 4 + 5) s (number 1) in
       let what = record-at s k a (omega arith) in
       let origin = origin-at (a + 8 + 4) (a + 12) (omega arith) (omega arith) in
       let before = origin-at (a + 8 + 4 + 5) (a + 17) (omega arith) (omega arith) in (
         λ r.
             let x = first .0 (whole .0 r .0) in
             let y = third .0 (second .0 (x .1) .1) in
-            record { what = what .0 (x .0); origin = origin .0 (y .0); before = before .0 (y .1); unused = whole .0 r .1 },
+            record { what = what .0 (x .0); origin = origin .0 (y .0); before = before .0 (fourth .0 (y .1) .0); unused = whole .0 r .1 },
         λ r.
-            whole .1 (first .1 (what .1 (r .what), second .1 (number-at 4 (a + 8) s (omega arith) k, third .1 (origin .1 (r .origin), before .1 (r .before)))), r .unused),
+            let set = number-at 1 (a + 8 + 4 + 5 + 5) s (omega arith) k in
+            whole .1 (first .1 (what .1 (r .what), second .1 (number-at 4 (a + 8) s (omega arith) k, third .1 (origin .1 (r .origin), fourth .1 (before .1 (r .before), set)))), r .unused),
       )
 
   pub held-at : (a : ℕ) → a + 20 ≤ length s → RightAt heldLayout a s ↔ HeldRight a s

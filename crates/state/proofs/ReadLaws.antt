@@ -81,16 +81,20 @@ message-read b =
     })
 
 pub entry-read : (b : List ℕ)
-    → entryLayout .read b ≡ record { what = recordLayout .read (take 8 b); time = spelled 0 (take 4 (drop 8 b)); origin = originLayout .read (take 5 (drop 12 b)); before = originLayout .read (take 5 (drop 17 b)) }
+    → entryLayout .read b ≡ record { what = recordLayout .read (take 8 b); time = spelled 0 (take 4 (drop 8 b)); origin = originLayout .read (take 5 (drop 12 b)); before = originLayout .read (take 5 (drop 17 b)); set = getD b 22 0 }
 unfolding entryLayout
 entry-read b =
-    ap entryFrom (pair-sound record-sound (pair-sound (number-sound 4) (pair-sound origin-sound origin-sound)) .front b)
+    ap entryFrom (pair-sound record-sound (pair-sound (number-sound 4) (pair-sound origin-sound (pair-sound origin-sound (number-sound 1)))) .front b)
     ∙ (λ i. record {
       what = recordLayout .read (take 8 b);
       time = spelled 0 (take-take 4 4 (drop 8 b) (lit≤ tt) i);
       origin = originLayout .read (take 5 (drop-drop 4 8 b i));
-      before = (ap (originLayout .read) (ap (drop 5) (drop-drop 4 8 b) ∙ drop-drop 5 12 b) ∙ sym (origin-sound .front (drop 17 b))) i;
+      before = originLayout .read (take 5 (input i));
+      set = (ap (λ (t : List ℕ). spelled 0 (take 1 (drop 5 t))) input ∙ ap (λ (t : List ℕ). spelled 0 (take 1 t)) (drop-drop 5 17 b) ∙ byte-field 22 b) i;
     })
+  where
+    input : drop 5 (drop 4 (drop 8 b)) ≡ drop 17 b
+    input = ap (drop 5) (drop-drop 4 8 b) ∙ drop-drop 5 12 b
 
 pub held-read : (b : List ℕ)
     → heldLayout .read b ≡ record { what = recordLayout .read (take 8 b); sender = getD b 8 0; time = spelled 0 (take 4 (drop 9 b)); before = originLayout .read (take 5 (drop 13 b)) }

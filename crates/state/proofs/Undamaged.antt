@@ -14,14 +14,17 @@ use Rattle.plan.specs.declared.Channel.{Channel}
 use Rattle.plan.specs.Lawful.{Each, FieldsFit}
 use Rattle.plan.specs.Record.{knownRecord}
 use Rattle.plan.proofs.TickLaws.{known-byte}
-use Rattle.plan.specs.Plan.{Plan, nodeCount, channelCount, channelAt, entering, numbersFrom, keepIf}
+use Rattle.plan.specs.Plan.{Plan, nodeCount, channelCount, channelAt, entering, leaving, numbersFrom, keepIf}
+use Rattle.plan.specs.Mask.{setOf}
 use Rattle.plan.specs.Check.{planFits}
 use Rattle.plan.specs.Fits.{RecordFits}
+use Rattle.plan.proofs.AcceptedLaws.{four-at}
+use Rattle.plan.proofs.SetLaws.{set-small}
 use Rattle.plan.proofs.FitsLaws.{fitting}
 use Rattle.rules.specs.Lists.{anyOf, joined, upTo}
 use Rattle.rules.specs.Line.{logLimit, queueLimit, heldLimit, targetLimit, consoleCount, acceptedSteps, Origin, fed, made, Message, Entry, Held, Target, Node, Lane, Line, nodeAt, laneAt, senderOf, parents, timeLimit}
-use Rattle.rules.specs.Replay.{entryAt}
-use Rattle.rules.specs.Damaged.{someNode, someChannel, planBroken, misshapen, stepsPast, workedOn, recordPastLimits, nodePastLimits, channelPastLimits, isParent, notParent, beforeNotParent, nodeWrongParent, channelWrongParent, originTimes, nodeNamedTimes, nodeOtherTimes, channelNamedTimes, channelOtherTimes, nodeTimePast, channelTimePast, nodeTimeZero, channelTimeZero, originWrong, beforeWrong, nodeMakerWrong, channelMakerWrong, logWrong, pastClock, heldWrong, heldNotPassed, queueWrong, markMissing, markOnEnd, marksJoined, replayWrong, nodeHolds, channelHolds, lowPast, lowWrong, nodeDamaged, channelDamaged, damaged}
+use Rattle.rules.specs.Replay.{heldEntry}
+use Rattle.rules.specs.Damaged.{someNode, someChannel, planBroken, misshapen, stepsPast, workedOn, recordPastLimits, nodePastLimits, channelPastLimits, isParent, notParent, beforeNotParent, nodeWrongParent, channelWrongParent, originTimes, nodeNamedTimes, nodeOtherTimes, channelNamedTimes, channelOtherTimes, nodeTimePast, channelTimePast, nodeTimeZero, channelTimeZero, originWrong, beforeWrong, nodeMakerWrong, channelMakerWrong, logWrong, setWrong, pastClock, heldWrong, heldNotPassed, queueWrong, markMissing, markOnEnd, marksJoined, replayWrong, nodeHolds, channelHolds, lowPast, lowWrong, nodeDamaged, channelDamaged, damaged}
 use Rattle.rules.proofs.steps.PlanOrder.{ordered-channels}
 use Rattle.state.specs.Lane.{heardCount}
 use Rattle.state.specs.Fits.{TimeFits, OriginFits, MessageFits, EntryFits, HeldFits, TargetFits, NodeFits, LaneFits, LineFits}
@@ -104,7 +107,10 @@ module _ (p : Plan) (e : planFits p ≡ true) where
       abbrev times : Entry → List ℕ
       times e = originTimes (e .origin) ++ originTimes (e .before)
 
-      -- An entry, its own time aside.
+      abbrev wrongSet : Entry → Bool
+      wrongSet e = not (eqb (e .set) (setOf p n (e .what)))
+
+      -- An entry, its own time and its set aside.
       abbrev WorkFits : Entry → Type 0
       WorkFits e = RecordFits (e .what) × (OriginFits (e .origin) × OriginFits (e .before))
 
@@ -134,9 +140,9 @@ module _ (p : Plan) (e : planFits p ≡ true) where
           (λ t q h. record { time = time-fits (t .time) (h .0); parent = omega (arith, parent-few n (t .parent) (not-false (isParent p n (t .parent)) q)); parentTime = time-fits (t .parentTime) (h .1 .0) })
           (x .targets) (none-each (λ (t : Target). not (isParent p n (t .parent))) (x .targets) a) (each-joined Within (λ (t : Target). t .time ∷ t .parentTime ∷ []) (x .targets) d)
 
-      node-fits : nodePastLimits x ≡ false → nodeWrongParent p n x ≡ false → nodeTimePast steps x ≡ false → nodeMakerWrong p n x ≡ false → NodeFits x
-      unfolding nodePastLimits nodeWrongParent nodeTimePast nodeMakerWrong
-      node-fits limits wrong past made-wrong =
+      node-fits : nodePastLimits x ≡ false → nodeWrongParent p n x ≡ false → nodeTimePast steps x ≡ false → nodeMakerWrong p n x ≡ false → setWrong p n x ≡ false → length (leaving p n) ≤ 4 → NodeFits x
+      unfolding nodePastLimits nodeWrongParent nodeTimePast nodeMakerWrong setWrong
+      node-fits limits wrong past made-wrong sets few =
           let long : Bool = ltb logLimit (length (x .log)) in
           let full : Bool = ltb heldLimit (length (x .held)) in
           let many : Bool = ltb targetLimit (length (x .targets)) in
@@ -146,17 +152,18 @@ module _ (p : Plan) (e : planFits p ≡ true) where
           let w = neither-true (anyOf named (workedOn x)) (anyOf (λ (t : Target). not (isParent p n (t .parent))) (x .targets)) wrong in
           let all = each-split Within (nodeNamedTimes x) (nodeOtherTimes x) (times-within (nodeNamedTimes x ++ nodeOtherTimes x) past) in
           let logged = each-split Within (map (λ (e : Entry). e .time) (x .log)) (joined (map times (workedOn x))) (all .0) in
-          let work = each-split WorkFits (x .log) (map (entryAt 0) (x .held)) (work-fits (a .1) (w .0) made-wrong (logged .1)) in
+          let work = each-split WorkFits (x .log) (map heldEntry (x .held)) (work-fits (a .1) (w .0) made-wrong (logged .1)) in
           record {
             time = time-fits (x .time) (all .1 .0);
             log = (
               ltb-false logLimit (length (x .log)) (c .0),
-              each-both WorkFits (λ (e : Entry). Within (e .time)) EntryFits (λ e f t. record { what = f .0; time = time-fits (e .time) t; origin = f .1 .0; before = f .1 .1 }) (x .log) (work .0)
-                  (each-unmap Within (λ (e : Entry). e .time) (x .log) (logged .0)),
+              each-both WorkFits (λ (e : Entry). Within (e .time) × (wrongSet e ≡ false)) EntryFits
+                  (λ e f t. record { what = f .0; time = time-fits (e .time) (t .0); origin = f .1 .0; before = f .1 .1; set = omega (arith, eqb-true (e .set) (setOf p n (e .what)) (not-false _ (t .1)), set-small p n (e .what) few) }) (x .log) (work .0)
+                  (each-both (λ (e : Entry). Within (e .time)) (λ (e : Entry). wrongSet e ≡ false) (λ (e : Entry). Within (e .time) × (wrongSet e ≡ false)) (λ e t w. (t, w)) (x .log) (each-unmap Within (λ (e : Entry). e .time) (x .log) (logged .0)) (none-each wrongSet (x .log) sets)),
             );
             held = (
               ltb-false heldLimit (length (x .held)) (c .1),
-              each-imply (λ (h : Held). WorkFits (entryAt 0 h)) HeldFits (λ h f. record { what = f .0; sender = omega (arith, f .1 .0 .0); time = f .1 .0 .1 .0; before = f .1 .1 }) (x .held) (each-unmap WorkFits (entryAt 0) (x .held) (work .1)),
+              each-imply (λ (h : Held). WorkFits (heldEntry h)) HeldFits (λ h f. record { what = f .0; sender = omega (arith, f .1 .0 .0); time = f .1 .0 .1 .0; before = f .1 .1 }) (x .held) (each-unmap WorkFits heldEntry (x .held) (work .1)),
             );
             targets = (ltb-false targetLimit (length (x .targets)) (b .1), target-fits (w .1) (all .1 .1));
           }
@@ -192,14 +199,16 @@ module _ (p : Plan) (e : planFits p ≡ true) where
 
 -- ---- the line
 
--- The first of a node's conditions, and of a channel's.
-first-five : (a b c d e f g h i j k m n : Bool) → (a || b || c || d || e || f || g || h || i || j || k || m || n) ≡ false → (a ≡ false) × ((b ≡ false) × ((c ≡ false) × (e ≡ false)))
-first-five true b c d e f g h i j k m n q = absurd (true≢false q)
-first-five false true c d e f g h i j k m n q = absurd (true≢false q)
-first-five false false true d e f g h i j k m n q = absurd (true≢false q)
-first-five false false false true e f g h i j k m n q = absurd (true≢false q)
-first-five false false false false true f g h i j k m n q = absurd (true≢false q)
-first-five false false false false false f g h i j k m n q = (refl, (refl, (refl, refl)))
+-- The first of a node's conditions and that of its sets, and the first of a channel's.
+first-seven : (a b c d e f s g h i j k m n : Bool) → (a || b || c || d || e || f || s || g || h || i || j || k || m || n) ≡ false → (a ≡ false) × ((b ≡ false) × ((c ≡ false) × ((e ≡ false) × (s ≡ false))))
+first-seven true b c d e f s g h i j k m n q = absurd (true≢false q)
+first-seven false true c d e f s g h i j k m n q = absurd (true≢false q)
+first-seven false false true d e f s g h i j k m n q = absurd (true≢false q)
+first-seven false false false true e f s g h i j k m n q = absurd (true≢false q)
+first-seven false false false false true f s g h i j k m n q = absurd (true≢false q)
+first-seven false false false false false true s g h i j k m n q = absurd (true≢false q)
+first-seven false false false false false false true g h i j k m n q = absurd (true≢false q)
+first-seven false false false false false false false g h i j k m n q = (refl, (refl, (refl, (refl, refl))))
 
 first-three : (a b c d e f g h i : Bool) → (a || b || c || d || e || f || g || h || i) ≡ false → (a ≡ false) × ((b ≡ false) × (c ≡ false))
 first-three true b c d e f g h i q = absurd (true≢false q)
@@ -208,11 +217,11 @@ first-three false false true d e f g h i q = absurd (true≢false q)
 first-three false false false d e f g h i q = (refl, (refl, refl))
 
 node-conditions : (l : Line) (n : ℕ) → nodeDamaged l n ≡ false
-    → (nodePastLimits (nodeAt l n) ≡ false) × ((nodeWrongParent (l .plan) n (nodeAt l n) ≡ false) × ((nodeTimePast (acceptedSteps l) (nodeAt l n) ≡ false) × (nodeMakerWrong (l .plan) n (nodeAt l n) ≡ false)))
+    → (nodePastLimits (nodeAt l n) ≡ false) × ((nodeWrongParent (l .plan) n (nodeAt l n) ≡ false) × ((nodeTimePast (acceptedSteps l) (nodeAt l n) ≡ false) × ((nodeMakerWrong (l .plan) n (nodeAt l n) ≡ false) × (setWrong (l .plan) n (nodeAt l n) ≡ false))))
 unfolding nodeDamaged
 node-conditions l n q =
     let x = nodeAt l n in
-    first-five (nodePastLimits x) (nodeWrongParent (l .plan) n x) (nodeTimePast (acceptedSteps l) x) (nodeTimeZero x) (nodeMakerWrong (l .plan) n x) (logWrong x) (pastClock l n)
+    first-seven (nodePastLimits x) (nodeWrongParent (l .plan) n x) (nodeTimePast (acceptedSteps l) x) (nodeTimeZero x) (nodeMakerWrong (l .plan) n x) (logWrong x) (setWrong (l .plan) n x) (pastClock l n)
     (heldWrong l n) (heldNotPassed (l .plan) n x) (markMissing x) (markOnEnd (l .plan) n x) (replayWrong l n) (nodeHolds x) q
 
 channel-conditions : (l : Line) (b : ℕ) → channelDamaged l b ≡ false
@@ -292,7 +301,7 @@ undamaged-fits l q =
       steps = steps-fit counts;
       nodes = shape .0;
       lanes = shape .1 .0;
-      node = λ n h. let c = node-conditions l n (w .node n h) in node-fits (l .plan) fits (acceptedSteps l) few n (nodeAt l n) (c .0) (c .1 .0) (c .1 .1 .0) (c .1 .1 .1);
+      node = λ n h. let c = node-conditions l n (w .node n h) in node-fits (l .plan) fits (acceptedSteps l) few n (nodeAt l n) (c .0) (c .1 .0) (c .1 .1 .0) (c .1 .1 .1 .0) (c .1 .1 .1 .1) (four-at (l .plan) (nodeCount (l .plan)) n (fitting (l .plan) fits .degrees) h .1);
       lane = λ b h. let c = channel-conditions l b (w .channel b h) in (let s = undamaged-sound l q .standing .channels b h .fits in lane-fits (l .plan) fits (acceptedSteps l) few b (laneAt l b) (s .low-long ∙ ap suc (sym (s .heard-long))) (s .low-below) (c .0) (c .1 .0) (c .1 .1));
       heard = λ b h. shape .1 .1 b h .0;
       low = λ b h. shape .1 .1 b h .1;

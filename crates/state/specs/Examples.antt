@@ -1,5 +1,5 @@
 -- The layout computed: the paper's two-node plan as a fresh line, and lines with something in them, written and read back.
-use Prim.Native.Nat.{ℕ}
+use Prim.Native.Nat.{ℕ, _+_, _*_}
 use mathlib.Core.Bool.{true, false}
 use mathlib.Core.Path.{_≡_, refl}
 use mathlib.Core.List.{List, [], _∷_, _++_, map}
@@ -7,6 +7,7 @@ use lib.ListN.{take, drop, set, replicate}
 use Rattle.plan.specs.declared.Rule.the-variants.{Keep}
 use Rattle.plan.specs.declared.Record.{Record}
 use Rattle.rules.specs.Line.{fed, made, Entry, up, down, replay, Node, Line, freshNode, initialLine, onlyCount}
+use Rattle.rules.specs.Step.{step}
 use Rattle.rules.specs.Marked.{channel}
 use Rattle.state.specs.Node.{nodeLayout}
 use Rattle.state.specs.State.{lineBytes, lineOf, stateAnswer}
@@ -79,7 +80,7 @@ unfolding twoNodes
 sent = record {
   plan = twoNodes .plan;
   steps = onlyCount 2;
-  nodes = record { status = up; crashed = false; time = 1; log = record { what = piece; time = 1; origin = fed; before = fed } ∷ []; held = []; targets = [] } ∷ freshNode ∷ [];
+  nodes = record { status = up; crashed = false; time = 1; log = record { what = piece; time = 1; origin = fed; before = fed; set = 1 } ∷ []; held = []; targets = [] } ∷ freshNode ∷ [];
   lanes = record { mark = 1; taken = 0; heard = []; queue = record { what = piece; time = 1; origin = fed } ∷ []; low = 0 ∷ [] } ∷ [];
 }
 
@@ -94,7 +95,7 @@ replaying = record {
         status = replay;
         crashed = true;
         time = 3;
-        log = record { what = piece; time = 1; origin = made 0 5; before = made 1 6 } ∷ [];
+        log = record { what = piece; time = 1; origin = made 0 5; before = made 1 6; set = 10 } ∷ [];
         held = record { what = piece; sender = 0; time = 4; before = made 0 8 } ∷ [];
         targets = record { time = 5; parent = 0; parentTime = 6 } ∷ [];
       }
@@ -115,7 +116,7 @@ unfolding lineBytes lineOf replaying
 replaying-read = refl
 
 -- The bytes of the last one where docs/LAYOUT.md has them: its second node's page with one log entry, one held record and one target, and the channel's block with one message.
-pub replaying-page : take 36 (drop 8_192 (lineBytes replaying)) ≡ 2 ∷ 1 ∷ 0 ∷ 0 ∷ 0 ∷ 0 ∷ 0 ∷ 3 ∷ 0 ∷ 0 ∷ 0 ∷ 1 ∷ 0 ∷ 0 ∷ 0 ∷ 7 ∷ 1 ∷ 0 ∷ 0 ∷ 250 ∷ 0 ∷ 0 ∷ 0 ∷ 1 ∷ 1 ∷ 0 ∷ 0 ∷ 0 ∷ 5 ∷ 2 ∷ 0 ∷ 0 ∷ 0 ∷ 6 ∷ 0 ∷ 0 ∷ []
+pub replaying-page : take 36 (drop 8_192 (lineBytes replaying)) ≡ 2 ∷ 1 ∷ 0 ∷ 0 ∷ 0 ∷ 0 ∷ 0 ∷ 3 ∷ 0 ∷ 0 ∷ 0 ∷ 1 ∷ 0 ∷ 0 ∷ 0 ∷ 7 ∷ 1 ∷ 0 ∷ 0 ∷ 250 ∷ 0 ∷ 0 ∷ 0 ∷ 1 ∷ 1 ∷ 0 ∷ 0 ∷ 0 ∷ 5 ∷ 2 ∷ 0 ∷ 0 ∷ 0 ∷ 6 ∷ 10 ∷ 0 ∷ []
 unfolding lineBytes replaying
 replaying-page = refl
 
@@ -143,7 +144,7 @@ dropped =
     record {
       plan = record { version = 1; rules = Keep ∷ Keep ∷ Keep ∷ []; channels = channel 0 1 65535 ∷ channel 1 2 65535 ∷ [] };
       steps = onlyCount 6;
-      nodes = logs (record { what = piece; time = 1; origin = fed; before = fed } ∷ []) ∷ logs (record { what = piece; time = 1; origin = made 0 1; before = fed } ∷ []) ∷ logs [] ∷ [];
+      nodes = logs (record { what = piece; time = 1; origin = fed; before = fed; set = 1 } ∷ []) ∷ logs (record { what = piece; time = 1; origin = made 0 1; before = fed; set = 1 } ∷ []) ∷ logs [] ∷ [];
       lanes = record { mark = 1; taken = 1; heard = []; queue = []; low = 0 ∷ [] } ∷ record { mark = 1; taken = 1; heard = 1 ∷ []; queue = []; low = 1 ∷ 1 ∷ [] } ∷ [];
     }
 
@@ -159,6 +160,23 @@ dropped-low = refl
 pub dropped-answers : map (λ (change : ℕ × ℕ). stateAnswer (set (lineBytes dropped) (change .0) (change .1))) ((53_763, 1) ∷ (53_763, 2) ∷ (53_767, 1) ∷ (53_776, 1) ∷ []) ≡ 0 ∷ 8 ∷ 8 ∷ 8 ∷ []
 unfolding lineBytes stateAnswer dropped
 dropped-answers = refl
+
+-- Sets (2026-06): node 0 sends material 1 to node 1, materials 1 and 2 to node 2, material 3 to node 3, and is fed materials 1, 2, 3, 4 and a tick.
+unfoldable pub sorted : Line
+unfolding initialLine step
+sorted =
+    let feeds : ℕ → Line → Line = λ material l. step l (0 ∷ 13 ∷ 1 ∷ 1 ∷ 0 ∷ 0 ∷ 0 ∷ 0 ∷ 0 ∷ material ∷ 0 ∷ 0 ∷ 0 ∷ []) .line in
+    feeds 255 (feeds 4 (feeds 3 (feeds 2 (feeds 1 (initialLine (record { version = 1; rules = Keep ∷ Keep ∷ Keep ∷ Keep ∷ []; channels = channel 0 1 2 ∷ channel 0 2 6 ∷ channel 0 3 8 ∷ [] }))))))
+
+-- The last two bytes of the five slots: the set, whose lowest bit is of the first channel, and the byte unused.
+pub sorted-sets : map (λ (i : ℕ). take 2 (drop (4_130 + 24 * i) (lineBytes sorted))) (0 ∷ 1 ∷ 2 ∷ 3 ∷ 4 ∷ []) ≡ (3 ∷ 0 ∷ []) ∷ (2 ∷ 0 ∷ []) ∷ (4 ∷ 0 ∷ []) ∷ (0 ∷ 0 ∷ []) ∷ (7 ∷ 0 ∷ []) ∷ []
+unfolding lineBytes sorted
+sorted-sets = refl
+
+-- As it is; the first one's set without a channel, with another, with a bit for no channel; with the unused byte.
+pub sorted-answers : map (λ (change : ℕ × ℕ). stateAnswer (set (lineBytes sorted) (change .0) (change .1))) ((4_130, 3) ∷ (4_130, 1) ∷ (4_130, 7) ∷ (4_130, 11) ∷ (4_131, 1) ∷ []) ≡ 0 ∷ 8 ∷ 8 ∷ 8 ∷ 8 ∷ []
+unfolding lineBytes stateAnswer sorted
+sorted-answers = refl
 
 -- A node that is down: its status and its crash mark.
 pub down-page : nodeLayout .write (record { status = down; crashed = true; time = 0; log = []; held = []; targets = [] }) ≡ 1 ∷ 1 ∷ replicate 4_094 0

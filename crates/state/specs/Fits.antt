@@ -32,6 +32,7 @@ pub record EntryFits (e : Entry) : Type 0 where
   pub time : TimeFits (e .time)
   pub origin : OriginFits (e .origin)
   pub before : OriginFits (e .before)
+  pub set : ByteFits (e .set)
 
 pub record HeldFits (h : Held) : Type 0 where
   pub what : RecordFits (h .what)

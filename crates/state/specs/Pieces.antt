@@ -50,23 +50,23 @@ unfoldable pub messageLayout : Layout Message
 unfolding messageParts via padded
 messageLayout = padded 3 (via messageParts messageSeen messageFrom)
 
--- A log entry: record, time, origin, what its input was made from, and two bytes unused.
+-- A log entry: record, time, origin, what its input was made from, the set of channels that take it (2026-06), and a byte unused.
 abbrev pub EntryParts : Type 0
-EntryParts = Record × (ℕ × (Origin × Origin))
+EntryParts = Record × (ℕ × (Origin × (Origin × ℕ)))
 
 abbrev pub entrySeen : Entry → EntryParts
-entrySeen e = (e .what, (e .time, (e .origin, e .before)))
+entrySeen e = (e .what, (e .time, (e .origin, (e .before, e .set))))
 
 abbrev pub entryFrom : EntryParts → Entry
-entryFrom p = record { what = p .0; time = p .1 .0; origin = p .1 .1 .0; before = p .1 .1 .1 }
+entryFrom p = record { what = p .0; time = p .1 .0; origin = p .1 .1 .0; before = p .1 .1 .1 .0; set = p .1 .1 .1 .1 }
 
 unfoldable pub entryParts : Layout EntryParts
 unfolding recordLayout number originLayout pair
-entryParts = pair recordLayout (pair (number 4) (pair originLayout originLayout))
+entryParts = pair recordLayout (pair (number 4) (pair originLayout (pair originLayout (number 1))))
 
 unfoldable pub entryLayout : Layout Entry
 unfolding entryParts via padded
-entryLayout = padded 2 (via entryParts entrySeen entryFrom)
+entryLayout = padded 1 (via entryParts entrySeen entryFrom)
 
 -- A held record: record, sender, time, what that message was made from, and two bytes unused.
 abbrev pub HeldParts : Type 0

@@ -35,7 +35,7 @@ pub record EntryRight (a : ℕ) (s : List ℕ) : Type 0 where
   pub what : RecordRight a s
   pub origin : OriginRight (a + 12) s
   pub before : OriginRight (a + 17) s
-  pub unused : ZerosAt (a + 22) 2 s
+  pub unused : ZerosAt (a + 23) 1 s
 
 pub record HeldRight (a : ℕ) (s : List ℕ) : Type 0 where
   pub what : RecordRight a s

@@ -1,5 +1,6 @@
-//! Document 01, the paragraph "Damaged", and request 2026-04, as far as they speak
-//! of more than bytes: their number and the unused ones have no place in the structs.
+//! Document 01, the paragraph "Damaged", and requests 2026-04 and 2026-06, as far as
+//! they speak of more than bytes: their number and the unused ones have no place in the
+//! structs.
 
 use super::{restart, Entry, Line, Node, Origin, Queue, Status};
 use crate::clock::Clock;
@@ -14,6 +15,7 @@ pub fn damaged(line: &Line) -> bool {
         && are_times_reached(line)
         && are_low_clocks_within(line)
         && is_log_sound(line)
+        && are_sets_right(line)
         && is_buffer_sound(line)
         && are_queues_sound(line)
         && are_crash_marks_sound(line)
@@ -183,6 +185,15 @@ fn is_heard(clock: &Clock, input: Origin, input_made_from: Option<Origin>) -> bo
     input.time <= clock.taken(input.sender)
         && input_made_from
             .is_none_or(|origin| origin.time <= clock.heard(input.sender, origin.sender))
+}
+
+/// Not: a set "differs from what the plan gives".
+fn are_sets_right(line: &Line) -> bool {
+    line.nodes.iter().enumerate().all(|(number, node)| {
+        node.log
+            .iter()
+            .all(|entry| entry.set == line.plan.set_of(number, &entry.message.record))
+    })
 }
 
 /// Not: "a held record's time is 0" (a sender's: seen to before); "a held

@@ -6,7 +6,7 @@ mod frames;
 mod late;
 mod torn;
 
-pub use disturb::{disturb, retarget};
+pub use disturb::{disturb, give_sets, retarget};
 pub use events::{Stepped, EVENTS};
 pub use frames::{
     almost_tick, caller, cut_frames, every_frame, is_tick_but_for, random_frames, stray, FIELDS,

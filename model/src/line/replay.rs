@@ -59,7 +59,7 @@ impl Line {
         let mut log: Vec<Entry> = records
             .iter()
             .zip(columns)
-            .map(|(record, column)| record.logged_at(column))
+            .map(|(held, column)| held.logged_at(column, self.plan.set_of(node, &held.record)))
             .collect();
         log.sort_by_key(|entry| entry.message.time);
         let node = &mut self.nodes[node];
@@ -119,7 +119,7 @@ impl Line {
 }
 
 impl Buffered {
-    fn logged_at(&self, column: u32) -> Entry {
+    fn logged_at(&self, column: u32, set: u8) -> Entry {
         Entry {
             message: Message {
                 record: self.record,
@@ -127,6 +127,7 @@ impl Buffered {
                 made_from: Some(self.made_from),
             },
             input_made_from: self.input_made_from,
+            set,
         }
     }
 }

@@ -174,7 +174,7 @@ impl Line {
     }
 
     /// Raises the node's time by 1 and logs the record, which is one that the
-    /// node's rule has been applied to.
+    /// node's rule has been applied to. The set is written "when the entry is made".
     fn log(
         &mut self,
         node: usize,
@@ -182,6 +182,7 @@ impl Line {
         made_from: Option<Origin>,
         input_made_from: Option<Origin>,
     ) -> Result<(), u32> {
+        let set = self.plan.set_of(node, &record);
         let node = &mut self.nodes[node];
         if node.log.len() >= Line::MOST_ENTRIES {
             return Err(NO_SPACE);
@@ -194,6 +195,7 @@ impl Line {
                 made_from,
             },
             input_made_from,
+            set,
         });
         Ok(())
     }

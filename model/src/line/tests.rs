@@ -4,13 +4,16 @@ mod damage;
 mod handmade;
 mod practised;
 mod refusals;
+mod sets;
 mod ticks;
 mod trims;
 
 use super::*;
+use crate::line::practice::give_sets;
 use crate::plain::{Act, PlainLine};
 use crate::plan::practice::keeping;
 use crate::plan::{Channel, Version};
+use crate::state::{direct, line_bytes, read_line};
 
 fn feed(node: u8, piece: u32, material: u8) -> Vec<u8> {
     let record = Record {
@@ -45,10 +48,14 @@ fn trim(node: u8) -> Vec<u8> {
     Frame::Trim { node }.write()
 }
 
+/// The step in place leaves the same.
 fn accept(line: &mut Line, frames: &[Vec<u8>]) {
     for (number, frame) in frames.iter().enumerate() {
+        let mut state = line_bytes(line);
         assert_eq!(step(line, frame), 0, "frame {number} {frame:?}");
         assert!(!damaged(line), "after frame {number} {frame:?}");
+        assert_eq!(direct::step(&mut state, frame), 0);
+        assert_eq!(read_line(&state).as_ref(), Some(&*line));
     }
 }
 
@@ -181,6 +188,7 @@ fn ninth_marked_sheet() {
             made_from: origin(0, 1),
         },
         input_made_from: None,
+        set: 0b11,
     };
     assert_eq!(node.log, [placed]);
     assert_eq!((node.clock.taken(0), node.clock.taken(1)), (1, 0));
@@ -266,6 +274,7 @@ fn window_after_the_cap() {
     assert_eq!(refuse(&line, &send(1)), 18);
     line.plan.channels[0].window.greatest = 99;
     line.plan.channels[1].window.least = 100;
+    give_sets(&mut line);
     accept(&mut line, &[feed(0, 2, 0), send(1), send(1)]);
     assert_eq!(refuse(&line, &send(0)), 18);
 }

@@ -102,6 +102,16 @@ pub fn refuses_by_mass(channel: &Channel, record: &Record) -> bool {
     open.takes(record) && !channel.takes(record)
 }
 
+/// The set of all channels that leave the node.
+pub fn all_leaving(plan: &Plan, node: usize) -> u8 {
+    (1 << plan.leaving(node).count()) - 1
+}
+
+/// Whether it has some of them, and not all.
+pub fn is_partial(plan: &Plan, node: usize, set: u8) -> bool {
+    set != 0 && set != all_leaving(plan, node)
+}
+
 /// Of version 1; rules keep.
 pub fn keeping(node_count: usize, channels: impl IntoIterator<Item = Channel>) -> Plan {
     Plan {

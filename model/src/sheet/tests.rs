@@ -108,7 +108,7 @@ fn kept_sheets() {
     let folder = Path::new(env!("CARGO_MANIFEST_DIR")).join("vectors/sheets");
     let checked = vectors::check_folder(&folder).unwrap();
     assert!(checked.wrong.is_empty(), "{:?}", checked.wrong);
-    assert_eq!(checked.sheets(), 194);
+    assert_eq!(checked.sheets(), 222);
 }
 
 /// Twelve nodes, 500 frames: well under 50 ms.

@@ -8,6 +8,7 @@
 mod channels;
 mod nodes;
 mod replay;
+mod sets;
 mod shape;
 mod step;
 

@@ -115,7 +115,9 @@ pub const RECORD: usize = 0;
 pub const MESSAGE_TIME: usize = Record::LENGTH;
 pub const MADE_FROM: usize = MESSAGE_TIME + NUMBER;
 pub const INPUT_MADE_FROM: usize = MADE_FROM + ORIGIN;
-pub const ENTRY_USED: usize = INPUT_MADE_FROM + ORIGIN;
+/// A bit for each of the node's leaving channels, the first lowest.
+pub const ENTRY_SET: usize = INPUT_MADE_FROM + ORIGIN;
+pub const ENTRY_USED: usize = ENTRY_SET + 1;
 pub const MESSAGE_USED: usize = MADE_FROM + ORIGIN;
 
 /// The sender's own number here: a held record has one.

@@ -11,6 +11,7 @@ mod pick;
 mod places;
 mod runs;
 mod scrambles;
+mod sets;
 mod slots;
 pub mod staged;
 
@@ -21,6 +22,7 @@ pub use harmless::HARMLESS;
 pub use places::{places, Place};
 pub use runs::{any_record, call, lines, play, play_to_the_end, replay_on, trim_all, Played};
 pub use scrambles::SCRAMBLES;
+pub use sets::{other_sets, AFTER_A_SET, OTHER_SETS};
 pub use slots::SHUFFLES;
 
 use super::line_bytes;
@@ -46,6 +48,8 @@ pub enum Kind {
     Shuffled,
     /// All bytes, those behind the plan or those of a part drawn at random.
     Scrambled,
+    /// The set of one log entry changed.
+    Set,
     /// One unused byte set.
     Unused,
     Length,
@@ -86,6 +90,7 @@ pub fn staged(random: &mut Random, visit: Visit) {
     let large = [
         staged::full(),
         longest,
+        staged::by_piece(staged::full()),
         staged::replaying(),
         staged::trimmed(),
     ];

@@ -95,6 +95,7 @@ fn read_entry(slot: &[u8]) -> Entry {
     Entry {
         message: read_message(slot),
         input_made_from: read_origin(slot, INPUT_MADE_FROM),
+        set: slot[ENTRY_SET],
     }
 }
 

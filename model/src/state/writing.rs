@@ -52,6 +52,7 @@ fn write_slots<T>(block: &mut [u8], slots: Slots, parts: &[T], write: fn(&mut [u
 fn write_entry(slot: &mut [u8], entry: &Entry) {
     write_message(slot, &entry.message);
     write_origin(slot, INPUT_MADE_FROM, entry.input_made_from);
+    slot[ENTRY_SET] = entry.set;
 }
 
 fn write_message(slot: &mut [u8], message: &Message) {

@@ -1,21 +1,16 @@
-use Prim.Native.Nat.{ℕ}
-use mathlib.Core.Path.{_≡_, ap, _∙_}
+use mathlib.Core.Path.{ap, _∙_}
 use native.Mathlib.Omega.{arith}
 use borrow.Author.Needs.{needs}
 use Rattle.plan.specs.declared.Record.{Record}
-use Rattle.plan.specs.Layout.{bytesOf}
-use Rattle.plan.specs.Record.{recordLayout}
 use Rattle.plan.specs.Plan.{planOf}
 use Rattle.plan.specs.Mask.{someTakes}
 use Rattle.plan.proofs.BytesLaws.{bytes-known}
 use Rattle.buffer.specs.Check.{recordIn}
-use Rattle.buffer.proofs.WordLaws.{part-written}
-use Rattle.node_check.proofs.PieceBytes.{passed-mask}
+use Rattle.node_check.proofs.PieceBytes.{record-fields, passed-mask}
 use Rattle.node_check.proofs.passed_on.Statement.{statement}
 use Rattle.node_check.proofs.passed_on.Tie as tie
 
 returns : tie.Need-returns
-unfolding recordLayout
 returns c =
     let mass = c .before in
     let material = mass .before in
@@ -25,10 +20,7 @@ returns c =
     let start = known .before in
     let a = start .args in
     let s = a .s .now in
-    let bytes = bytes-known s (λ i. known .shared-slice-known .given i .fits) in
-    let what : _≡_ {A = Record} (record { piece = piece .piece-of .result; material = material .material-of .result; mass = mass .mass-of .result }) (recordIn (a .at) s) =
-    (λ i. record { piece = piece .piece-of .ensures i; material = material .material-of .ensures i; mass = mass .mass-of .ensures i })
-    ∙ ap (λ (n : ℕ). recordLayout .read (bytesOf 8 n)) (number .get64 .ensures) ∙ ap (recordLayout .read) (part-written 8 (a .at) s bytes (omega arith)) in
+    let what = record-fields (a .at) s (number .get64 .result) (piece .piece-of .result) (material .material-of .result) (mass .mass-of .result) (bytes-known s (λ i. known .shared-slice-known .given i .fits)) (omega arith) (number .get64 .ensures) (piece .piece-of .ensures) (material .material-of .ensures) (mass .mass-of .ensures) in
     c .some-takes .ensures
     ∙ ap (λ (r : Record). someTakes (planOf s) r (a .mask)) what
     ∙ passed-mask s (a .n) (recordIn (a .at) s) (a .mask) (omega arith) (start .pre .0 .channels) (start .pre .1)

@@ -40,6 +40,7 @@ returns c =
       time = omega (arith, good);
       origin = from-fits (x .made .from) (x .made .time) (omega (arith, good)) (omega (arith, good));
       before = from-fits (x .before .from) (x .before .time) (omega (arith, good)) (omega (arith, good));
+      set = omega (arith, good);
     })
     (first .pre .1) (get32 .result) (size .result) (get32 .ensures ∙ node-log-counted (first .pre .0)) (size .ensures) (written .put32 .ensures) (c .before .before .put-entry .ensures)
 

@@ -2,9 +2,12 @@ use mathlib.Core.Path.{_≡_, sym, ap, _∙_}
 use native.Mathlib.Omega.{arith}
 use borrow.Author.Needs.{needs}
 use borrow.Author.Tests.{not-true, not-false}
+use Prim.Native.Nat.{_<_}
 use Rattle.plan.specs.Record.{recordLayout}
+use Rattle.plan.specs.Plan.{planOf, planNodes}
 use Rattle.rules.specs.Step.{madeBy}
 use Rattle.state.specs.State.{lineOf}
+use Rattle.buffer.proofs.SetLaws.{leave-all}
 use Rattle.passing.proofs.StateLaws.{at-node, time-within}
 use Rattle.passing.proofs.FeedLaws.{feed-past, feed-between, feed-unfit, feed-full, feed-done}
 use Rattle.passing.proofs.feed.Statement.{statement}
@@ -53,7 +56,8 @@ log-made-requires c κs =
     let counted = logs .before .before .before .before .before .before .before in
     let start = counted .before .before .before in
     let a = start .args in
-    record { at = at-node (start .pre) (omega (arith, counted .node-count .ensures .0)); room = omega (arith, logs .log-count .ensures .0); time = time-within (start .pre) (omega (arith, counted .node-count .ensures .0)) }
+    let inside : a .n < planNodes (a .s .now) = omega (arith, counted .node-count .ensures .0) in
+    (record { at = at-node (start .pre) inside; room = omega (arith, logs .log-count .ensures .0); time = time-within (start .pre) inside }, leave-all (planOf (a .s .now)) (a .n))
 
 returns-5 : tie.Need-returns-5
 returns-5 c bytes reads fits =

@@ -1,17 +1,19 @@
-use Prim.Native.Nat.{_<_}
-use mathlib.Core.Path.{_≡_, ap, _∙_}
+use Prim.Native.Nat.{_+_, _<_}
+use mathlib.Core.Path.{_≡_, sym, ap, subst, _∙_}
 use native.Mathlib.Omega.{arith}
 use borrow.Author.Needs.{needs}
 use lib.ListN.{drop}
 use Rattle.plan.specs.declared.Channel.{Channel}
-use Rattle.plan.specs.Plan.{planNodes}
+use Rattle.plan.specs.Plan.{Plan, planNodes}
 use Rattle.rules.specs.Line.{laneAt, receiverOf}
 use Rattle.state.specs.State.{lineOf}
 use Rattle.state.proofs.InPlace.{line-plan}
 use Rattle.slots.specs.Slots.{messageIs}
+use Rattle.buffer.specs.Sets.{LeaveFrom}
 use Rattle.buffer.proofs.ReadyLaws.{sender-inside}
+use Rattle.buffer.proofs.SetLaws.{none-to-entering}
 use Rattle.passing.proofs.StateLaws.{at-lane, on-channel, at-receiver, time-within}
-use Rattle.passing.proofs.TakeLaws.{first-is, taken-loggable, taken-up, take-full, take-done}
+use Rattle.passing.proofs.TakeLaws.{first-is, taken-in-front, taken-loggable, taken-up, take-full, take-done}
 use Rattle.passing.proofs.take_up.Statement.{statement}
 use Rattle.passing.proofs.take_up.Tie as tie
 
@@ -48,6 +50,11 @@ add-t21 c =
     let inside : at .channel-of .result .sender < planNodes (a .s .now) = rw (at .channel-of .ensures) (sender-inside (a .s .now) (a .b) (on-channel (at-lane u (start .pre .below)))) in
     omega (arith, inside, u .holds .ready .nodes)
 
+add-log-made : tie.Need-add-log-made
+add-log-made c =
+    let start = c .before .before .before .before .before .before .before .before .before .before .before .before .before .before .before .before .before in
+    omega (arith, start .pre .below, start .pre .undamaged .holds .ready .channels)
+
 log-made-requires : tie.Need-log-made-requires
 log-made-requires c κs =
     let gone = c .before .before .before .before .before .before in
@@ -60,10 +67,12 @@ log-made-requires c κs =
     let u = start .pre .undamaged in
     let q = laneAt (lineOf (a .s .now)) (a .b) .queue in
     let there = at-receiver (at-lane u (start .pre .below)) (n .index .ensures .0 ∙ ap (λ (d : Channel). d .receiver) (at .channel-of .ensures)) in
-    taken-loggable (a .s .now) (gone .take-first .last .0) (a .b) (messageIs (m .result)) (drop 1 q)
-    (gone .take-first .ensures (drop 1 q) (first-is q (messageIs (m .result)) (start .pre .waiting) (m .ensures)))
-    (n .index .result)
-    (record { at = there; room = omega (arith, logs .log-count .ensures .0, gone .before .before .before .before .if1 .left); time = time-within u (there .inside) })
+    let after = gone .take-first .ensures (drop 1 q) (first-is q (messageIs (m .result)) (start .pre .waiting) (m .ensures)) in (
+      taken-loggable (a .s .now) (gone .take-first .last .0) (a .b) (messageIs (m .result)) (drop 1 q) after (n .index .result)
+          (record { at = there; room = omega (arith, logs .log-count .ensures .0, gone .before .before .before .before .if1 .left); time = time-within u (there .inside) }),
+      subst (λ (p : Plan). LeaveFrom p (n .index .result) (a .b + 1)) (sym (taken-in-front (a .s .now) (gone .take-first .last .0) (a .b) (messageIs (m .result)) (drop 1 q) after))
+          (none-to-entering (on-channel (at-lane u (start .pre .below))) (n .index .ensures .0 ∙ ap (λ (d : Channel). d .receiver) (at .channel-of .ensures))),
+    )
 
 returns-2 : tie.Need-returns-2
 returns-2 c =
@@ -99,6 +108,7 @@ take-up-spec =
     (λ c κs. search needs)
     made-by-requires
     add-t21
+    add-log-made
     log-made-requires
     (λ c. search needs)
     returns-2)

@@ -11,7 +11,7 @@ use Rattle.replay.proofs.logged.Tie as tie
 returns : tie.Need-returns
 returns c =
     let a = c .before .before .before .args in
-    let made : ℕ → Entry = λ k. record { what = a .h .what; time = a .column; origin = originFrom k (a .h .time); before = originIs (a .h .before) } in
+    let made : ℕ → Entry = λ k. record { what = a .h .what; time = a .column; origin = originFrom k (a .h .time); before = originIs (a .h .before); set = a .set } in
     ap made (add-one (a .h .sender))
 
 pub logged-spec : {M : Type 1} → statement M

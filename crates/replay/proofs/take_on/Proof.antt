@@ -3,14 +3,14 @@ use borrow.Author.Needs.{needs}
 use borrow.Author.Tests.{not-true, not-false}
 use Rattle.rules.specs.Step.{replaying}
 use Rattle.state.specs.State.{lineOf}
-use Rattle.replay.proofs.AnswerLaws.{at-node, space-left, few-held, held-on, not-placed, loggable, ended}
+use Rattle.replay.proofs.AnswerLaws.{enters, space-left, few-held, held-on, not-placed, loggable, ended}
 use Rattle.replay.proofs.take_on.Statement.{statement}
 use Rattle.replay.proofs.take_on.Tie as tie
 
 hold-requires : tie.Need-hold-requires
 hold-requires c κs =
     let o = c .before .before .before .before .before .pre .0 in
-    (at-node (o .seen), o .seen .below, o .seen .first, few-held (o .seen) (o .space))
+    (enters (o .seen) .on, o .seen .below, o .seen .first, few-held (o .seen) (o .space))
 
 returns : tie.Need-returns
 returns c =
@@ -39,7 +39,7 @@ end-requires c κs =
     let rows = found .before .before .before .before in
     let o = rows .before .before .before .pre .0 in
     let v = o .seen in
-    (at-node v, v .below, v .first, loggable v (o .row) (o .space) (sym (rows .rows-after .ensures) ∙ not-false (rows .rows-after .result) (found .before .before .before .if1 .left)) (found .placed .last .1 .1 .1 .1 .0) (found .placed .result) (found .placed .ensures) (c .before .before .if2 .left))
+    (enters v, v .first, loggable v (o .row) (o .space) (sym (rows .rows-after .ensures) ∙ not-false (rows .rows-after .result) (found .before .before .before .if1 .left)) (found .placed .last .1 .1 .1 .1 .0) (found .placed .result) (found .placed .ensures) (c .before .before .if2 .left))
 
 returns-3 : tie.Need-returns-3
 returns-3 c =
@@ -53,7 +53,7 @@ pub take-on-spec : {M : Type 1} → statement M
 take-on-spec =
     tie.close
     (tie.spec
-    (λ c κs. (at-node (c .before .before .pre .0 .seen), c .before .before .pre .1))
+    (λ c κs. (enters (c .before .before .pre .0 .seen) .on, c .before .before .pre .1))
     hold-requires
     (λ c. search needs)
     returns

@@ -13,7 +13,7 @@ use Rattle.buffer.specs.Nothing.{noMessage}
 use Rattle.slots.specs.Slots.{messageIs, heldIs}
 use Rattle.recover.proofs.RestoredLaws.{rows-none}
 use Rattle.replay.specs.After.{wouldHold}
-use Rattle.replay.proofs.AnswerLaws.{seen, to-line, row-found, row-done, lacks-space}
+use Rattle.replay.proofs.AnswerLaws.{seen, entered, row-found, row-done, lacks-space}
 use Rattle.replay.proofs.take_replaying.Statement.{statement}
 use Rattle.replay.proofs.take_replaying.Tie as tie
 
@@ -37,8 +37,13 @@ waiting-of-requires : tie.Need-waiting-of-requires
 waiting-of-requires c κs =
     let to = c .before .before .before .before .before .before .before .before .before .before .before in
     let start = to .before .before .before in
-    let a = start .args in
-    (record { holds = start .pre .0 .holds; inside = to .receiver-of .ensures .1 }, start .pre .1, to-line (a .s .now) (a .b) (to .receiver-of .result) (to .receiver-of .ensures .0))
+    entered (start .args .s .now) (start .args .b) (to .receiver-of .result) (start .pre .0 .holds) (start .pre .1) (to .receiver-of .ensures)
+
+goes-on-requires : tie.Need-goes-on-requires
+goes-on-requires c κs =
+    let to = c .before .before .before .before .before .before .before .before .before .before .before .before .before in
+    let start = to .before .before .before in
+    entered (start .args .s .now) (start .args .b) (to .receiver-of .result) (start .pre .0 .holds) (start .pre .1) (to .receiver-of .ensures)
 
 returns-2 : tie.Need-returns-2
 returns-2 c =
@@ -93,7 +98,7 @@ take-replaying-spec =
     returns
     (λ c κs. search needs)
     waiting-of-requires
-    (λ c κs. (let to = c .before .before .before .before .before .before .before .before .before .before .before .before .before in record { holds = to .before .before .before .pre .0 .holds; inside = to .receiver-of .ensures .1 }))
+    goes-on-requires
     (λ c κs. (let to = c .before .before .before .before .before .before .before .before .before .before .before .before .before .before .before in record { holds = to .before .before .before .pre .0 .holds; inside = to .receiver-of .ensures .1 }))
     (λ c. search needs)
     returns-2

@@ -7,6 +7,7 @@ use mathlib.Core.List.{List, [], _∷_, _++_, map}
 use mathlib.Core.Option.{Option, none, some, Option·map}
 use Rattle.plan.specs.declared.Record.{Record}
 use Rattle.plan.specs.Plan.{entering, leaving}
+use Rattle.plan.specs.Mask.{setOf}
 use Rattle.placing.specs.Item.{Item}
 use Rattle.rules.specs.Lists.{allOf, joined, isEmpty}
 use Rattle.rules.specs.Line.{Origin, fed, made, Message, Entry, Held, Lane, Line, nodeAt, laneAt, senderOf, receiverOf, parents, withNode, withLane, withLanes}
@@ -45,7 +46,7 @@ module _ (newer : ℕ → ℕ) (counts : List ℕ) where
   items-recounted l b row (hs ∷ rest) = ap (λ (items : List Item). map (itemOf l b row) hs ++ items) (items-recounted l b (suc row) rest)
 
   end-recounted : (b : ℕ) (l : Line) → replayEnd b (reheaded newer counts l) ≡ Option·map (reheaded newer counts) (replayEnd b l)
-  unfolding replayEnd
+  unfolding replayEnd nodePlaced setOf
   end-recounted b l = (λ i. ended (reheaded newer counts l) test (same-rows i) (placing (nodeAt l b .time) (highOf l b) (same-items i))) ∙ one test (placing (nodeAt l b .time) (highOf l b) (itemsByRow l b 0 rows))
     where
       test : Bool
@@ -77,7 +78,7 @@ module _ (newer : ℕ → ℕ) (counts : List ℕ) where
   held-recounted b m l = either (reheaded newer counts) (passedOn (l .plan) (receiverOf l b) (madeBy l (receiverOf l b) (m .what))) refl refl
 
   taken-recounted : (b : ℕ) (q : List Message) (l : Line) → takenFirst b q (reheaded newer counts l) ≡ Option·map (reheaded newer counts) (takenFirst b q l)
-  unfolding takenLane takenUp
+  unfolding takenLane takenUp setOf
   taken-recounted b [] l = refl
   taken-recounted b (m ∷ rest) l =
       let k = takenLane b m rest l in
@@ -123,7 +124,7 @@ module _ (newer : ℕ → ℕ) (counts : List ℕ) where
   sent-recounted b (some e) l = refl
 
   pub effect-recounted : (l : Line) (f : Frame) → effect (reheaded newer counts l) f ≡ Option·map (reheaded newer counts) (effect l f)
-  unfolding effect
+  unfolding effect setOf
   effect-recounted l (feed n r) = refl
   effect-recounted l (send b) = ap some (sent-recounted b (sendable l b) l)
   effect-recounted l (take b) = taken-recounted b (laneAt l b .queue) l

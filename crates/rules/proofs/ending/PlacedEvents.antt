@@ -11,6 +11,7 @@ use lib.Dec.{eqb, ltb}
 use borrow.Author.Tests.{eq-eqb, ne-eqb, lt-ltb, le-ltb, ltb-false}
 use Rattle.plan.specs.Rule.{applied}
 use Rattle.plan.specs.Plan.{Plan, ruleAt, channelAt, entering}
+use Rattle.plan.specs.Mask.{setOf}
 use Rattle.placing.specs.Item.{Item, itemAt}
 use Rattle.placing.specs.Rules.{KeepsRules}
 use Rattle.rules.specs.Lists.{keep, joined}
@@ -46,10 +47,10 @@ module _ (p : Plan) (n : ℕ) where
       one true q = refl
       one false q = ap (λ (x : List Entry). entryOf p n d ∷ x) q
 
-  log-placed : (ss : List Slot) (columns : List ℕ) → placedLog (map (slotHeld p n) ss) columns ≡ map (entryOf p n) (placedEvents ss columns)
+  log-placed : (ss : List Slot) (columns : List ℕ) → placedLog (setOf p n) (map (slotHeld p n) ss) columns ≡ map (entryOf p n) (placedEvents ss columns)
   log-placed [] columns = refl
   log-placed (s ∷ ss) [] = refl
-  log-placed (s ∷ ss) (t ∷ columns) = ap (addEntry (entryAt t (slotHeld p n s))) (log-placed ss columns) ∙ add-entry (tookAt (s .channel) (s .message) t) (placedEvents ss columns)
+  log-placed (s ∷ ss) (t ∷ columns) = ap (addEntry (entryAt (setOf p n) t (slotHeld p n s))) (log-placed ss columns) ∙ add-entry (tookAt (s .channel) (s .message) t) (placedEvents ss columns)
 
 add-in : (e : Event) (es : List Event) {d : Event} → In d (addEvent e es) → (d ≡ e) ⊎ In d es
 add-in e [] i = in-first i
@@ -163,7 +164,7 @@ module _ {low high : ℕ} where
 
 -- What the log of a replay's end is: the events `fs` of node n.
 pub record PlacedEvents (l : Line) (n : ℕ) (rowOf : ℕ → List Message) (columns : List ℕ) (fs : List Event) : Type 0 where
-  pub log-is : placedLog (joined (heldByRow (nodeAt l n .held) l (entering (l .plan) n))) columns ≡ map (entryOf (l .plan) n) fs
+  pub log-is : placedLog (setOf (l .plan) n) (joined (heldByRow (nodeAt l n .held) l (entering (l .plan) n))) columns ≡ map (entryOf (l .plan) n) fs
   pub rises : Rises eventTime (nodeAt l n .time) fs
   pub within : Within eventTime (highOf l n) fs
   pub got-is : (b : ℕ) → In b (entering (l .plan) n) → gotOf b fs ≡ rowOf b
@@ -217,7 +218,7 @@ module _ (l : Line) (n : ℕ) (rowOf : ℕ → List Message) (columns : List ℕ
       let got : (b : ℕ) → In b bs → gotOf b (placedEvents ss columns) ≡ rowOf b = λ b i. got-placed (slotItem l n) b ss columns k (λ s t u v e. same-row rowOf 0 rise u v e) ∙ messages-row rowOf 0 b rise i in (
         placedEvents ss columns,
         record {
-          log-is = ap (λ (hs : List Held). placedLog hs columns) (rows-held rowOf l n (nodeAt l n .held) 0 bs held-rows) ∙ log-placed p n ss columns;
+          log-is = ap (λ (hs : List Held). placedLog (setOf p n) hs columns) (rows-held rowOf l n (nodeAt l n .held) 0 bs held-rows) ∙ log-placed p n ss columns;
           rises = rises-placed (slotItem l n) ss columns k;
           within = within-placed (slotItem l n) ss columns k;
           got-is = got;

@@ -10,6 +10,7 @@ use Rattle.plan.specs.declared.Record.{Record}
 use Rattle.plan.specs.Rule.{applied}
 use Rattle.plan.specs.Channel.{takes}
 use Rattle.plan.specs.Plan.{Plan, ruleAt, channelAt}
+use Rattle.plan.specs.Mask.{setOf}
 use Rattle.rules.specs.Lists.{keep, keepOne}
 use Rattle.rules.specs.Line.{Origin, fed, made, Message, Entry, Line, nodeAt}
 use Rattle.rules.specs.Clock.{messageOf}
@@ -42,7 +43,7 @@ eventBefore (tookAt b m t) = m .origin
 
 -- What the node makes of an event: its log entry, and the message that goes on.
 abbrev pub entryOf : Plan → ℕ → Event → Entry
-entryOf p n e = record { what = applied (ruleAt p n) (whatIn (inputOf e)); time = eventTime e; origin = eventOrigin p e; before = eventBefore e }
+entryOf p n e = record { what = applied (ruleAt p n) (whatIn (inputOf e)); time = eventTime e; origin = eventOrigin p e; before = eventBefore e; set = setOf p n (applied (ruleAt p n) (whatIn (inputOf e))) }
 
 abbrev pub sentOf : Plan → ℕ → Event → Message
 sentOf p n e = messageOf (entryOf p n e)

@@ -26,7 +26,7 @@ use Rattle.rules.proofs.invariant.Stays.{everywhere, marks-stay, ends-s
 
 -- The node with the event's entry logged.
 abbrev pub nodeLogs : Line → ℕ → Event → Node
-nodeLogs l n e = logged (entryOf (l .plan) n e .what) (eventOrigin (l .plan) e) (eventBefore e) (nodeAt l n)
+nodeLogs l n e = logged (entryOf (l .plan) n e .set) (entryOf (l .plan) n e .what) (eventOrigin (l .plan) e) (eventBefore e) (nodeAt l n)
 
 pub logging-shape : (l : Line) (n : ℕ) (e : Event) → Shape l → Shape (withNode n (nodeLogs l n e) l)
 unfolding withNode
@@ -65,7 +65,7 @@ module _ (l : Line) (n : ℕ) (e : Event) (there : n < length (l .nodes)) where
   module _ (own : eventTime e ≡ suc (nodeAt l n .time)) where
     pub log-there : nodeAt (withNode n (nodeLogs l n e) l) n .log ≡ nodeAt l n .log ++ entryOf (l .plan) n e ∷ []
     unfolding logged
-    log-there = ap (λ (x : Node). x .log) logged-now ∙ ap (λ (t : ℕ). nodeAt l n .log ++ record { what = entryOf (l .plan) n e .what; time = t; origin = eventOrigin (l .plan) e; before = eventBefore e } ∷ []) (sym own)
+    log-there = ap (λ (x : Node). x .log) logged-now ∙ ap (λ (t : ℕ). nodeAt l n .log ++ record { what = entryOf (l .plan) n e .what; time = t; origin = eventOrigin (l .plan) e; before = eventBefore e; set = entryOf (l .plan) n e .set } ∷ []) (sym own)
 
     logging-grows : Grows l (withNode n (nodeLogs l n e) l)
     unfolding withNode

@@ -1,5 +1,5 @@
 -- The channels of an accepted plan go forward, stay inside the plan and join a pair of nodes once.
-use Prim.Native.Nat.{ℕ, zero, suc, _<_}
+use Prim.Native.Nat.{ℕ, zero, suc, _≤_, _<_}
 use mathlib.Core.Path.{_≡_, refl, sym, ap, _∙_}
 use mathlib.Core.Logic.{_⊎_, inl, inr}
 use mathlib.Core.Bool.{Bool, true, false, _&&_, _||_}
@@ -64,6 +64,9 @@ module _ (n : ℕ) where
   channels-rise s r (x ∷ cs) e (suc b) (suc c) l h = channels-rise (x .sender) (x .receiver) cs (first-fits s r x cs e .2) b c (omega arith) (omega arith)
 
 -- What check 6 says of a plan's channels.
+pub senders-rise : (p : Plan) → channelsFit (nodeCount p) 0 0 (p .channels) ≡ true → (b c : ℕ) → b < c → c < channelCount p → channelAt p b .sender ≤ channelAt p c .sender
+senders-rise p e b c l h = elim (channels-rise (nodeCount p) 0 0 (p .channels) e b c l h) [ inl k ↦ omega arith | inr k ↦ (let same = k .0 in omega arith) ]
+
 pub ordered-channels : (p : Plan) → channelsFit (nodeCount p) 0 0 (p .channels) ≡ true → Ordered p
 ordered-channels p e =
     record {

@@ -13,6 +13,7 @@ use borrow.Author.Tests.{leb-false}
 use Rattle.plan.specs.declared.Record.{Record}
 use Rattle.plan.specs.Record.{recordLayout}
 use Rattle.plan.specs.Plan.{channelAt, channelCount, entering}
+use Rattle.plan.specs.Mask.{setOf}
 use Rattle.rules.specs.Lists.{allOf, joined, isEmpty}
 use Rattle.rules.specs.Line.{logLimit, heldLimit, fed, made, Origin, Message, Entry, Held, Status, up, replay, Node, Lane, Line, nodeAt, laneAt, acceptedSteps, withNode, withLane, freshLane, parents, isReplay, senderOf}
 use Rattle.rules.specs.Frame.{Frame, feed, send, take, crash, recover, trim, frameConsole, frameOf}
@@ -59,7 +60,7 @@ module _ (n : ℕ) (l : Line) (inside : n < length (l .nodes)) (s : Limits 1 l) 
       let k = withNode n x l in
       let now : nodeAt k n ≡ x = node-there n x l inside in
       record {
-        limits = limits-by l (k .nodes) (l .lanes) n (node-else n x l) (rw now (log-placed l n rows (nodeAt l n .time) (highOf l n) columns e .few)) (rw now (high-within s n)) (s .entries) (omega arith) s;
+        limits = limits-by l (k .nodes) (l .lanes) n (node-else n x l) (rw now (log-placed (setOf (l .plan) n) l n rows (nodeAt l n .time) (highOf l n) columns e .few)) (rw now (high-within s n)) (s .entries) (omega arith) s;
         open-rows = λ m. elim (ℕ-discrete m n) [
           | yes q ↦ λ z. absurd (up-not-replay (sym (ap (λ (y : Node). y .status) now) ∙ ap (λ (y : ℕ). nodeAt k y .status) (sym q) ∙ z))
           | no d ↦ (let same = node-else n x l m d in open-stays l (l .steps) (k .nodes) (l .lanes) m (ap (λ (y : Node). y .status) same) (ap (λ (y : Node). y .targets) same) (λ b h. refl) (others m d))
@@ -79,17 +80,17 @@ module _ (n : ℕ) (l : Line) (inside : n < length (l .nodes)) (s : Limits 1 l) 
           subst (Steady 1) (some-same e) (record { limits = s; open-rows = λ m. elim (ℕ-discrete m n) [ yes q ↦ λ z. ap (rowsComplete l) q ∙ c | no d ↦ others m d ] })
 
 -- A node that is up logs.
-module _ (l : Line) (s : Steady 0 l) (n : ℕ) (inside : n < length (l .nodes)) (alive : isUp l n) (space : length (nodeAt l n .log) < logLimit) (what : Record) (origin before : Origin) where
+module _ (l : Line) (s : Steady 0 l) (n : ℕ) (inside : n < length (l .nodes)) (alive : isUp l n) (space : length (nodeAt l n .log) < logLimit) (chosen : ℕ) (what : Record) (origin before : Origin) where
   abbrev x : Node
-  x = logged what origin before (nodeAt l n)
+  x = logged chosen what origin before (nodeAt l n)
 
-  log-steady : Steady 1 (withNode n (logged what origin before (nodeAt l n)) l)
+  log-steady : Steady 1 (withNode n (logged chosen what origin before (nodeAt l n)) l)
   unfolding withNode logged
   log-steady =
       let now : nodeAt (withNode n x l) n ≡ x = node-there n x l inside in
       let limits = s .limits in
       record {
-        limits = limits-by l (withNode n x l .nodes) (l .lanes) n (node-else n x l) (rw now (omega (arith, length-snoc (nodeAt l n .log) (record { what = what; time = suc (nodeAt l n .time); origin = origin; before = before })))) (rw now (omega (arith, limits .times n)))
+        limits = limits-by l (withNode n x l .nodes) (l .lanes) n (node-else n x l) (rw now (omega (arith, length-snoc (nodeAt l n .log) (record { what = what; time = suc (nodeAt l n .time); origin = origin; before = before; set = chosen })))) (rw now (omega (arith, limits .times n)))
             (λ b h. omega (arith, limits .entries b h)) (omega arith) limits;
         open-rows = λ m. elim (ℕ-discrete m n) [
           | yes q ↦ λ z. absurd (up-not-replay (sym (ap (λ (y : Node). y .status) now ∙ alive) ∙ ap (λ (y : ℕ). nodeAt (withNode n x l) y .status) (sym q) ∙ z))
@@ -103,7 +104,7 @@ module _ (l : Line) (g : Ghost) (cut base : ℕ → ℕ) (acts : List Act) (rece
   feed-steady n r p k e =
       let can = can-feed p in
       subst (Steady 1) (some-same e)
-      (log-steady l s n (rw (inv .shape .nodes-long) (can .here)) (source-up (inv .marks) n (can .source)) (leb-false logLimit (length (nodeAt l n .log)) (p .space)) (madeBy l n (recordLayout .read r)) fed fed)
+      (log-steady l s n (rw (inv .shape .nodes-long) (can .here)) (source-up (inv .marks) n (can .source)) (leb-false logLimit (length (nodeAt l n .log)) (p .space)) (setOf (l .plan) n (madeBy l n (recordLayout .read r))) (madeBy l n (recordLayout .read r)) fed fed)
 
   send-steady : (b : ℕ) → {c : ℕ} → Passed l c (send b) → (k : Line) → effect l (send b) ≡ some k → Steady 1 k
   unfolding effect withLane sentOn
@@ -168,7 +169,7 @@ module _ (l : Line) (g : Ghost) (cut base : ℕ → ℕ) (acts : List Act) (rece
         let steady : Steady 0 beside = record { limits = beside-limits; open-rows = λ k. elim (ℕ-discrete k n) [ yes q ↦ λ z. absurd (up-not-replay (sym alive ∙ ap (λ (y : ℕ). nodeAt l y .status) (sym q) ∙ z)) | no d ↦ beside-open k d ] } in
         let space : leb logLimit (length (nodeAt l n .log)) ≡ false = sym (ap (λ (t : Status). cond (isReplay t) (toHold l n (firstRecord (laneAt l b .queue)) && leb heldLimit (length (nodeAt l n .held))) (leb logLimit (length (nodeAt l n .log)))) alive) ∙ p .space in
         subst (Steady 1) (some-same (sym (taken-is l g cut base acts receipts crashes inv b can alive) ∙ e))
-        (log-steady beside steady n inside alive (leb-false logLimit (length (nodeAt l n .log)) space) (madeBy l n (m .what)) (made (senderOf l b) (m .time)) (m .origin))
+        (log-steady beside steady n inside alive (leb-false logLimit (length (nodeAt l n .log)) space) (setOf (l .plan) n (madeBy l n (m .what))) (madeBy l n (m .what)) (made (senderOf l b) (m .time)) (m .origin))
 
     -- Held or dropped, the node's log and time are as they were.
     abbrev pub Fair : Line → Type 0

@@ -15,6 +15,7 @@ use Rattle.plan.specs.declared.Record.{Record}
 use Rattle.plan.specs.Record.{recordLayout}
 use Rattle.plan.specs.Channel.{takes}
 use Rattle.plan.specs.Plan.{Plan, channelAt, nodeCount, channelCount}
+use Rattle.plan.specs.Mask.{setOf}
 use Rattle.rules.specs.Lists.{keepOne}
 use Rattle.rules.specs.Line.{Origin, fed, made, Message, Entry, Target, down, replay, Node, Lane, Line, noLane, nodeAt, laneAt, senderOf, receiverOf, withNode, withLane, parents, counted}
 use Rattle.rules.specs.Line as line
@@ -125,9 +126,9 @@ module _ (l : Line) (known : Known l) where
       goals b out = subst (λ (x : ℕ). isUp l x → nodeAt l (channelAt (l .plan) b .receiver) .status ≡ replay → rowGoal (nodeAt l (channelAt (l .plan) b .receiver) .targets) x ≤ nodeAt l x .time) (out .1) (goal-early b (out .0)) alive
 
   -- Once it is logged.
-  new-standing : (k : Line) → Ahead (l .plan) l k → (n : ℕ) (what : Record) (o before : Origin) → isUp l n → ((a v : ℕ) → o ≡ made a v → In a (parents (l .plan) n)) → nodeAt k n ≡ logged what o before (nodeAt l n) → Standing (l .plan) k (nextOf l n o)
+  new-standing : (k : Line) → Ahead (l .plan) l k → (n chosen : ℕ) (what : Record) (o before : Origin) → isUp l n → ((a v : ℕ) → o ≡ made a v → In a (parents (l .plan) n)) → nodeAt k n ≡ logged chosen what o before (nodeAt l n) → Standing (l .plan) k (nextOf l n o)
   unfolding logged
-  new-standing k ahead n what o before alive parent there =
+  new-standing k ahead n chosen what o before alive parent there =
       record {
         alive = alive-kept (l .plan) l k (nextOf l n o) ahead
             (λ e i. elim (append-in (nodeAt l n .log) (subst (λ (x : Node). In e (x .log)) there i)) [ inl j ↦ inl j | inr j ↦ elim (in-first j) [ inl q ↦ inr (λ _. ap (λ (x : Entry). x .origin) q) | inr z ↦ absurd (in-none z) ] ])
@@ -231,11 +232,11 @@ module _ (l : Line) (known : Known l) where
       one-more e alive k ahead is =
           let lane = takenFrom (parents (l .plan) s) m (can .rest) (laneAt l b) in
           let below = withLane b lane l in
-          let there : nodeAt k r ≡ logged (madeBy l r (m .what)) (made s (m .time)) (m .origin) (nodeAt l r) = ap (λ (x : Line). nodeAt x r) is ∙ node-there r _ below (rw (inv .shape .nodes-long) (inv .ordered .inside b (can .here))) in
+          let there : nodeAt k r ≡ logged (setOf (l .plan) r (madeBy l r (m .what))) (madeBy l r (m .what)) (made s (m .time)) (m .origin) (nodeAt l r) = ap (λ (x : Line). nodeAt x r) is ∙ node-there r _ below (rw (inv .shape .nodes-long) (inv .ordered .inside b (can .here))) in
           let on : laneAt k b ≡ lane = ap (λ (x : Line). laneAt x b) is ∙ lane-there b lane l (rw (inv .shape .lanes-long) (can .here)) in
           holds-more (l .plan) l k followed (new ∷ []) took (record { channel = b; time = m .time } ∷ []) ahead holds
           (λ x i. elim (in-first i) [
-            | inl q ↦ subst (λ (y : FollowedMessage). Standing (l .plan) k y × (nodeAt l (y .node) .time < y .time)) (sym q) (new-standing k ahead r (madeBy l r (m .what)) (made s (m .time)) (m .origin) alive parent-of there, omega arith)
+            | inl q ↦ subst (λ (y : FollowedMessage). Standing (l .plan) k y × (nodeAt l (y .node) .time < y .time)) (sym q) (new-standing k ahead r (setOf (l .plan) r (madeBy l r (m .what))) (madeBy l r (m .what)) (made s (m .time)) (m .origin) alive parent-of there, omega arith)
             | inr z ↦ absurd (in-none z)
           ])
           (λ o i. elim (in-first i) [ inl q ↦ subst (Received (l .plan) k (followed ++ new ∷ [])) (sym q) (received-new e alive k ahead on) | inr z ↦ absurd (in-none z) ])
@@ -266,7 +267,7 @@ module _ (l : Line) (known : Known l) where
         holds-more (l .plan) l k followed (nextOf l n fed ∷ []) took [] ahead holds
         (λ x i. elim (in-first i) [
           | inl q ↦ subst (λ (y : FollowedMessage). Standing (l .plan) k y × (nodeAt l (y .node) .time < y .time)) (sym q)
-              (new-standing k ahead n (madeBy l n (recordLayout .read f)) fed fed alive (λ a v z. fed-not-made z) (ap (λ (x : Line). nodeAt x n) is ∙ node-there n _ l (rw (inv .shape .nodes-long) inside)), omega arith)
+              (new-standing k ahead n (setOf (l .plan) n (madeBy l n (recordLayout .read f))) (madeBy l n (recordLayout .read f)) fed fed alive (λ a v z. fed-not-made z) (ap (λ (x : Line). nodeAt x n) is ∙ node-there n _ l (rw (inv .shape .nodes-long) inside)), omega arith)
           | inr z ↦ absurd (in-none z)
         ])
         (λ o i. absurd (in-none i))

@@ -11,6 +11,7 @@ use lib.ListN.{length, getD}
 use Rattle.plan.specs.declared.Record.{Record}
 use Rattle.plan.specs.Record.{recordLayout}
 use Rattle.plan.specs.Plan.{Plan, channelAt, nodeCount, channelCount, entering}
+use Rattle.plan.specs.Mask.{setOf}
 use Rattle.rules.specs.Lists.{allOf, joined}
 use Rattle.rules.specs.Line.{Origin, fed, made, Message, Entry, Target, up, down, replay, Node, Lane, Line, noLane, nodeAt, laneAt, senderOf, withNode, withLane, parents}
 use Rattle.rules.specs.Frame.{Frame, feed, send, take, crash, recover, trim}
@@ -43,8 +44,8 @@ pub fed-not-made : {A : Type 0} {m v : ℕ} → fed ≡ made m v → A
 fed-not-made e = absurd (let z : _≡_ {A = ℕ} 0 1 = cc in omega arith)
 
 -- One more entry in a log: from a node that is not down, or fed.
-module _ (l : Line) (n : ℕ) (what : Record) (o before : Origin) where
-  pub logged-change : (p : Plan) → isUp l n → ((m v : ℕ) → nodeAt l m .status ≡ down → o ≡ made m v → ⊥) → Change p l n (logged what o before (nodeAt l n))
+module _ (l : Line) (n chosen : ℕ) (what : Record) (o before : Origin) where
+  pub logged-change : (p : Plan) → isUp l n → ((m v : ℕ) → nodeAt l m .status ≡ down → o ≡ made m v → ⊥) → Change p l n (logged chosen what o before (nodeAt l n))
   unfolding logged
   logged-change p alive apart =
       record {
@@ -91,7 +92,7 @@ module _ (l : Line) (known : Known l) where
   unfolding fedLine withNode
   feed-ahead n r can =
       ahead (l .plan) l (fedLine n r l) n _ (node-there n _ l (node-here n (can .here))) (node-else n _ l) (λ b h q. same-lower (l .plan) b (laneAt l b) (laneAt l b) refl)
-      (logged-change l n (madeBy l n (recordLayout .read r)) fed fed (l .plan) (source-up (inv .marks) n (can .source)) (λ m v h. fed-not-made))
+      (logged-change l n (setOf (l .plan) n (madeBy l n (recordLayout .read r))) (madeBy l n (recordLayout .read r)) fed fed (l .plan) (source-up (inv .marks) n (can .source)) (λ m v h. fed-not-made))
 
   send-ahead : (b : ℕ) (can : CanSend l b) → Ahead (l .plan) l (withLane b (sentOn (can .entry) (laneAt l b)) l)
   unfolding withLane sentOn
@@ -128,7 +129,7 @@ module _ (l : Line) (known : Known l) where
     take-ahead alive =
         let k = withLane b lane l in
         ahead (l .plan) l (takenUp b m (takenLane b m (can .rest) l)) n _ (node-there n _ k (node-here n (inv .ordered .inside b (can .here)))) (node-else n _ k) (λ c h q. taken-lanes c)
-        (logged-change l n (madeBy l n (m .what)) (made (senderOf l b) (m .time)) (m .origin) (l .plan) alive (λ x v h q. can .sender (ap (λ (y : ℕ). nodeAt l y .status) (made-parts q .0) ∙ h)))
+        (logged-change l n (setOf (l .plan) n (madeBy l n (m .what))) (madeBy l n (m .what)) (made (senderOf l b) (m .time)) (m .origin) (l .plan) alive (λ x v h q. can .sender (ap (λ (y : ℕ). nodeAt l y .status) (made-parts q .0) ∙ h)))
 
     module _ (again : nodeAt l (channelAt (l .plan) b .receiver) .status ≡ replay) where
       abbrev K : Line

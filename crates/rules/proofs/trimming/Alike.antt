@@ -8,7 +8,7 @@ use lib.ListN.{getD, set}
 use lib.Dec.{leb, eqb}
 use Rattle.plan.specs.declared.Record.{Record}
 use Rattle.plan.specs.Plan.{channelAt, entering, leaving}
-use Rattle.plan.specs.Mask.{taking}
+use Rattle.plan.specs.Mask.{taking, setOf}
 use Rattle.rules.specs.Lists.{keep, allOf, joined, greatestOf}
 use Rattle.rules.specs.Line.{Held, up, Node, Lane, Line, freshNode, noLane, nodeAt, laneAt, withNode, withLane, withLanes}
 use Rattle.rules.specs.Recover.{childTimes, highOf, rowGoal, rowComplete, rowsComplete}
@@ -27,12 +27,12 @@ thin s = record { mark = s .mark; taken = s .taken; heard = s .heard; queue = s 
 abbrev pub strip : Line → Line
 strip l = record { plan = l .plan; steps = []; nodes = map bare (l .nodes); lanes = map thin (l .lanes) }
 
-map-get : {A B : Type 0} (f : A → B) (xs : List A) (i : ℕ) (d : A) → getD (map f xs) i (f d) ≡ f (getD xs i d)
+pub map-get : {A B : Type 0} (f : A → B) (xs : List A) (i : ℕ) (d : A) → getD (map f xs) i (f d) ≡ f (getD xs i d)
 map-get f [] i d = refl
 map-get f (x ∷ xs) zero d = refl
 map-get f (x ∷ xs) (suc i) d = map-get f xs i d
 
-map-set : {A B : Type 0} (f : A → B) (xs : List A) (i : ℕ) (y : A) → map f (set xs i y) ≡ set (map f xs) i (f y)
+pub map-set : {A B : Type 0} (f : A → B) (xs : List A) (i : ℕ) (y : A) → map f (set xs i y) ≡ set (map f xs) i (f y)
 map-set f [] i y = refl
 map-set f (x ∷ xs) zero y = refl
 map-set {A} {B} f (x ∷ xs) (suc i) y = ap (λ (ys : List B). f x ∷ ys) (map-set f xs i y)
@@ -117,14 +117,14 @@ module _ (b : ℕ) where
   items-of-strip : (l : Line) → itemsByRow (strip l) b 0 (rowsOf (strip l)) ≡ itemsByRow l b 0 (rowsOf l)
   items-of-strip l = ap (itemsByRow (strip l) b 0) (rows-of-strip l) ∙ items-strip b l 0 (rowsOf l)
 
-  chosen-strip : (l : Line) → chosen (strip l) ≡ chosen l
+  pub chosen-strip : (l : Line) → chosen (strip l) ≡ chosen l
   chosen-strip l j = placing (node-strip l b j .time) (high-strip b l j) (items-of-strip l j)
 
-  placed-strip : (l : Line) (columns : List ℕ) → placedAs (strip l) columns ≡ placedAs l columns
+  pub placed-strip : (l : Line) (columns : List ℕ) → placedAs (strip l) columns ≡ placedAs l columns
   unfolding nodePlaced
-  placed-strip l columns j = record { status = up; crashed = node-strip l b j .crashed; time = high-strip b l j; log = placedLog (joined (rows-of-strip l j)) columns; held = []; targets = [] }
+  placed-strip l columns j = record { status = up; crashed = node-strip l b j .crashed; time = high-strip b l j; log = placedLog (setOf (l .plan) b) (joined (rows-of-strip l j)) columns; held = []; targets = [] }
 
-  abbrev endBy : Line → Bool → Option (List ℕ) → Option Line
+  abbrev pub endBy : Line → Bool → Option (List ℕ) → Option Line
   endBy l all columns = elim all [ false ↦ none | true ↦ elim columns [ none ↦ none | some cs ↦ some (withNode b (placedAs l cs) l) ] ]
 
   -- Both replays end in the same way, the node with the same log.

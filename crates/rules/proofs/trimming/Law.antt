@@ -10,6 +10,7 @@ use native.Mathlib.Decide.{ℕ-discrete}
 use lib.ListN.{length, replicate}
 use Rattle.plan.specs.Plan.{Plan, planOf, channelAt, nodeCount}
 use Rattle.plan.specs.Record.{recordLayout}
+use Rattle.plan.specs.Mask.{setOf}
 use Rattle.rules.specs.Line.{fed, made, Message, Entry, down, Node, Lane, Line, initialLine, nodeAt, laneAt, senderOf, isReplay, counted, oneMore, withLane}
 use Rattle.rules.specs.Frame.{Frame, feed, send, take, crash, recover, trim, frameConsole, frameOf}
 use Rattle.rules.specs.Trim.{trimmedLine}
@@ -75,7 +76,7 @@ module _ (u : Line) (known : Known u) (steps : List ℕ) (nodes : List Node) (la
   feeds : (n : ℕ) (r : List ℕ) → n < nodeCount (u .plan) → (k′ u′ : Line) → effect k (feed n r) ≡ some k′ → effect u (feed n r) ≡ some u′ → Thinner k′ u′
   unfolding effect fedLine
   feeds n r inside k′ u′ ek eu =
-      subst (λ (x : Line). Thinner x u′) (some-same ek) (subst (Thinner (fedLine n r k)) (some-same eu) (logs-thinner u steps nodes lanes thinner (inv .shape) n (madeBy u n (recordLayout .read r)) fed fed inside))
+      subst (λ (x : Line). Thinner x u′) (some-same ek) (subst (Thinner (fedLine n r k)) (some-same eu) (logs-thinner u steps nodes lanes thinner (inv .shape) n (setOf (u .plan) n (madeBy u n (recordLayout .read r))) (madeBy u n (recordLayout .read r)) fed fed inside))
 
   sends : (b : ℕ) → CanSend u b → (k′ u′ : Line) → effect k (send b) ≡ some k′ → effect u (send b) ≡ some u′ → Thinner k′ u′
   unfolding effect
@@ -101,7 +102,7 @@ module _ (u : Line) (known : Known u) (steps : List ℕ) (nodes : List Node) (la
     unfolding takenUp takenLane withLane
     logs =
         let K = takenLane b (can .message) (can .rest) k in
-        logs-thinner (takenLane b (can .message) (can .rest) u) (K .steps) (K .nodes) (K .lanes) first shape n (madeBy u n (can .message .what)) (made (senderOf u b) (can .message .time)) (can .message .origin) (inv .ordered .inside b (can .here))
+        logs-thinner (takenLane b (can .message) (can .rest) u) (K .steps) (K .nodes) (K .lanes) first shape n (setOf (u .plan) n (madeBy u n (can .message .what))) (madeBy u n (can .message .what)) (made (senderOf u b) (can .message .time)) (can .message .origin) (inv .ordered .inside b (can .here))
 
     holds : Thinner (takenReplaying b (can .message) (takenLane b (can .message) (can .rest) k)) (takenReplaying b (can .message) (takenLane b (can .message) (can .rest) u))
     unfolding takenLane withLane

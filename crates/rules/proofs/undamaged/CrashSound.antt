@@ -54,6 +54,7 @@ module _ (l : Line) (sound : Sound l) (n : ℕ) (can : CanCrash l n) where
         time = omega arith;
         rises = none;
         within = none-in;
+        sets = λ e i. absurd (in-none i);
         passed = λ h i. absurd (in-none i);
         unmarked = λ e. absurd (true≢false e);
         between = λ e. (can .no-source, can .no-sink);

@@ -10,10 +10,11 @@ use native.Mathlib.Decide.{ℕ-discrete}
 use lib.ListN.{length-set}
 use lib.Dec.{eqb}
 use Rattle.plan.specs.Plan.{nodeCount, channelAt, entering, leaving}
+use Rattle.plan.specs.Mask.{setOf}
 use Rattle.rules.specs.Lists.{allOf, joined}
 use Rattle.rules.specs.Line.{Entry, Held, up, replay, Node, Line, nodeAt, laneAt, withNode, isDown, acceptedSteps}
 use Rattle.rules.specs.Recover.{childTimes, highOf, triples, rowsComplete}
-use Rattle.rules.specs.Replay.{heldByRow, itemsByRow, isHeld, entryAt, placedLog, placing, nodePlaced, replayEnd, endedIfComplete}
+use Rattle.rules.specs.Replay.{heldByRow, itemsByRow, isHeld, heldEntry, placedLog, placing, nodePlaced, replayEnd, endedIfComplete}
 use Rattle.rules.specs.Damaged.{workedOn}
 use Rattle.rules.proofs.lists.Rising.{Rises, none, rises-lower}
 use Rattle.rules.proofs.lists.Members.{In, in-none, in-map, in-right, append-in, keep-in, map-in, joined-in, greatest-in}
@@ -59,15 +60,15 @@ module _ (l : Line) (s : Standing l) (n : ℕ) (inside : n < nodeCount (l .plan)
       let (b, _, q) = rows-in (x .held) l (entering (l .plan) n) j in
       keep-in (λ (y : Held). eqb (y .sender) (channelAt (l .plan) b .sender)) (x .held) (subst (λ (hs : List Held). In h hs) q k) .0
 
-  worked : (h : Held) → In h (joined rows) → In (entryAt 0 h) (workedOn x)
-  worked h i = in-right (x .log) (in-map (entryAt 0) (in-held h i))
+  worked : (h : Held) → In h (joined rows) → In (heldEntry h) (workedOn x)
+  worked h i = in-right (x .log) (in-map heldEntry (in-held h i))
 
   module _ (columns : List ℕ) (chosen : placing (nodeAt l n .time) (highOf l n) (itemsByRow l n 0 (heldByRow (nodeAt l n .held) l (entering (l .plan) n))) ≡ some columns) where
     abbrev placed : Node
     placed = nodePlaced l n (joined (heldByRow (nodeAt l n .held) l (entering (l .plan) n))) columns
 
     abbrev log : List Entry
-    log = placedLog (joined (heldByRow (nodeAt l n .held) l (entering (l .plan) n))) columns
+    log = placedLog (setOf (l .plan) n) (joined (heldByRow (nodeAt l n .held) l (entering (l .plan) n))) columns
 
     abbrev after : Line
     after = withNode n (nodePlaced l n (joined (heldByRow (nodeAt l n .held) l (entering (l .plan) n))) columns) l
@@ -77,15 +78,15 @@ module _ (l : Line) (s : Standing l) (n : ℕ) (inside : n < nodeCount (l .plan)
 
     placed-entry : (e : Entry) → In e log → EntryFits (l .plan) (acceptedSteps l) n e
     placed-entry e i =
-        let y = placed-from (joined rows) columns i in
-        let f = old .fits .entries (entryAt 0 (y .held)) (worked (y .held) (y .among)) in
+        let y = placed-from (setOf (l .plan) n) (joined rows) columns i in
+        let f = old .fits .entries (heldEntry (y .held)) (worked (y .held) (y .among)) in
         subst (EntryFits (l .plan) (acceptedSteps l) n) (sym (y .entry-is)) (record { limits = f .limits; origin = f .origin; before = f .before })
 
     placed-fits : NodeFits (l .plan) (acceptedSteps l) n placed
     unfolding nodePlaced
     placed-fits =
         let f = old .fits in
-        let g = log-placed l n rows (x .time) (highOf l n) columns chosen in
+        let g = log-placed (setOf (l .plan) n) l n rows (x .time) (highOf l n) columns chosen in
         record {
           log-few = g .few;
           held-few = omega arith;
@@ -95,6 +96,7 @@ module _ (l : Line) (s : Standing l) (n : ℕ) (inside : n < nodeCount (l .plan)
           time = high-within l s n;
           rises = rises-lower _ (omega arith) (g .rises);
           within = g .within;
+          sets = λ e i. (let y = placed-from (setOf (l .plan) n) (joined rows) columns i in rw (y .entry-is));
           passed = λ h i. absurd (in-none i);
           unmarked = λ e. refl;
           between = f .between;
@@ -134,8 +136,8 @@ module _ (l : Line) (s : Standing l) (n : ℕ) (inside : n < nodeCount (l .plan)
         record {
           fits = subst (NodeFits (l .plan) (acceptedSteps l) n) (sym node-now) placed-fits;
           clock = λ e i b h.
-              (let y = placed-from (joined rows) columns (only-log (subst (λ (z : Node). In e (workedOn z)) node-now i)) in
-              subst (λ (d : Entry). Covers (l .plan) b (laneAt l b) (d .origin) (d .before)) (sym (y .entry-is)) (old .clock (entryAt 0 (y .held)) (worked (y .held) (y .among)) b h));
+              (let y = placed-from (setOf (l .plan) n) (joined rows) columns (only-log (subst (λ (z : Node). In e (workedOn z)) node-now i)) in
+              subst (λ (d : Entry). Covers (l .plan) b (laneAt l b) (d .origin) (d .before)) (sym (y .entry-is)) (old .clock (heldEntry (y .held)) (worked (y .held) (y .among)) b h));
           rows = λ b h. subst (λ (y : Node). Rises heldTime 0 (heldFrom (channelAt (l .plan) b .sender) (y .held))) (sym node-now) none;
         }
 

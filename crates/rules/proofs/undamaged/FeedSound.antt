@@ -10,6 +10,7 @@ use borrow.Author.Tests.{leb-false, not-false}
 use Rattle.plan.specs.Lawful.{Bytes}
 use Rattle.plan.specs.Record.{recordLayout, recordFits}
 use Rattle.plan.specs.Plan.{nodeCount, channelAt, isSource}
+use Rattle.plan.specs.Mask.{setOf}
 use Rattle.rules.specs.Line.{logLimit, acceptedSteps, fed, up, Line, nodeAt, withNode, oneMore, counted}
 use Rattle.rules.specs.Frame.{feed}
 use Rattle.rules.specs.Step.{madeBy, fedLine, effect}
@@ -38,12 +39,13 @@ module _ (l : Line) (sound : Sound l) (n : ℕ) (r : List ℕ) (bytes : Bytes r)
       let is-up = source-up (can .here) (can .source) in
       let room : length (nodeAt l n .log) < logLimit = leb-false logLimit (length (nodeAt l n .log)) (p .space) in
       let what = madeBy l n (recordLayout .read r) in
+      let chosen = setOf (l .plan) n what in
       let limits = made-within (l .plan) (sound .standing .plan-fits) n (recordLayout .read r) (read-within r bytes (not-false (recordFits r) (p .record-good))) in
-      let new : EntryFits (l .plan) (suc (acceptedSteps l)) n (record { what = what; time = suc (nodeAt l n .time); origin = fed; before = fed }) = record { limits = limits; origin = can .source; before = refl } in
-      let now = after l sound fits rise n (can .here) is-up room what fed fed new (l .lanes) in
-      let status = status-same l sound fits rise n (can .here) is-up room what fed fed new (l .lanes) in
-      let mark = mark-same l sound fits rise n (can .here) is-up room what fed fed new (l .lanes) in
-      log-sound l sound fits rise n (can .here) is-up room what fed fed new (l .lanes) refl (λ b h o before c. c) (λ b h. tt)
+      let new : EntryFits (l .plan) (suc (acceptedSteps l)) n (record { what = what; time = suc (nodeAt l n .time); origin = fed; before = fed; set = chosen }) = record { limits = limits; origin = can .source; before = refl } in
+      let now = after l sound fits rise n (can .here) is-up room what chosen refl fed fed new (l .lanes) in
+      let status = status-same l sound fits rise n (can .here) is-up room what chosen refl fed fed new (l .lanes) in
+      let mark = mark-same l sound fits rise n (can .here) is-up room what chosen refl fed fed new (l .lanes) in
+      log-sound l sound fits rise n (can .here) is-up room what chosen refl fed fed new (l .lanes) refl (λ b h o before c. c) (λ b h. tt)
       (λ b h. (let s = channelAt (l .plan) b .sender in let t = channelAt (l .plan) b .receiver in channel-stays l (oneMore who (l .steps)) (now .nodes) (l .lanes) (omega (arith, rise)) b (status s) (status t) (mark s) (mark t) refl (sound .standing .channels b h)))
       (λ m e c h. refl) (λ m e. refl) (λ m e c h. refl)
 

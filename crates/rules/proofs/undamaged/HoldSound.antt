@@ -15,7 +15,7 @@ use Rattle.rules.specs.Lists.{keepOne}
 use Rattle.rules.specs.Line.{logLimit, heldLimit, Message, Entry, Held, Status, replay, Node, Line, nodeAt, laneAt, receiverOf, withNode, withLane, counted, isReplay, acceptedSteps}
 use Rattle.rules.specs.Frame.{take}
 use Rattle.rules.specs.Recover.{triples}
-use Rattle.rules.specs.Replay.{passedOn, holding, entryAt, endedIfComplete}
+use Rattle.rules.specs.Replay.{passedOn, holding, heldEntry, endedIfComplete}
 use Rattle.rules.specs.Step.{replaying, firstRecord, toHold, takeLacks, madeBy, takenLane, takenReplaying, takenFirst, takenLine, effect}
 use Rattle.rules.specs.Damaged.{workedOn}
 use Rattle.rules.proofs.lists.ListLaws.{nil-right, keep-append}
@@ -83,14 +83,14 @@ module _ (l : Line) (sound : Sound l) (b : ℕ) {who : ℕ} (p : Passed l who (t
   few false f = omega (arith, length-append {A = Held} (x .held) [], old .fits .held-few)
 
   -- What was worked on, and the message.
-  worked : {e : Entry} → In e (workedOn heldNode) → In e (workedOn x) ⊎ (e ≡ entryAt 0 h)
+  worked : {e : Entry} → In e (workedOn heldNode) → In e (workedOn x) ⊎ (e ≡ heldEntry h)
   worked {e} i = elim (append-in (x .log) i) [
-    | inl j ↦ inl (in-left (map (entryAt 0) (x .held)) j)
+    | inl j ↦ inl (in-left (map heldEntry (x .held)) j)
     | inr j ↦
-        (let (g, k, q) = map-in (entryAt 0) (x .held ++ keepOne goes h []) j in
+        (let (g, k, q) = map-in heldEntry (x .held ++ keepOne goes h []) j in
         elim (more-in goes h (x .held) k) [
-          | inl z ↦ inl (in-right (x .log) (subst (λ (d : Entry). In d (map (entryAt 0) (x .held))) (sym q) (in-map (entryAt 0) z)))
-          | inr (z, _) ↦ inr (q ∙ ap (entryAt 0) z)
+          | inl z ↦ inl (in-right (x .log) (subst (λ (d : Entry). In d (map heldEntry (x .held))) (sym q) (in-map heldEntry z)))
+          | inr (z, _) ↦ inr (q ∙ ap heldEntry z)
         ])
   ]
 
@@ -101,11 +101,12 @@ module _ (l : Line) (sound : Sound l) (b : ℕ) {who : ℕ} (p : Passed l who (t
         log-few = f .log-few;
         held-few = few goes room;
         targets-few = f .targets-few;
-        entries = λ e i. elim (worked i) [ inl j ↦ f .entries e j | inr q ↦ subst (EntryFits (l .plan) (acceptedSteps l) n) (sym q) (taken-entry l sound b p can (acceptedSteps l) (omega arith) 0) ];
+        entries = λ e i. elim (worked i) [ inl j ↦ f .entries e j | inr q ↦ subst (EntryFits (l .plan) (acceptedSteps l) n) (sym q) (taken-entry l sound b p can (acceptedSteps l) (omega arith) 0 0) ];
         targets = f .targets;
         time = f .time;
         rises = f .rises;
         within = f .within;
+        sets = f .sets;
         passed = λ g i. elim (more-in goes h (x .held) i) [ inl j ↦ f .passed g j | inr (q, t) ↦ subst (λ (y : Held). passedOn (l .plan) n (y .what) ≡ true) (sym q) t ];
         unmarked = f .unmarked;
         between = f .between;
@@ -118,7 +119,7 @@ module _ (l : Line) (sound : Sound l) (b : ℕ) {who : ℕ} (p : Passed l who (t
       (λ g i.
       (let (j, q) = keep-in (λ (y : Held). eqb (y .sender) (channelAt (l .plan) c .sender)) (x .held) i in
       let same : from ≡ g .sender = eqb-true from (channelAt (l .plan) c .sender) e ∙ sym (eqb-true (g .sender) (channelAt (l .plan) c .sender) q) in
-      old .clock (entryAt 0 g) (in-right (x .log) (in-map (entryAt 0) j)) b (can .here, refl) same .0))
+      old .clock (heldEntry g) (in-right (x .log) (in-map heldEntry j)) b (can .here, refl) same .0))
 
   held-rows : (c : ℕ) → Enters (l .plan) n c → Rises heldTime 0 (heldFrom (channelAt (l .plan) c .sender) (x .held ++ keepOne goes h []))
   held-rows c i = one goes

@@ -10,8 +10,9 @@ use Rattle.plan.specs.declared.Record.{Record}
 use Rattle.plan.specs.Plan.{Plan, nodeCount, channelCount, channelAt}
 use Rattle.rules.specs.Line.{logLimit, acceptedSteps, Origin, Entry, Status, up, replay, Node, Lane, Line, nodeAt, laneAt, withNode}
 use Rattle.plan.specs.Layout.{sumOf}
+use Rattle.plan.specs.Mask.{setOf}
 use Rattle.rules.specs.Recover.{triple, triples}
-use Rattle.rules.specs.Replay.{entryAt}
+use Rattle.rules.specs.Replay.{heldEntry}
 use Rattle.rules.specs.Clock.{logged}
 use Rattle.rules.specs.Damaged.{workedOn}
 use Rattle.rules.proofs.lists.Rising.{rises-snoc, within-snoc, within-higher}
@@ -26,20 +27,20 @@ use Rattle.rules.proofs.undamaged.Standing.{entryTime, EntryFits, Empti
 use Rattle.rules.proofs.undamaged.SoundStays.{node-later, node-stays, replays-stay}
 
 -- One more of what was worked on.
-worked-more : (x : Node) (e : Entry) {d : Entry} → In d ((x .log ++ e ∷ []) ++ map (entryAt 0) (x .held)) → (d ≡ e) ⊎ In d (workedOn x)
+worked-more : (x : Node) (e : Entry) {d : Entry} → In d ((x .log ++ e ∷ []) ++ map heldEntry (x .held)) → (d ≡ e) ⊎ In d (workedOn x)
 worked-more x e i = elim (append-in (x .log ++ e ∷ []) i) [
   | inl j ↦ elim (append-in (x .log) j) [
-    | inl h ↦ inr (in-left (map (entryAt 0) (x .held)) h)
+    | inl h ↦ inr (in-left (map heldEntry (x .held)) h)
     | inr h ↦ elim (in-first h) [ inl q ↦ inl q | inr z ↦ absurd (in-none z) ]
   ]
   | inr j ↦ inr (in-right (x .log) j)
 ]
 
-module _ (p : Plan) (steps n : ℕ) (x : Node) (f : NodeFits p steps n x) (is-up : x .status ≡ up) (room : length (x .log) < logLimit) (what : Record) (origin before : Origin) where
+module _ (p : Plan) (steps n : ℕ) (x : Node) (f : NodeFits p steps n x) (is-up : x .status ≡ up) (room : length (x .log) < logLimit) (what : Record) (chosen : ℕ) (is-set : chosen ≡ setOf p n what) (origin before : Origin) where
   abbrev entry : Entry
-  entry = record { what = what; time = suc (x .time); origin = origin; before = before }
+  entry = record { what = what; time = suc (x .time); origin = origin; before = before; set = chosen }
 
-  pub logged-fits : EntryFits p (suc steps) n (record { what = what; time = suc (x .time); origin = origin; before = before }) → NodeFits p (suc steps) n (logged what origin before x)
+  pub logged-fits : EntryFits p (suc steps) n (record { what = what; time = suc (x .time); origin = origin; before = before; set = chosen }) → NodeFits p (suc steps) n (logged chosen what origin before x)
   unfolding logged
   logged-fits new =
       let later : steps ≤ suc steps = omega arith in
@@ -53,34 +54,35 @@ module _ (p : Plan) (steps n : ℕ) (x : Node) (f : NodeFits p steps n x) (is-up
         time = omega (arith, f .time);
         rises = rises-snoc entryTime entry (omega arith) (f .within) (omega arith) (f .rises);
         within = within-snoc entryTime entry (omega arith) (within-higher entryTime (omega arith) (f .within));
+        sets = λ d i. elim (append-in (x .log) i) [ inl j ↦ f .sets d j | inr j ↦ elim (in-first j) [ inl q ↦ rw q is-set | inr z ↦ absurd (in-none z) ] ];
         passed = f .passed;
         unmarked = f .unmarked;
         between = f .between;
-        empties = subst (λ (s : Status). Empties s (logged what origin before x)) (sym is-up) (subst (λ (s : Status). Empties s x) is-up (f .empties));
+        empties = subst (λ (s : Status). Empties s (logged chosen what origin before x)) (sym is-up) (subst (λ (s : Status). Empties s x) is-up (f .empties));
       }
 
 -- The counts afterwards are any that are one step more.
 module _ (l : Line) (sound : Sound l) {counts : List ℕ} (counts-fit : CountsFit counts) (rise : sumOf counts ≡ suc (acceptedSteps l)) (n : ℕ) (inside : n < nodeCount (l .plan)) (is-up : nodeAt l n .status ≡ up) (room : length (nodeAt l n .log) < logLimit)
-    (what : Record) (origin before : Origin) (new : EntryFits (l .plan) (suc (acceptedSteps l)) n (record { what = what; time = suc (nodeAt l n .time); origin = origin; before = before })) (lanes : List Lane) where
+    (what : Record) (chosen : ℕ) (is-set : chosen ≡ setOf (l .plan) n what) (origin before : Origin) (new : EntryFits (l .plan) (suc (acceptedSteps l)) n (record { what = what; time = suc (nodeAt l n .time); origin = origin; before = before; set = chosen })) (lanes : List Lane) where
   abbrev s : Standing l
   s = sound .standing
 
   abbrev pub after : Line
-  after = moved l counts (set (l .nodes) n (logged what origin before (nodeAt l n))) lanes
+  after = moved l counts (set (l .nodes) n (logged chosen what origin before (nodeAt l n))) lanes
 
   there : n < length (l .nodes)
   there = rw (s .shape .nodes-long) inside
 
-  pub node-now : nodeAt after n ≡ logged what origin before (nodeAt l n)
+  pub node-now : nodeAt after n ≡ logged chosen what origin before (nodeAt l n)
   unfolding withNode
-  node-now = node-there n (logged what origin before (nodeAt l n)) l there
+  node-now = node-there n (logged chosen what origin before (nodeAt l n)) l there
 
   pub node-other : (m : ℕ) → m ≢ n → nodeAt after m ≡ nodeAt l m
   unfolding withNode
-  node-other m d = node-else n (logged what origin before (nodeAt l n)) l m d
+  node-other m d = node-else n (logged chosen what origin before (nodeAt l n)) l m d
 
   -- What logging does not change.
-  same-part : {A : Type 0} (f : Node → A) → f (logged what origin before (nodeAt l n)) ≡ f (nodeAt l n) → (m : ℕ) → f (nodeAt after m) ≡ f (nodeAt l m)
+  same-part : {A : Type 0} (f : Node → A) → f (logged chosen what origin before (nodeAt l n)) ≡ f (nodeAt l n) → (m : ℕ) → f (nodeAt after m) ≡ f (nodeAt l m)
   same-part f e m = elim (ℕ-discrete m n) [
     | yes q ↦ ap (λ (z : ℕ). f (nodeAt after z)) q ∙ ap f node-now ∙ e ∙ ap (λ (z : ℕ). f (nodeAt l z)) (sym q)
     | no d ↦ ap f (node-other m d)
@@ -97,7 +99,7 @@ module _ (l : Line) (sound : Sound l) {counts : List ℕ} (counts-fit : CountsFi
   -- A replaying node's triples: the new entry is of another.
   triples-stay : (m : ℕ) → triple m origin before ≡ [] → (c : ℕ) → triples m (nodeAt after c .log) ≡ triples m (nodeAt l c .log)
   unfolding logged
-  triples-stay m e = same-part (λ (x : Node). triples m (x .log)) (triples-snoc m (nodeAt l n .log) (record { what = what; time = suc (nodeAt l n .time); origin = origin; before = before }) e)
+  triples-stay m e = same-part (λ (x : Node). triples m (x .log)) (triples-snoc m (nodeAt l n .log) (record { what = what; time = suc (nodeAt l n .time); origin = origin; before = before; set = chosen }) e)
 
   module _ (long : length lanes ≡ length (l .lanes)) (raised : (b : ℕ) → b < channelCount (l .plan) → (o bef : Origin) → Covers (l .plan) b (laneAt l b) o bef → Covers (l .plan) b (laneAt after b) o bef)
       (own : (b : ℕ) → Enters (l .plan) n b → Covers (l .plan) b (laneAt after b) origin before) (channels : (b : ℕ) → b < channelCount (l .plan) → ChannelSound after b)
@@ -108,8 +110,8 @@ module _ (l : Line) (sound : Sound l) {counts : List ℕ} (counts-fit : CountsFi
     node-logs =
         let f = s .nodes n inside in
         record {
-          fits = subst (NodeFits (l .plan) (sumOf counts) n) (sym node-now) (rw rise (logged-fits (l .plan) (acceptedSteps l) n (nodeAt l n) (f .fits) is-up room what origin before new));
-          clock = λ e i b h. elim (worked-more (nodeAt l n) (record { what = what; time = suc (nodeAt l n .time); origin = origin; before = before }) (subst (λ (x : Node). In e (workedOn x)) node-now i)) [
+          fits = subst (NodeFits (l .plan) (sumOf counts) n) (sym node-now) (rw rise (logged-fits (l .plan) (acceptedSteps l) n (nodeAt l n) (f .fits) is-up room what chosen is-set origin before new));
+          clock = λ e i b h. elim (worked-more (nodeAt l n) (record { what = what; time = suc (nodeAt l n .time); origin = origin; before = before; set = chosen }) (subst (λ (x : Node). In e (workedOn x)) node-now i)) [
             | inl q ↦ subst (λ (d : Entry). Covers (l .plan) b (laneAt after b) (d .origin) (d .before)) (sym q) (own b h)
             | inr j ↦ raised b (h .0) (e .origin) (e .before) (f .clock e j b h)
           ];
@@ -123,7 +125,7 @@ module _ (l : Line) (sound : Sound l) {counts : List ℕ} (counts-fit : CountsFi
         record {
           standing = record {
             plan-fits = s .plan-fits;
-            shape = record { nodes-long = length-set (l .nodes) n (logged what origin before (nodeAt l n)) ∙ s .shape .nodes-long; lanes-long = long ∙ s .shape .lanes-long };
+            shape = record { nodes-long = length-set (l .nodes) n (logged chosen what origin before (nodeAt l n)) ∙ s .shape .nodes-long; lanes-long = long ∙ s .shape .lanes-long };
             counts = counts-fit;
             nodes = λ m h. elim (ℕ-discrete m n) [
               | yes q ↦ subst (NodeSound after) (sym q) node-logs

@@ -17,6 +17,7 @@ use Rattle.placing.specs.Answer.{unplaceable, chosenColumns}
 use Rattle.placing.specs.Rules.{KeepsRules}
 use Rattle.placing.proofs.Promise.{accepted}
 use Rattle.rules.specs.Lists.{joined}
+use Rattle.plan.specs.declared.Record.{Record}
 use Rattle.rules.specs.Line.{Entry, Held, Line}
 use Rattle.rules.specs.Replay.{itemOf, itemsByRow, entryAt, addEntry, placedLog, placing}
 use Rattle.rules.proofs.lists.Rising.{Rises, none, more, Within}
@@ -50,28 +51,28 @@ rises-add {a} e l other (more {x = d} {xs = ds} h r) =
     ]
 
 -- An entry of the placed log: its held record and its column.
-pub record Placed (hs : List Held) (columns : List ℕ) (e : Entry) : Type 0 where
+pub record Placed (sets : Record → ℕ) (hs : List Held) (columns : List ℕ) (e : Entry) : Type 0 where
   pub held : Held
   pub place : ℕ
   pub among : In held hs
   pub in-table : place < length hs
-  pub entry-is : e ≡ entryAt (getD columns place 0) held
+  pub entry-is : e ≡ entryAt sets (getD columns place 0) held
 
-pub placed-from : (hs : List Held) (columns : List ℕ) {e : Entry} → In e (placedLog hs columns) → Placed hs columns e
-placed-from [] columns i = absurd (in-none i)
-placed-from (h ∷ hs) [] i = absurd (in-none i)
-placed-from (h ∷ hs) (t ∷ columns) {e} i = elim (add-in (entryAt t h) (placedLog hs columns) i) [ inl q ↦ first q | inr j ↦ later (placed-from hs columns j) ]
+pub placed-from : (sets : Record → ℕ) (hs : List Held) (columns : List ℕ) {e : Entry} → In e (placedLog sets hs columns) → Placed sets hs columns e
+placed-from sets [] columns i = absurd (in-none i)
+placed-from sets (h ∷ hs) [] i = absurd (in-none i)
+placed-from sets (h ∷ hs) (t ∷ columns) {e} i = elim (add-in (entryAt sets t h) (placedLog sets hs columns) i) [ inl q ↦ first q | inr j ↦ later (placed-from sets hs columns j) ]
   where
-    first : e ≡ entryAt t h → Placed (h ∷ hs) (t ∷ columns) e
+    first : e ≡ entryAt sets t h → Placed sets (h ∷ hs) (t ∷ columns) e
     first q = record { held = h; place = 0; among = here; in-table = omega arith; entry-is = q }
 
-    later : Placed hs columns e → Placed (h ∷ hs) (t ∷ columns) e
+    later : Placed sets hs columns e → Placed sets (h ∷ hs) (t ∷ columns) e
     later x = record { held = x .held; place = suc (x .place); among = there (x .among); in-table = omega arith; entry-is = x .entry-is }
 
-pub placed-long : (hs : List Held) (columns : List ℕ) → length (placedLog hs columns) ≤ length hs
-placed-long [] columns = omega arith
-placed-long (h ∷ hs) [] = omega arith
-placed-long (h ∷ hs) (t ∷ columns) = let ih = placed-long hs columns in omega (arith, add-long (entryAt t h) (placedLog hs columns))
+pub placed-long : (sets : Record → ℕ) (hs : List Held) (columns : List ℕ) → length (placedLog sets hs columns) ≤ length hs
+placed-long sets [] columns = omega arith
+placed-long sets (h ∷ hs) [] = omega arith
+placed-long sets (h ∷ hs) (t ∷ columns) = let ih = placed-long sets hs columns in omega (arith, add-long (entryAt sets t h) (placedLog sets hs columns))
 
 -- Distinct columns above low.
 record Columns (low : ℕ) (hs : List Held) (columns : List ℕ) : Type 0 where
@@ -81,13 +82,13 @@ record Columns (low : ℕ) (hs : List Held) (columns : List ℕ) : Type 0 where
 columns-rest : {low : ℕ} {h : Held} {hs : List Held} {t : ℕ} {columns : List ℕ} → Columns low (h ∷ hs) (t ∷ columns) → Columns low hs columns
 columns-rest c = record { above = λ k l. c .above (suc k) (omega arith); distinct = λ j k l m. c .distinct (suc j) (suc k) (omega arith) (omega arith) }
 
-rises-placed : (low : ℕ) (hs : List Held) (columns : List ℕ) → Columns low hs columns → Rises entryTime low (placedLog hs columns)
-rises-placed low [] columns c = none
-rises-placed low (h ∷ hs) [] c = none
-rises-placed low (h ∷ hs) (t ∷ columns) c =
-    rises-add (entryAt t h) (c .above 0 (omega arith))
-    (λ d i q. (let x = placed-from hs columns i in c .distinct 0 (suc (x .place)) (omega arith) (omega arith) (q ∙ ap entryTime (x .entry-is))))
-    (rises-placed low hs columns (columns-rest c))
+rises-placed : (sets : Record → ℕ) (low : ℕ) (hs : List Held) (columns : List ℕ) → Columns low hs columns → Rises entryTime low (placedLog sets hs columns)
+rises-placed sets low [] columns c = none
+rises-placed sets low (h ∷ hs) [] c = none
+rises-placed sets low (h ∷ hs) (t ∷ columns) c =
+    rises-add (entryAt sets t h) (c .above 0 (omega arith))
+    (λ d i q. (let x = placed-from sets hs columns i in c .distinct 0 (suc (x .place)) (omega arith) (omega arith) (q ∙ ap entryTime (x .entry-is))))
+    (rises-placed sets low hs columns (columns-rest c))
 
 -- The table has an item for each held record.
 pub items-long : (l : Line) (b row : ℕ) (rows : List (List Held)) → length (itemsByRow l b row rows) ≡ length (joined rows)
@@ -117,14 +118,14 @@ pub record LogPlaced (low high : ℕ) (log : List Entry) : Type 0 where
   pub rises : Rises entryTime low log
   pub within : Within entryTime high log
 
-pub log-placed : (l : Line) (b : ℕ) (rows : List (List Held)) (low high : ℕ) (columns : List ℕ) → placing low high (itemsByRow l b 0 rows) ≡ some columns → LogPlaced low high (placedLog (joined rows) columns)
-log-placed l b rows low high columns e =
+pub log-placed : (sets : Record → ℕ) (l : Line) (b : ℕ) (rows : List (List Held)) (low high : ℕ) (columns : List ℕ) → placing low high (itemsByRow l b 0 rows) ≡ some columns → LogPlaced low high (placedLog sets (joined rows) columns)
+log-placed sets l b rows low high columns e =
     let table = itemsByRow l b 0 rows in
     let (keeps, few) = placing-keeps low high table columns e in
     let long = items-long l b 0 rows in
     let hs = joined rows in
     record {
-      few = omega (arith, placed-long hs columns);
-      rises = rises-placed low hs columns (record { above = λ k h. keeps .inside k (omega arith) .0; distinct = λ j k h i. keeps .distinct j k h (omega arith) });
-      within = within-by entryTime (placedLog hs columns) (λ d i. (let x = placed-from hs columns i in let top = keeps .inside (x .place) (omega (arith, x .in-table)) .1 in rw (x .entry-is) top));
+      few = omega (arith, placed-long sets hs columns);
+      rises = rises-placed sets low hs columns (record { above = λ k h. keeps .inside k (omega arith) .0; distinct = λ j k h i. keeps .distinct j k h (omega arith) });
+      within = within-by entryTime (placedLog sets hs columns) (λ d i. (let x = placed-from sets hs columns i in let top = keeps .inside (x .place) (omega (arith, x .in-table)) .1 in rw (x .entry-is) top));
     }

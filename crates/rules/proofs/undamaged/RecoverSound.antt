@@ -108,6 +108,7 @@ module _ (l : Line) (s : Standing l) (n : ℕ) where
           time = (let a = low-high l n in let b = high-within l s n in omega arith);
           rises = none;
           within = none-in;
+          sets = λ e i. absurd (in-none i);
           passed = λ h i. absurd (in-none i);
           unmarked = λ e. absurd (true≢false e);
           between = λ e. (can .no-source, can .no-sink);

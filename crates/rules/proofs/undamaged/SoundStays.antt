@@ -51,6 +51,7 @@ module _ (p : Plan) {steps more : ℕ} (h : steps ≤ more) where
         time = omega (arith, f .time);
         rises = f .rises;
         within = f .within;
+        sets = f .sets;
         passed = f .passed;
         unmarked = f .unmarked;
         between = f .between;

@@ -7,6 +7,7 @@ use lib.ListN.{length}
 use lib.Dec.{leb, eqb}
 use Rattle.plan.specs.Plan.{Plan, nodeCount, channelCount, channelAt, entering, isSource, isSink}
 use Rattle.plan.specs.Check.{planFits}
+use Rattle.plan.specs.Mask.{setOf}
 use Rattle.rules.specs.Lists.{isEmpty, keep, allOf}
 use Rattle.rules.specs.Line.{logLimit, queueLimit, heldLimit, targetLimit, acceptedSteps, Origin, fed, made, Message, Entry, Held, Target, Status, up, down, replay, Node, Lane, Line, nodeAt, laneAt, parents, senderOf, receiverOf}
 use Rattle.rules.specs.Recover.{lowOf, targetsOf, restored, conflict, rowGoal}
@@ -65,6 +66,7 @@ pub record NodeFits (p : Plan) (steps n : ℕ) (x : Node) : Type 0 where
   pub time : x .time ≤ steps
   pub rises : Rises entryTime 0 (x .log)
   pub within : Within entryTime (x .time) (x .log)
+  pub sets : (e : Entry) → In e (x .log) → e .set ≡ setOf p n (e .what)
   pub passed : (h : Held) → In h (x .held) → passedOn p n (h .what) ≡ true
   pub unmarked : x .crashed ≡ false → x .status ≡ up
   pub between : x .crashed ≡ true → (isSource p n ≡ false) × (isSink p n ≡ false)

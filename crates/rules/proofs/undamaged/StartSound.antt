@@ -74,6 +74,7 @@ module _ (p : Plan) (fits : planFits p ≡ true) where
         time = omega arith;
         rises = none;
         within = none-in;
+        sets = λ e i. absurd (in-none i);
         passed = λ h i. absurd (in-none i);
         unmarked = λ e. refl;
         between = λ e. absurd (true≢false (sym e));

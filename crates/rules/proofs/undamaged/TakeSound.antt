@@ -13,6 +13,7 @@ use borrow.Author.Tests.{leb-false, eq-eqb, ne-eqb}
 use Rattle.plan.specs.Plan.{Plan, nodeCount, channelCount, channelAt}
 use Rattle.rules.specs.Line.{logLimit, heldLimit, Origin, fed, made, Message, Status, up, replay, Node, Lane, Line, nodeAt, laneAt, parents, withNode, withLane, oneMore, counted, isReplay, acceptedSteps}
 use Rattle.plan.specs.Layout.{sumOf}
+use Rattle.plan.specs.Mask.{setOf}
 use Rattle.rules.specs.Frame.{take}
 use Rattle.rules.specs.Recover.{triple}
 use Rattle.rules.specs.Clock.{raiseHeard, takenFrom}
@@ -196,8 +197,8 @@ module _ (l : Line) (sound : Sound l) (b : ℕ) {who : ℕ} (p : Passed l who (t
       ]
 
   -- What the receiver makes of the message.
-  pub taken-entry : (steps : ℕ) → acceptedSteps l ≤ steps → (t : ℕ) → EntryFits (l .plan) steps n (record { what = madeBy l n (m .what); time = t; origin = made from (m .time); before = m .origin })
-  taken-entry steps later t =
+  pub taken-entry : (steps : ℕ) → acceptedSteps l ≤ steps → (t chosen : ℕ) → EntryFits (l .plan) steps n (record { what = madeBy l n (m .what); time = t; origin = made from (m .time); before = m .origin; set = chosen })
+  taken-entry steps later t chosen =
       record {
         limits = made-within (l .plan) (s .plan-fits) n (m .what) (taken-message .limits);
         origin = (enters-parent (l .plan) n b (can .here, refl), no-source (l .plan) b (can .here), taken-message .later, omega (arith, taken-message .within));
@@ -215,15 +216,15 @@ module _ (l : Line) (sound : Sound l) (b : ℕ) {who : ℕ} (p : Passed l who (t
     unfolding counted takenUp takenLane withNode withLane
     taken-sound =
         let what = madeBy l n (m .what) in
-        let new = taken-entry (suc (acceptedSteps l)) (omega arith) (suc (nodeAt l n .time)) in
+        let new = taken-entry (suc (acceptedSteps l)) (omega arith) (suc (nodeAt l n .time)) (setOf (l .plan) n what) in
         let counts = sound .standing .counts in
         let fits = more-fit counts (p .console) (p .steps-left) in
         let rise = counts-rise counts (p .console) (p .steps-left) in
         let origin : Origin = made from (m .time) in
         let steps = oneMore who (l .steps) in
-        let nodes = after l sound fits rise n inside is-up room what origin (m .origin) new lanes .nodes in
-        log-sound l sound fits rise n inside is-up room what origin (m .origin) new lanes (length-set (l .lanes) b now) (raised steps nodes) (own steps nodes)
-        (channels steps nodes (omega (arith, rise)) (status-same l sound fits rise n inside is-up room what origin (m .origin) new lanes) (mark-same l sound fits rise n inside is-up room what origin (m .origin) new lanes))
+        let nodes = after l sound fits rise n inside is-up room what (setOf (l .plan) n what) refl origin (m .origin) new lanes .nodes in
+        log-sound l sound fits rise n inside is-up room what (setOf (l .plan) n what) refl origin (m .origin) new lanes (length-set (l .lanes) b now) (raised steps nodes) (own steps nodes)
+        (channels steps nodes (omega (arith, rise)) (status-same l sound fits rise n inside is-up room what (setOf (l .plan) n what) refl origin (m .origin) new lanes) (mark-same l sound fits rise n inside is-up room what (setOf (l .plan) n what) refl origin (m .origin) new lanes))
         (entries steps nodes) (λ j q. triple-else j from (m .time) (m .origin) (not-silent j q)) (lows steps nodes)
 
     taken-is : effect l (take b) ≡ some (takenUp b m (takenLane b m (can .rest) l))

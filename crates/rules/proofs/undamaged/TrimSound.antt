@@ -13,7 +13,7 @@ use Rattle.rules.specs.Line.{Origin, fed, made, Entry, Held, Status, Nod
 use Rattle.rules.specs.Frame.{trim}
 use Rattle.rules.specs.Trim.{droppable, behind, lowRaised, withLog}
 use Rattle.rules.specs.Step.{endDown, effect}
-use Rattle.rules.specs.Replay.{entryAt}
+use Rattle.rules.specs.Replay.{heldEntry}
 use Rattle.rules.specs.Damaged.{workedOn, pastHeard, lowWrong}
 use Rattle.rules.proofs.lists.Rising.{Rises, none, more, Within, none-in, more-in, rises-lower}
 use Rattle.rules.proofs.lists.Members.{In, in-left, in-right, append-in}
@@ -59,7 +59,7 @@ module _ (l : Line) (sound : Sound l) (n : ℕ) (can : CanTrim l n) where
   in-run {e} i = subst (λ (x : List Entry). In e x) (sym (leading-behind (droppable l n) (nodeAt l n .log))) (in-left (rest l n) i)
 
   worked : (e : Entry) → In e (workedOn (nodeAfter l n)) → In e (workedOn (nodeAt l n))
-  worked e i = elim (append-in (rest l n) i) [ inl j ↦ in-left (map (entryAt 0) (nodeAt l n .held)) (in-rest j) | inr j ↦ in-right (nodeAt l n .log) j ]
+  worked e i = elim (append-in (rest l n) i) [ inl j ↦ in-left (map heldEntry (nodeAt l n .held)) (in-rest j) | inr j ↦ in-right (nodeAt l n .log) j ]
 
   fits : NodeFits (l .plan) (acceptedSteps l) n (nodeAfter l n)
   fits =
@@ -73,6 +73,7 @@ module _ (l : Line) (sound : Sound l) (n : ℕ) (can : CanTrim l n) where
         time = f .time;
         rises = behind-rises (droppable l n) (f .rises);
         within = behind-within (droppable l n) (f .within);
+        sets = λ e i. f .sets e (in-rest i);
         passed = f .passed;
         unmarked = f .unmarked;
         between = f .between;
@@ -120,7 +121,7 @@ module _ (l : Line) (sound : Sound l) (n : ℕ) (can : CanTrim l n) where
       record {
         heard-long = f .heard-long;
         low-long = after-long ps (senderOf l b) (run l n) (laneAt l b .low) ∙ f .low-long;
-        low-below = after-below ps (senderOf l b) (laneAt l b .taken) (laneAt l b .heard) (run l n) (laneAt l b .low) (f .low-below) (λ e i. below (e .origin) (e .before) (sound .standing .nodes n (can .here) .clock e (in-left (map (entryAt 0) (nodeAt l n .held)) (in-run i)) b h));
+        low-below = after-below ps (senderOf l b) (laneAt l b .taken) (laneAt l b .heard) (run l n) (laneAt l b .low) (f .low-below) (λ e i. below (e .origin) (e .before) (sound .standing .nodes n (can .here) .clock e (in-left (map heldEntry (nodeAt l n .held)) (in-run i)) b h));
         few = f .few;
         messages = f .messages;
         mark = f .mark;

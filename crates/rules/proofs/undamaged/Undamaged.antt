@@ -18,7 +18,7 @@ use Rattle.rules.specs.Line.{targetLimit, stepLimit, consoleCount, steps
 use Rattle.rules.specs.Recover.{sameTarget, targetsOf, conflict, recovered, statusOf, rowsComplete}
 use Rattle.rules.specs.Replay.{heldByRow, replayEnd, endedIfComplete}
 use Rattle.rules.specs.Step.{replaying, recoveredLine, recoverGives}
-use Rattle.rules.specs.Damaged.{someNode, someChannel, planBroken, misshapen, workedOn, stepsPast, nodePastLimits, nodeWrongParent, nodeTimePast, nodeTimeZero, nodeMakerWrong, rises, logWrong, pastHeard, pastLane, pastClock, heldWrong, heldNotPassed, markMissing, markOnEnd, sameTargets, replaysAs, replayWrong, nodeHolds, nodeDamaged, channelDamaged, damaged}
+use Rattle.rules.specs.Damaged.{someNode, someChannel, planBroken, misshapen, workedOn, stepsPast, nodePastLimits, nodeWrongParent, nodeTimePast, nodeTimeZero, nodeMakerWrong, rises, logWrong, setWrong, pastHeard, pastLane, pastClock, heldWrong, heldNotPassed, markMissing, markOnEnd, sameTargets, replaysAs, replayWrong, nodeHolds, nodeDamaged, channelDamaged, damaged}
 use Rattle.rules.proofs.ending.Targets.{same-target}
 use Rattle.rules.proofs.lists.Rising.{Rises}
 use Rattle.rules.proofs.lists.Members.{In, here, there, in-none, in-first, in-up-to, none-any}
@@ -29,7 +29,7 @@ use Rattle.rules.proofs.undamaged.TestLaws.{is-replay, none-by, up-to-i
 use Rattle.rules.proofs.undamaged.Standing.{heldTime, Covers, heldFrom, NodeSound, Replays, Sound}
 use Rattle.rules.proofs.undamaged.Restored.{restoredNode, recovered-is, restored-node, restored-shape, restored-complete, ended-up}
 use Rattle.rules.proofs.undamaged.UndamagedChannel.{channel-sound, sound-channel}
-use Rattle.rules.proofs.undamaged.UndamagedNode.{node-fits, few-enough, right-parents, within-steps, above-zero, right-makers, log-right, held-passed, mark-there, end-bare, holds-none}
+use Rattle.rules.proofs.undamaged.UndamagedNode.{node-fits, few-enough, right-parents, within-steps, above-zero, right-makers, log-right, right-sets, held-passed, mark-there, end-bare, holds-none}
 
 -- The clock.
 covers-of : (l : Line) (b : ℕ) (o before : Origin) → pastLane l b o before ≡ false → Covers (l .plan) b (laneAt l b) o before
@@ -181,9 +181,9 @@ module _ (l : Line) (n : ℕ) (ordered : Ordered (l .plan)) (shape : Shape l) (i
   node-sound e =
       let p = l .plan in
       let x = nodeAt l n in
-      let (few, (parent, (past, (zeros, (maker, (log, (clock, (rows, (passed, (mark, (end, (again, (holds, _))))))))))))) =
-      all-false (nodePastLimits x) (nodeWrongParent p n x ∷ nodeTimePast (acceptedSteps l) x ∷ nodeTimeZero x ∷ nodeMakerWrong p n x ∷ logWrong x ∷ pastClock l n ∷ heldWrong l n ∷ heldNotPassed p n x ∷ markMissing x ∷ markOnEnd p n x ∷ replayWrong l n ∷ nodeHolds x ∷ []) e in
-      (record { fits = node-fits p (acceptedSteps l) n x few parent past zeros maker log passed mark end holds; clock = clock-of l n clock; rows = rows-of l n rows }, replaying-right again)
+      let (few, (parent, (past, (zeros, (maker, (log, (set, (clock, (rows, (passed, (mark, (end, (again, (holds, _)))))))))))))) =
+      all-false (nodePastLimits x) (nodeWrongParent p n x ∷ nodeTimePast (acceptedSteps l) x ∷ nodeTimeZero x ∷ nodeMakerWrong p n x ∷ logWrong x ∷ setWrong p n x ∷ pastClock l n ∷ heldWrong l n ∷ heldNotPassed p n x ∷ markMissing x ∷ markOnEnd p n x ∷ replayWrong l n ∷ nodeHolds x ∷ []) e in
+      (record { fits = node-fits p (acceptedSteps l) n x few parent past zeros maker log set passed mark end holds; clock = clock-of l n clock; rows = rows-of l n rows }, replaying-right again)
 
   sound-node : NodeSound l n → (nodeAt l n .status ≡ replay → Replays l n) → nodeDamaged l n ≡ false
   unfolding nodeDamaged
@@ -197,6 +197,7 @@ module _ (l : Line) (n : ℕ) (ordered : Ordered (l .plan)) (shape : Shape l) (i
         above-zero p (acceptedSteps l) n x (f .fits),
         right-makers p (acceptedSteps l) n x (f .fits),
         log-right p (acceptedSteps l) n x (f .fits),
+        right-sets p (acceptedSteps l) n x (f .fits),
         of-clock l n (f .clock),
         of-rows l n (f .rows),
         held-passed p (acceptedSteps l) n x (f .fits),

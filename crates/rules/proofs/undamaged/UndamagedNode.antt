@@ -7,13 +7,14 @@ use mathlib.Core.List.{List, [], _∷_, _++_, map}
 use native.Mathlib.Omega.{arith}
 use lib.ListN.{length}
 use lib.Dec.{ltb, eqb}
-use borrow.Author.Tests.{ltb-false, le-ltb, eqb-true, eqb-false, ne-eqb, not-false}
+use borrow.Author.Tests.{ltb-false, le-ltb, eqb-true, eqb-false, eq-eqb, ne-eqb, not-false}
 use Rattle.basics.specs.Bools.{both-true, neither-true}
 use Rattle.plan.specs.Plan.{Plan, isSource, isSink}
+use Rattle.plan.specs.Mask.{setOf}
 use Rattle.rules.specs.Lists.{isEmpty, anyOf}
 use Rattle.rules.specs.Line.{logLimit, heldLimit, targetLimit, Origin, fed, made, Entry, Held, Target, Status, up, down, replay, Node, isUp}
 use Rattle.rules.specs.Replay.{passedOn}
-use Rattle.rules.specs.Damaged.{workedOn, recordPastLimits, nodePastLimits, isParent, notParent, beforeNotParent, nodeWrongParent, originTimes, nodeNamedTimes, nodeOtherTimes, nodeTimePast, nodeTimeZero, originWrong, isFed, beforeWrong, nodeMakerWrong, risesTo, logWrong, heldNotPassed, markMissing, markOnEnd, holdsByStatus, nodeHolds}
+use Rattle.rules.specs.Damaged.{workedOn, recordPastLimits, nodePastLimits, isParent, notParent, beforeNotParent, nodeWrongParent, originTimes, nodeNamedTimes, nodeOtherTimes, nodeTimePast, nodeTimeZero, originWrong, isFed, beforeWrong, nodeMakerWrong, risesTo, logWrong, setWrong, heldNotPassed, markMissing, markOnEnd, holdsByStatus, nodeHolds}
 use Rattle.rules.proofs.lists.Rising.{Rises, Within}
 use Rattle.rules.proofs.lists.Members.{In, here, there, in-none, in-first, in-left, in-right, append-in, in-map, map-in, in-joined, joined-in, rises-in, within-in, none-any}
 use Rattle.rules.proofs.invariant.InvLaws.{up-not-down, up-not-replay}
@@ -145,6 +146,10 @@ module _ (p : Plan) (steps n : ℕ) (x : Node) where
   unfolding logWrong
   log-rises e = to-of entryTime 0 (x .time) (x .log) (not-false (risesTo 0 (x .time) (map entryTime (x .log))) e)
 
+  sets-right : setWrong p n x ≡ false → (e : Entry) → In e (x .log) → e .set ≡ setOf p n (e .what)
+  unfolding setWrong
+  sets-right e d i = eqb-true (d .set) (setOf p n (d .what)) (not-false (eqb (d .set) (setOf p n (d .what))) (none-any (λ (c : Entry). not (eqb (c .set) (setOf p n (c .what)))) e i))
+
   all-passed : heldNotPassed p n x ≡ false → (h : Held) → In h (x .held) → passedOn p n (h .what) ≡ true
   unfolding heldNotPassed
   all-passed e h i = not-false (passedOn p n (h .what)) (none-any (λ (k : Held). not (passedOn p n (k .what))) e i)
@@ -161,9 +166,9 @@ module _ (p : Plan) (steps n : ℕ) (x : Node) where
   unfolding nodeHolds
   holds e = empties-of (x .status) x e
 
-  pub node-fits : nodePastLimits x ≡ false → nodeWrongParent p n x ≡ false → nodeTimePast steps x ≡ false → nodeTimeZero x ≡ false → nodeMakerWrong p n x ≡ false → logWrong x ≡ false
+  pub node-fits : nodePastLimits x ≡ false → nodeWrongParent p n x ≡ false → nodeTimePast steps x ≡ false → nodeTimeZero x ≡ false → nodeMakerWrong p n x ≡ false → logWrong x ≡ false → setWrong p n x ≡ false
       → heldNotPassed p n x ≡ false → markMissing x ≡ false → markOnEnd p n x ≡ false → nodeHolds x ≡ false → NodeFits p steps n x
-  node-fits few parent past zeros maker log passed mark end hold =
+  node-fits few parent past zeros maker log set passed mark end hold =
       let (a, b, c, limits) = counts few in
       let (named, parents) = named-parents parent in
       let other : (t : ℕ) → In t (nodeOtherTimes x) → t ≤ steps = λ t i. times-in past t (in-right (nodeNamedTimes x) i) in
@@ -182,6 +187,7 @@ module _ (p : Plan) (steps n : ℕ) (x : Node) where
         time = other (x .time) here;
         rises = log-rises log .0;
         within = log-rises log .1;
+        sets = sets-right set;
         passed = all-passed passed;
         unmarked = marks mark;
         between = ends end;
@@ -253,6 +259,10 @@ module _ (p : Plan) (steps n : ℕ) (x : Node) where
     pub log-right : logWrong x ≡ false
     unfolding logWrong
     log-right = ap not (of-to entryTime (f .rises) (f .within))
+
+    pub right-sets : setWrong p n x ≡ false
+    unfolding setWrong
+    right-sets = none-by (λ (c : Entry). not (eqb (c .set) (setOf p n (c .what)))) (x .log) (λ c i. ap not (eq-eqb (c .set) (setOf p n (c .what)) (f .sets c i)))
 
     pub held-passed : heldNotPassed p n x ≡ false
     unfolding heldNotPassed

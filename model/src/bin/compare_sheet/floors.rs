@@ -14,6 +14,7 @@ pub mod section {
     pub const ANSWERS: &str = "answers";
     pub const CALLERS: &str = "accepted frames, by who sends them";
     pub const TICKS: &str = "Feeds of ticks and of what is almost one";
+    pub const SETS: &str = "Feeds and Takes, by the leaving channels that take what is logged";
     pub const LINES: &str = "lines of nodes";
 }
 
@@ -50,6 +51,14 @@ pub const ALMOST: [&str; FIELDS.len()] = [
     "17 for the zero byte",
     "17 for the mass",
 ];
+
+/// Of the set that an entry is logged with.
+pub mod set {
+    pub const NONE: &str = "none of them";
+    pub const SOME: &str = "some of them, and not all";
+    pub const ALL: &str = "all of them";
+    pub const SINK: &str = "a sink has none";
+}
 
 /// Lines of the text, by the first that they are.
 pub mod line {
@@ -89,7 +98,7 @@ pub fn all() -> Vec<Floor> {
         ],
     );
     floors.extend(under(section::SHEETS, 200, [kind::LIMITS, kind::LONG]));
-    floors.extend(under(section::SHEETS, 210, [kind::KEPT]));
+    floors.extend(under(section::SHEETS, 240, [kind::KEPT]));
     floors.extend(under(section::SHEETS, SHIFTS, [kind::MANY]));
     floors.extend(under(section::SHEETS, 1, [kind::MILLION]));
     floors.extend(under(section::PIECES, 20_000, [WHOLE]));
@@ -108,6 +117,8 @@ pub fn all() -> Vec<Floor> {
     floors.extend(under(section::CALLERS, 20_000, [TRIM]));
     floors.extend(under(section::TICKS, 20_000, [TICK]));
     floors.extend(under(section::TICKS, 200, ALMOST));
+    let sets = [set::NONE, set::SOME, set::ALL, set::SINK];
+    floors.extend(under(section::SETS, 20_000, sets));
     let lines = line::KINDS.iter().map(|(name, _)| *name);
     floors.extend(under(section::LINES, 1_000, lines));
     floors

@@ -12,8 +12,8 @@ use std::{env, fs, io, thread};
 use model::answer::{ACCEPTED, STEPS_USED_UP, WRONG_RECORD};
 use model::compare::{self, answer, Counts};
 use model::line::practice::{is_tick_but_for, FIELDS};
-use model::line::Frame;
-use model::plan::practice::{cases, in_other_version};
+use model::line::{Frame, Line};
+use model::plan::practice::{cases, in_other_version, is_partial};
 use model::plan::Plan;
 use model::random::Random;
 use model::record::Record;
@@ -21,7 +21,7 @@ use model::sheet::vectors::answers;
 use model::sheet::{parts, practice, sheet, sheet_in_place, sheet_told};
 
 use floors::{
-    kind, line, section, AFTER_ANOTHERS_LAST, ALMOST, IN_BOTH, PIECES, TICK, TRIM, WHOLE,
+    kind, line, section, set, AFTER_ANOTHERS_LAST, ALMOST, IN_BOTH, PIECES, TICK, TRIM, WHOLE,
 };
 
 /// Each has its share of the sheets.
@@ -156,9 +156,12 @@ impl Work<'_> {
         pieces: impl IntoIterator<Item = Piece>,
     ) {
         let mut is_one_used_up = false;
-        let text = sheet_told(input, |frame, answer| {
+        let text = sheet_told(input, |frame, answer, line| {
             is_one_used_up |= answer == STEPS_USED_UP;
             self.count_frame(frame, answer, is_one_used_up);
+            if answer == ACCEPTED {
+                self.count_set(frame, line);
+            }
         });
         if sheet_in_place(input) != text {
             compare::fail(kind, "the model's two sheets differ", input);
@@ -226,6 +229,25 @@ impl Work<'_> {
             if answer == WRONG_RECORD && is_tick_but_for(field, record) {
                 self.counts.add(section::TICKS, row);
             }
+        }
+    }
+
+    /// Of an accepted frame, if it leaves a node up with what it logs.
+    fn count_set(&mut self, frame: &[u8], after: &Line) {
+        let node = match Frame::read(frame) {
+            Ok((_, Frame::Feed { node, .. })) => usize::from(node),
+            Ok((_, Frame::Take { channel })) => after.plan.channels[usize::from(channel)].receiver,
+            _ => return,
+        };
+        // The log of one that replays is empty.
+        if let Some(entry) = after.nodes[node].log.last() {
+            let row = match entry.set {
+                _ if after.plan.is_sink(node) => set::SINK,
+                0 => set::NONE,
+                some if is_partial(&after.plan, node, some) => set::SOME,
+                _ => set::ALL,
+            };
+            self.counts.add(section::SETS, row);
         }
     }
 

@@ -6,7 +6,7 @@ use model::compare::{answer, under, Floor};
 use model::plan::practice::CASES;
 use model::plan::Version;
 use model::state::practice::{
-    places, staged, Kind, CLAUSES, FEATURES, HARMLESS, SCRAMBLES, SHUFFLES,
+    places, staged, Kind, AFTER_A_SET, CLAUSES, FEATURES, HARMLESS, OTHER_SETS, SCRAMBLES, SHUFFLES,
 };
 
 use crate::section;
@@ -24,6 +24,7 @@ const KINDS: &[(Kind, [usize; 2])] = &[
     (Kind::Bit, [2_000, 15_000]),
     (Kind::Shuffled, [2_000, 15_000]),
     (Kind::Scrambled, [0, 20_000]),
+    (Kind::Set, [0, 10_000]),
     (Kind::Unused, [0, 100_000]),
     (Kind::Length, [0, 15_000]),
 ];
@@ -38,6 +39,9 @@ pub fn all() -> Vec<Floor> {
     let harmless = HARMLESS.iter().map(|harmless| harmless.name);
     floors.extend(under(section::HARMLESS, 100, harmless));
     floors.extend(under(section::FIELDS, 100, field_names()));
+    let others = OTHER_SETS.iter().map(|other| other.name);
+    floors.extend(under(section::SETS, 400, others));
+    floors.extend(under(section::SETS, 2_000, [AFTER_A_SET]));
     let shuffles = SHUFFLES.iter().map(|shuffle| shuffle.name);
     floors.extend(under(section::SHUFFLES, 500, shuffles));
     let scrambles = SCRAMBLES.iter().map(|scramble| scramble.name);

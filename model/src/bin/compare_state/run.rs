@@ -66,6 +66,10 @@ impl Run {
         for line in [staged::fresh(), staged::replaying()] {
             practice::unused(&mut random, &line, &mut |case| self.check(0, case));
         }
+        for line in [staged::mixed(), staged::full(), staged::half_heard()] {
+            let line = staged::by_piece(line);
+            practice::other_sets(&line, &mut |case| self.check(0, case));
+        }
     }
 
     fn check(&mut self, seed: u64, case: &Case) {
@@ -89,6 +93,7 @@ impl Run {
             Kind::Field => self.counts.add(section::FIELDS, case.name),
             Kind::Shuffled => self.counts.add(section::SHUFFLES, case.name),
             Kind::Scrambled => self.counts.add(section::SCRAMBLES, case.name),
+            Kind::Set => self.counts.add(section::SETS, case.name),
             Kind::Disturbed | Kind::Byte | Kind::Bit | Kind::Unused | Kind::Length => {}
         }
     }

@@ -6,7 +6,7 @@ use model::compare::{answer, under, Floor};
 use model::line::practice::EVENTS;
 use model::line::{Caller, Frame};
 use model::plan::Version;
-use model::state::practice::{Kind, HARMLESS};
+use model::state::practice::{Kind, AFTER_A_SET, HARMLESS, OTHER_SETS};
 
 /// What the rows stand under.
 pub mod section {
@@ -23,6 +23,7 @@ pub mod section {
     pub const REFILLED: &str = "accepted where the log has been full and was trimmed";
     pub const HARMLESS: &str = "undamaged states that no run leads to, each with every frame";
     pub const DAMAGED: &str = "damaged states";
+    pub const SETS: &str = "damaged by one set, with a frame that was accepted before";
 }
 
 pub const ALL: &str = "all";
@@ -89,6 +90,8 @@ pub fn all() -> Vec<Floor> {
     floors.extend(under(section::HARMLESS, 20, harmless));
     let damaged = DAMAGED.iter().map(|kind| format!("{kind:?}"));
     floors.extend(under(section::DAMAGED, 500, damaged));
+    let others = OTHER_SETS.iter().map(|other| other.name);
+    floors.extend(under(section::SETS, 200, others.chain([AFTER_A_SET])));
     floors
 }
 

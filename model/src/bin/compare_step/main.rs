@@ -56,5 +56,6 @@ fn all(run: &mut Run) {
         run.tear(seed);
     }
     run.stage();
+    run.spoil_sets();
     run.counts.hold_to(&floors::all());
 }

@@ -1,12 +1,12 @@
 // Calls on states and frames as they are drawn, counted.
 
-use model::answer::{ACCEPTED, FRAME_LENGTH, NO_REPLAY};
+use model::answer::{ACCEPTED, FRAME_LENGTH, NO_REPLAY, STATE};
 use model::compare::{self, from_all, in_both_versions, Counts};
 use model::engine;
 use model::line::practice::{
     age, cut_frames, every_frame, random_frames, stray, torn, Practice, Stepped, EVENTS,
 };
-use model::line::{Frame, Line};
+use model::line::{stepped, Frame, Line};
 use model::plan::practice::any_plan;
 use model::random::Random;
 use model::state::practice::{self, call, replay_on, staged, trim_all, Case, Kind, Played};
@@ -173,8 +173,8 @@ impl Run {
         }
     }
 
-    /// The staged lines in both versions, with every frame; their replays to the
-    /// end, a Trim of each node and some steps more.
+    /// The staged lines in both versions and with channels by piece, with every frame;
+    /// their replays to the end, a Trim of each node and some steps more.
     pub fn stage(&mut self) {
         self.seed = 0;
         let mut random = Random::new(0);
@@ -190,7 +190,8 @@ impl Run {
             staged::trimmed(),
         ];
         let by_mass = lines.clone().map(staged::by_mass);
-        for line in lines.into_iter().chain(by_mass) {
+        let by_piece = lines.clone().map(staged::by_piece);
+        for line in lines.into_iter().chain(by_mass).chain(by_piece) {
             let state = line_bytes(&line);
             let mut states = States::of(&mut self.random, &state);
             self.try_every_frame(&mut random, &mut states, on::STAGED);
@@ -204,6 +205,29 @@ impl Run {
                 trim_all(&mut random, &mut playing);
                 play_on(&mut random, &mut playing, 16);
             }
+        }
+    }
+
+    /// Staged lines with each set changed: a frame that the line accepts is answered 8,
+    /// and all stays as it was.
+    pub fn spoil_sets(&mut self) {
+        self.seed = 0;
+        let mut random = Random::new(0);
+        for line in [staged::mixed(), staged::nearly_full(), staged::holding(8)] {
+            let line = staged::by_piece(line);
+            let frames = every_frame(&mut random, &line).into_iter().flatten();
+            let accepted: Vec<Vec<u8>> = frames
+                .filter(|frame| stepped(&line, frame).is_ok())
+                .collect();
+            practice::other_sets(&line, &mut |case| {
+                let mut states = States::of(&mut self.random, case.state);
+                let frame = &accepted[random.index(accepted.len())];
+                let answer = self.call(&mut states, on::DAMAGED, with::EVERY, frame, false);
+                if answer != STATE {
+                    compare::fail(case.name, "a wrong set is not answered 8", case.state);
+                }
+                self.counts.add(section::SETS, case.name);
+            });
         }
     }
 

@@ -32,6 +32,7 @@ pub fn disturb(random: &mut Random, line: &mut Line) {
             },
         };
     };
+    let plan = &line.plan;
     let node = &mut line.nodes[number];
     let queue = &mut line.queues[channel];
     let entry = random.draw() as usize % node.log.len().max(1);
@@ -55,6 +56,7 @@ pub fn disturb(random: &mut Random, line: &mut Line) {
                     input.time = time;
                 }
                 change_record(&mut entry.message.record);
+                entry.set = plan.set_of(number, &entry.message.record);
             }
         }
         5 => {
@@ -122,6 +124,15 @@ pub fn disturb(random: &mut Random, line: &mut Line) {
                 node.log[entry].input_made_from = second.input_made_from;
                 node.log[other].input_made_from = first.input_made_from;
             }
+        }
+    }
+}
+
+/// Gives log entries the sets of a plan or of records that are new.
+pub fn give_sets(line: &mut Line) {
+    for (number, node) in line.nodes.iter_mut().enumerate() {
+        for entry in &mut node.log {
+            entry.set = line.plan.set_of(number, &entry.message.record);
         }
     }
 }

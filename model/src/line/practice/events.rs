@@ -1,5 +1,6 @@
 //! What a step may do, and why it may be refused, that a practice must not miss.
 
+mod sets;
 mod ticks;
 mod trims;
 
@@ -12,9 +13,10 @@ use crate::line::{
     restart, stepped, Buffered, Caller, Entry, Frame, Line, Node, Origin, Restart, Status, Target,
 };
 use crate::placing::Item;
-use crate::plan::practice::refuses_by_mass;
-use crate::plan::{Channel, Window};
+use crate::plan::practice::{all_leaving, is_partial, refuses_by_mass};
+use crate::plan::{Channel, Plan, Window};
 use crate::record::{Record, MATERIALS};
+use sets::has_partial;
 use ticks::{is_tick, lets_go_by_ticks};
 use trims::past;
 
@@ -339,6 +341,39 @@ pub const EVENTS: &[Event] = &[
     }),
     event("Trim that drops what ticks alone let go", |step| {
         step.trims(lets_go_by_ticks)
+    }),
+    event("Feed of what some channels take, and not all", |step| {
+        step.feeds() && step.logs(is_partial)
+    }),
+    event("Feed of what none of two channels or more takes", |step| {
+        step.feeds() && step.logs(|plan, node, set| set == 0 && all_leaving(plan, node) > 1)
+    }),
+    event("Take of what some channels take, and not all", |step| {
+        !step.feeds() && step.logs(is_partial)
+    }),
+    event("Take of what none of two channels or more takes", |step| {
+        !step.feeds() && step.logs(|plan, node, set| set == 0 && all_leaving(plan, node) > 1)
+    }),
+    event("a rule changes which channels take a record", |step| {
+        step.works(|channel, came, made| channel.takes(came) != channel.takes(made))
+    }),
+    event("Send passes over what other channels take", |step| {
+        step.passes_over_others()
+    }),
+    event("replay ended with what some take, and not all", |step| {
+        step.ended()
+            .is_some_and(|(_, number, ended)| has_partial(&step.before.plan, number, &ended.log))
+    }),
+    event("replay ended with different sets", |step| {
+        step.ended().is_some_and(|(_, _, ended)| {
+            let sets: BTreeSet<u8> = ended.log.iter().map(|entry| entry.set).collect();
+            sets.len() > 1
+        })
+    }),
+    event("Trim that moves what some take, and not all", |step| {
+        step.trims(|line, node, run| {
+            run > 0 && has_partial(&line.plan, node, &line.nodes[node].log[run..])
+        })
     }),
 ];
 

@@ -4,7 +4,7 @@
 //! In half of the cases times are late, in some those of the router far apart.
 
 use super::late::each_time;
-use super::{age, greatest_time, or_tick, reach};
+use super::{age, give_sets, greatest_time, or_tick, reach};
 use crate::line::{Entry, Line, Message, Node, Origin, Status};
 use crate::plan::practice::{keeping, sort_some_by_mass, MASSES};
 use crate::plan::{Channel, Plan};
@@ -55,6 +55,7 @@ pub fn torn(random: &mut Random) -> (Line, usize) {
             trim_some(random, &mut line.nodes[sink]);
         }
     }
+    give_sets(&mut line);
     line.nodes[sources].status = Status::Down;
     line.nodes[sources].crash_marked = true;
     if random.one_in(24) {
@@ -177,6 +178,7 @@ fn drawn_record(random: &mut Random, ticks: u32, least_material: u32) -> Record 
     or_tick(random, ticks, record)
 }
 
+/// Its set comes later.
 fn entry(
     time: u32,
     record: Record,
@@ -190,5 +192,6 @@ fn entry(
             made_from,
         },
         input_made_from,
+        set: 0,
     }
 }

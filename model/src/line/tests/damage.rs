@@ -121,6 +121,13 @@ fn damages() {
                 ..Record::TICK
             };
         }),
+        ("set of an entry", |line| line.nodes[10].log[3].set = 0),
+        ("set of a sink's entry", |line| {
+            line.nodes[11].log[0].set = 1
+        }),
+        ("set of the entries that a mask has", |line| {
+            line.plan.channels[8].mask = 4;
+        }),
         ("65 entries", |line| {
             let last = *line.nodes[0].log.last().unwrap();
             line.steps = [250; 4];
@@ -341,6 +348,7 @@ fn damages() {
                     made_from: origin(1, 1),
                 },
                 input_made_from: origin(0, 1),
+                set: 0b11,
             });
         }),
         ("replaying node's leaving channel", |line| {
@@ -410,6 +418,7 @@ fn no_damages() {
         }),
         ("a queued record that its channel would not take", |line| {
             line.plan.channels[8].mask = 4;
+            give_sets(line);
         }),
         ("the plan in version 2", |line| {
             line.plan.version = Version::Second;
@@ -423,6 +432,7 @@ fn no_damages() {
         ("a queued record that its channel's window lacks", |line| {
             line.plan.version = Version::Second;
             line.plan.channels[8].window.greatest = 249;
+            give_sets(line);
         }),
         ("a tick in a log", |line| {
             line.nodes[0].log[0].message.record = Record::TICK;

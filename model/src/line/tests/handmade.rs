@@ -3,7 +3,7 @@
 use super::*;
 use crate::line::practice::age;
 
-/// A child's log entry made from a message of the router at `time`, which was
+/// A log entry of a child, which is a sink, made from a message of the router at `time`, which was
 /// made from the parent's at `parent_time`.
 fn child_entry(own_time: u32, router: usize, time: u32, parent: usize, parent_time: u32) -> Entry {
     Entry {
@@ -13,6 +13,7 @@ fn child_entry(own_time: u32, router: usize, time: u32, parent: usize, parent_ti
             made_from: origin(router, time),
         },
         input_made_from: origin(parent, parent_time),
+        set: 0,
     }
 }
 

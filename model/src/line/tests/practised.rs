@@ -83,6 +83,9 @@ fn practised_lines_stay_undamaged() {
         (50, "replay ended with a tick"),
         (100, "Trim that drops a tick"),
         (20, "Trim that drops what ticks alone let go"),
+        (100, "Feed of what some channels take, and not all"),
+        (100, "Take of what some channels take, and not all"),
+        (50, "replay ended with what some take, and not all"),
     ] {
         assert!(seen.events[event] > least, "{event} too seldom: {seen:?}");
     }

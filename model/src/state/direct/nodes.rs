@@ -26,10 +26,15 @@ impl View<'_> {
         let Some(count) = count_in(block, LOG) else {
             return false;
         };
+        let sets = self.shape.sets(number);
         let mut last = 0;
         for slot in block[LOG.slot(0)..LOG.slot(count)].chunks_exact(LOG.length) {
             let time = number_at(slot, MESSAGE_TIME);
-            if time <= last || !is_record_sound(slot) || !self.is_entry_heard(number, slot) {
+            let is_sound = time > last
+                && is_record_sound(slot)
+                && self.is_entry_heard(number, &slot[..ENTRY_SET])
+                && slot[ENTRY_SET..] == [sets.of(slot), 0];
+            if !is_sound {
                 return false;
             }
             last = time;
@@ -37,6 +42,7 @@ impl View<'_> {
         last <= number_at(block, TIME) && is_zero(&block[LOG.slot(count)..])
     }
 
+    /// An entry as far as its set.
     fn is_entry_heard(&self, number: usize, slot: &[u8]) -> bool {
         if has(self.shape.sources, number) {
             return is_zero(&slot[MADE_FROM..]);
@@ -46,8 +52,7 @@ impl View<'_> {
         };
         let time = number_at(slot, MADE_FROM + 1);
         (1..=self.taken(entering)).contains(&time)
-            && self.is_input_heard(entering, &slot[INPUT_MADE_FROM..ENTRY_USED])
-            && is_zero(&slot[ENTRY_USED..])
+            && self.is_input_heard(entering, &slot[INPUT_MADE_FROM..])
     }
 
     /// What an input from the channel was made from.
@@ -69,6 +74,7 @@ impl View<'_> {
         let Some(count) = count_in(block, BUFFERED) else {
             return false;
         };
+        let sets = self.shape.sets(number);
         let mut last = [0; Plan::MOST_AT_A_NODE];
         for slot in block[BUFFERED.slot(0)..BUFFERED.slot(count)].chunks_exact(BUFFERED.length) {
             let sender = slot[HELD_SENDER].saturating_add(1);
@@ -82,7 +88,7 @@ impl View<'_> {
                 && is_record_sound(slot)
                 && self.is_input_heard(entering, &slot[HELD_INPUT_MADE_FROM..HELD_USED])
                 && is_zero(&slot[HELD_USED..])
-                && self.shape.passes_on(number, &read_record(slot));
+                && sets.of(slot) != 0;
             if !is_sound {
                 return false;
             }

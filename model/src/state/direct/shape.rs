@@ -1,7 +1,7 @@
 //! A plan read from its bytes into tables of fixed size.
 
+use super::sets::Sets;
 use crate::plan::{length_field, Channel, Plan, Version};
-use crate::record::Record;
 use crate::rule::Rule;
 
 const NO_CHANNEL: u8 = u8::MAX;
@@ -105,9 +105,8 @@ impl Shape {
         &self.leaving[node][..self.child_count[node]]
     }
 
-    /// Whether a leaving channel takes the record.
-    pub fn passes_on(&self, node: usize, record: &Record) -> bool {
-        let mut leaving = self.leaving(node).iter();
-        leaving.any(|&number| self.channels[number].takes(record))
+    pub fn sets(&self, node: usize) -> Sets {
+        let leaving = self.leaving(node).iter();
+        Sets::new(leaving.map(|&number| self.channels[number]))
     }
 }

@@ -7,7 +7,8 @@ mod take;
 mod trim;
 
 use super::super::layout::*;
-use super::{is_undamaged, read_record};
+use super::is_undamaged;
+use super::sets::Sets;
 use crate::answer::{
     ACCEPTED, CHANNEL_FULL, CRASHED_NEIGHBOUR, NOTHING_THERE, NO_REPLAY, NO_SPACE, NO_SUCH_PLACE,
     ROW_COMPLETE, SOME_NOT_UP, STATE, STEPS_USED_UP, WRONG_PLACE, WRONG_RECORD, WRONG_STATUS,
@@ -78,9 +79,10 @@ impl InPlace<'_> {
     fn send(&mut self, channel: usize) -> Result<(), u32> {
         let (sender, _) = self.check_channel(channel)?;
         let mark = number_at(self.channel(channel), MARK);
+        let bit = self.bit(channel, sender);
         let mut log = slots(self.node(sender), LOG);
         let message = log
-            .find(|slot| number_at(slot, MESSAGE_TIME) > mark && self.takes(channel, slot))
+            .find(|slot| number_at(slot, MESSAGE_TIME) > mark && slot[ENTRY_SET] & bit != 0)
             .ok_or(NOTHING_THERE)?;
         // A log entry begins with the message.
         let message: [u8; MESSAGE_USED] = part(message, 0);
@@ -122,12 +124,14 @@ impl InPlace<'_> {
     /// Raises the node's time by 1 and logs a record. The origins are what it and
     /// its input were made from.
     fn log(&mut self, node: usize, record: &[u8], origins: &[u8]) -> Result<(), u32> {
+        let set = self.sets(node).of(record);
         let block = self.node_mut(node);
         let time = number_at(block, TIME) + 1;
         let slot = free_slot(block, LOG).ok_or(NO_SPACE)?;
         put(slot, RECORD, record);
         put_number(slot, MESSAGE_TIME, time);
         put(slot, MADE_FROM, origins);
+        slot[ENTRY_SET] = set;
         put_number(block, TIME, time);
         Ok(())
     }
@@ -196,9 +200,18 @@ impl InPlace<'_> {
         (planned[0].into(), planned[1].into())
     }
 
-    /// Whether the channel takes the record at the start of the slot.
-    fn takes(&self, channel: usize, slot: &[u8]) -> bool {
-        Channel::spelled(self.version, self.planned(channel)).takes(&read_record(slot))
+    fn sets(&self, node: usize) -> Sets {
+        let leaving = self.leaving(node);
+        Sets::new(leaving.map(|channel| Channel::spelled(self.version, self.planned(channel))))
+    }
+
+    /// The channel's bit in the sets of its sender: as many channels leave that before
+    /// it, and they stand right before it.
+    fn bit(&self, channel: usize, sender: usize) -> u8 {
+        let before = (0..channel).rev();
+        1 << before
+            .take_while(|&other| self.ends(other).0 == sender)
+            .count()
     }
 
     fn entering(&self, node: usize) -> impl Iterator<Item = usize> + '_ {

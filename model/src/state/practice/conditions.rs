@@ -1,5 +1,6 @@
-//! The paragraph "Damaged" of document 01 and request 2026-04, clause by clause: ways to damage a
-//! line or its bytes, each with other places and values as it is drawn.
+//! The paragraph "Damaged" of document 01 and requests 2026-04 and 2026-06, clause by
+//! clause: ways to damage a line or its bytes, each with other places and values as it is
+//! drawn.
 
 mod clocks;
 mod crash_marks;
@@ -13,6 +14,7 @@ mod queues;
 pub mod replays;
 mod rows;
 mod senders;
+mod sets;
 mod steps;
 mod unused;
 mod zeros;
@@ -110,6 +112,7 @@ pub const CLAUSES: &[Clause] = &[
     logs::NOT_RISING,
     clocks::PASSED,
     low_clocks::ABOVE,
+    sets::DIFFERENT,
     rows::NOT_RISING,
     rows::NOT_TAKEN,
     queues::UNSOUND,

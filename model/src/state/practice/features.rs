@@ -1,8 +1,8 @@
 //! What a line may have in it that a practice must not miss.
 
 use crate::line::practice::greatest_time;
-use crate::line::{Line, Node, Status};
-use crate::plan::practice::refuses_by_mass;
+use crate::line::{Entry, Line, Node, Status};
+use crate::plan::practice::{all_leaving, is_partial, refuses_by_mass};
 use crate::plan::Version;
 
 pub struct Feature {
@@ -63,6 +63,26 @@ pub const FEATURES: &[Feature] = &[
         let mut messages = line.queues.iter().flat_map(|queue| &queue.messages);
         messages.any(|message| message.record.is_tick())
     }),
+    feature("a set of some channels, and not all", |line| {
+        has_entry(line, |number, entry| {
+            is_partial(&line.plan, number, entry.set)
+        })
+    }),
+    feature("a set of some of four channels, and not all", |line| {
+        has_entry(line, |number, entry| {
+            all_leaving(&line.plan, number) == 0xF && is_partial(&line.plan, number, entry.set)
+        })
+    }),
+    feature("an empty set of two channels or more", |line| {
+        has_entry(line, |number, entry| {
+            all_leaving(&line.plan, number) > 1 && entry.set == 0
+        })
+    }),
+    feature("a recovered node's set of some channels", |line| {
+        has_entry(line, |number, entry| {
+            is_recovered(&line.nodes[number]) && is_partial(&line.plan, number, entry.set)
+        })
+    }),
     feature("a plan of version 2", |line| {
         line.plan.version == Version::Second
     }),
@@ -115,6 +135,12 @@ pub const FEATURES: &[Feature] = &[
 
 fn has_node(line: &Line, is_such: impl Fn(&Node) -> bool) -> bool {
     line.nodes.iter().any(is_such)
+}
+
+/// A log entry, with its node's number.
+fn has_entry(line: &Line, is_such: impl Fn(usize, &Entry) -> bool) -> bool {
+    let mut nodes = line.nodes.iter().enumerate();
+    nodes.any(|(number, node)| node.log.iter().any(|entry| is_such(number, entry)))
 }
 
 /// An entry of a low clock, and the clock's in the same place.

@@ -5,7 +5,7 @@ use super::conditions::replays::made::{complete_rows, greatest_target, trim_rows
 use super::runs::any_record;
 use super::{pick, staged};
 use crate::clock::Clock;
-use crate::line::practice::{drawn_steps, greatest_time, reach};
+use crate::line::practice::{drawn_steps, give_sets, greatest_time, reach};
 use crate::line::{restart, Line, Status};
 use crate::plan::practice::{in_other_version, MASSES};
 use crate::plan::{Version, Window};
@@ -50,6 +50,7 @@ pub const HARMLESS: &[Harmless] = &[
     harmless("another mask of a channel", |random, line| {
         let channel = free_channel(random, line)?;
         line.plan.channels[channel].mask = random.between(1, 0xFFFF) as u16;
+        give_sets(line);
         Some(())
     }),
     harmless("another remainder of a channel", |random, line| {
@@ -57,6 +58,7 @@ pub const HARMLESS: &[Harmless] = &[
         let channel = &mut line.plan.channels[channel];
         channel.modulus = random.between(1, 255) as u8;
         channel.remainder = random.index(usize::from(channel.modulus)) as u8;
+        give_sets(line);
         Some(())
     }),
     harmless("another window of a channel", |random, line| {
@@ -66,6 +68,7 @@ pub const HARMLESS: &[Harmless] = &[
         let any = random.between(least.into(), 0xFFFF) as u16;
         let greatest = random.pick(&[least, any]);
         line.plan.channels[channel].window = Window { least, greatest };
+        give_sets(line);
         Some(())
     }),
     harmless("the plan in the other version", |_, line| {
@@ -104,11 +107,13 @@ pub const HARMLESS: &[Harmless] = &[
     harmless("another record in a log", |random, line| {
         let (node, index) = pick::entry(random, line, |_, _| true)?;
         line.nodes[node].log[index].message.record = any_record(random);
+        give_sets(line);
         Some(())
     }),
     harmless("a tick in a log", |random, line| {
         let (node, index) = pick::entry(random, line, |_, _| true)?;
         line.nodes[node].log[index].message.record = Record::TICK;
+        give_sets(line);
         Some(())
     }),
     harmless("a tick that is held", |random, line| {

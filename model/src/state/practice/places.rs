@@ -122,7 +122,8 @@ impl Walk {
             self.origin(names, entry.message.made_from);
             let names = ["entry: input's sender", "entry: input's sender's time"];
             self.origin(names, entry.input_made_from);
-            self.unused("after an entry", 2);
+            self.used("entry: set", 1);
+            self.unused("after an entry", 1);
         }
         self.unused("free entries", 24 * (64 - node.log.len()));
         self.used("held: count", 4);

@@ -3,7 +3,7 @@
 
 use super::pick::channel_between;
 use super::Played;
-use crate::line::practice::make_late;
+use crate::line::practice::{give_sets, make_late};
 use crate::line::{Frame, Line, Status};
 use crate::plan::practice::keeping;
 use crate::plan::{Channel, Plan, Version};
@@ -226,6 +226,28 @@ pub fn plan_of(node_count: usize, mut ends: Vec<(usize, usize)>) -> Plan {
     keeping(node_count, channels)
 }
 
+/// The line with channels that sort by piece number and material, by hand. Of a
+/// node's first two, one or both take what is fed here. Those to nodes that are not up
+/// take all, so that replays end.
+pub fn by_piece(mut line: Line) -> Line {
+    for node in 0..line.nodes.len() {
+        let leaving: Vec<usize> = line.plan.leaving(node).collect();
+        for (place, number) in leaving.into_iter().enumerate() {
+            let channel = &mut line.plan.channels[number];
+            if line.nodes[channel.receiver].status != Status::Up {
+                continue;
+            }
+            match place {
+                0 => (channel.modulus, channel.remainder) = (2, (node % 2) as u8),
+                1 => channel.mask = [0xAFAF, 0x5F5F][node % 2],
+                _ => (channel.modulus, channel.mask) = (3, 0x7FFE),
+            }
+        }
+    }
+    give_sets(&mut line);
+    line
+}
+
 /// The line with its plan in version 2, windows and all.
 pub fn by_mass(mut line: Line) -> Line {
     line.plan = windowed(line.plan);
@@ -245,7 +267,7 @@ fn accept(line: &mut impl Played, frame: Frame) {
     assert_eq!(line.step(&frame.write()), 0, "{frame:?}");
 }
 
-fn piece(number: u32) -> Record {
+pub fn piece(number: u32) -> Record {
     Record {
         piece: number,
         material: (number % 16) as u8,

@@ -1,10 +1,11 @@
 //! Where the bytes stand, spelled out.
 
 use crate::line::{step, Caller, Frame, Line, Origin};
+use crate::plan::practice::keeping;
+use crate::plan::Channel;
 use crate::record::Record;
-use crate::state::layout;
 use crate::state::practice::{places, staged};
-use crate::state::{line_bytes, read_line, LENGTH};
+use crate::state::{self, direct, layout, line_bytes, read_line, LENGTH};
 
 /// The numbers of docs/LAYOUT.md.
 #[test]
@@ -24,7 +25,8 @@ fn places_of_the_layout() {
     assert_eq!((layout::QUEUE.count, layout::QUEUE.end()), (24, 188));
     assert_eq!((layout::LOW, layout::LOW_END), (188, 208));
     assert_eq!([0, 1, 2, 3].map(layout::low_heard), [192, 196, 200, 204]);
-    assert_eq!((layout::ENTRY_USED, layout::LOG.length), (22, 24));
+    assert_eq!((layout::ENTRY_SET, layout::ENTRY_USED), (22, 23));
+    assert_eq!(layout::LOG.length, 24);
     assert_eq!((layout::HELD_USED, layout::BUFFERED.length), (18, 20));
     assert_eq!((layout::TARGET_USED, layout::TARGETS.length), (9, 12));
     assert_eq!((layout::MESSAGE_USED, layout::QUEUE.length), (17, 20));
@@ -54,12 +56,14 @@ fn first_marked_sheet() {
     expected[..19].copy_from_slice(&plan);
     assert_eq!(line_bytes(&line), expected);
 
-    // Fed: one step, node 0 at time 1 with one entry, made from nothing.
+    // Fed: one step, node 0 at time 1 with one entry, made from nothing, that its
+    // channel takes.
     assert_eq!(step(&mut line, &frames[0].write()), 0);
     expected[515] = 1;
     expected[4096 + 7] = 1;
     expected[4096 + 11] = 1;
     expected[4096 + 12..4096 + 24].copy_from_slice(&[0, 0, 0, 7, 1, 0, 0, 250, 0, 0, 0, 1]);
+    expected[4096 + 34] = 1;
     assert_eq!(line_bytes(&line), expected);
 
     // Sent: the mark, a count of one, the message.
@@ -164,6 +168,38 @@ fn low_clocks() {
     assert_eq!(block[188..208], low);
     assert_eq!(block[208..], [0; 112]);
     assert_eq!(read_line(&state), Some(line));
+}
+
+/// The first leaving channel is the lowest bit of byte 22; nothing is in byte 23. 0 sends
+/// material 0 to 1, pieces 1, 4, .. to 2, all to 3, and material 1 to 4.
+#[test]
+fn sets_of_entries() {
+    let leaving = [1, 2, 3, 4].map(|sink| Channel::between(0, sink));
+    let mut plan = keeping(5, leaving);
+    plan.channels[0].mask = 1;
+    (plan.channels[1].modulus, plan.channels[1].remainder) = (3, 1);
+    plan.channels[3].mask = 2;
+    let fed = [
+        (Record::TICK, 15),
+        (staged::piece(32), 0b0101),
+        (staged::piece(1), 0b1110),
+        (staged::piece(17), 0b1100),
+        (staged::piece(2), 0b0100),
+        (staged::piece(4), 0b0110),
+    ];
+    for step in [state::step, direct::step] {
+        let mut state = line_bytes(&Line::of(plan.clone()));
+        for (index, (record, set)) in fed.into_iter().enumerate() {
+            let record = record.write();
+            let frame = Frame::Feed { node: 0, record }.write();
+            assert_eq!(step(&mut state, &frame), 0);
+            let slot = &state[4096 + 12 + 24 * index..][..24];
+            assert_eq!((slot[22], slot[23]), (set, 0));
+        }
+        let line = read_line(&state).unwrap();
+        let sets: Vec<u8> = line.nodes[0].log.iter().map(|entry| entry.set).collect();
+        assert_eq!(sets, fed.map(|(_, set)| set));
+    }
 }
 
 /// A sender is written as its number and 1, a held record's as its number.

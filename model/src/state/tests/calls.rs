@@ -84,6 +84,27 @@ fn damaged_state_before_a_short_output() {
     assert_eq!(write(&state[1..], &mut [0; 512]), 8);
 }
 
+/// The step in place answers as the step on lines, and leaves the same bytes.
+#[test]
+fn same_step_in_place() {
+    let mut random = Random::new(8);
+    let mut seen = [0; 2];
+    for line in runs().iter().flatten() {
+        let before = line_bytes(line);
+        let frames = every_frame(&mut random, line);
+        for _ in 0..8 {
+            let [frame, _] = &frames[random.index(frames.len())];
+            let [mut state, mut in_place] = [before.clone(), before.clone()];
+            let answer = step(&mut state, frame);
+            assert_eq!(direct::step(&mut in_place, frame), answer, "{frame:?}");
+            assert!(in_place == state, "{frame:?} {line:?}");
+            seen[usize::from(answer == 0)] += 1;
+        }
+    }
+    println!("{seen:?}");
+    assert!(seen.iter().all(|&times| times > 1_000), "{seen:?}");
+}
+
 #[test]
 fn same_step_from_every_caller() {
     let mut random = Random::new(6);

@@ -5,7 +5,9 @@ use std::collections::BTreeMap;
 
 use crate::line::Line;
 use crate::random::Random;
-use crate::state::practice::{self, staged, Case, Kind, CLAUSES, HARMLESS, SHUFFLES};
+use crate::state::practice::{
+    self, staged, Case, Kind, AFTER_A_SET, CLAUSES, HARMLESS, OTHER_SETS, SHUFFLES,
+};
 use crate::state::tests::runs;
 use crate::state::{check, direct, line_bytes, LENGTH};
 
@@ -78,6 +80,23 @@ fn every_unused_byte() {
     });
     let cases: usize = counts.values().map(|(cases, _)| cases).sum();
     assert_eq!(cases, LENGTH - 19 - 16 - 2 * 18 - 16);
+}
+
+/// Of every log entry, the channels alike or not, with a tick among them.
+#[test]
+fn every_set() {
+    let mut counts = Counts::new();
+    for line in [staged::mixed(), staged::full(), staged::half_heard()] {
+        let line = staged::by_piece(line);
+        assert_eq!(check_both(&line), 0);
+        practice::other_sets(&line, &mut |case| compare(case, &mut counts));
+    }
+    println!("{counts:?}");
+    let names = OTHER_SETS.iter().map(|other| other.name);
+    for name in names.chain([AFTER_A_SET]) {
+        let (cases, accepted) = counts[&(Kind::Set, "", name)];
+        assert!(cases > 100 && accepted == 0, "{name}: {cases}");
+    }
 }
 
 /// A step count above the limit is damage even where no time needs it and the

@@ -39,6 +39,8 @@ fn lines_that_hold_most() {
     assert_round_trip(&staged::down());
     let full = staged::full();
     assert_round_trip(&full);
+    assert_round_trip(&staged::by_piece(full.clone()));
+    assert_round_trip(&staged::by_piece(staged::mixed()));
     assert!(full.nodes.iter().all(|node| node.log.len() == 64));
     assert!(full.queues.iter().all(|queue| queue.messages.len() == 8));
     let heard_by_all = staged::heard_by_all();
@@ -55,6 +57,7 @@ fn lines_that_hold_most() {
     }
     let replaying = staged::replaying();
     assert_round_trip(&replaying);
+    assert_round_trip(&staged::by_piece(replaying.clone()));
     for router in 4..8 {
         let node = &replaying.nodes[router];
         assert_eq!((node.targets.len(), node.buffered.len()), (64, 63));

@@ -8,6 +8,8 @@ struct Table {
     count: usize,
     items: [Item; placing::MOST_ITEMS],
     held: [Held; placing::MOST_ITEMS],
+    /// Which leaving channels take them.
+    sets: [u8; placing::MOST_ITEMS],
     /// How many of the items are targets.
     fixed: usize,
 }
@@ -74,14 +76,15 @@ impl InPlace<'_> {
         if self.are_rows_complete(node, &entries, Some(sender)) {
             return Err(ROW_COMPLETE);
         }
-        let is_held = self.leaving(node).any(|leaving| self.takes(leaving, &held));
+        let sets = self.sets(node);
+        let is_held = sets.of(&held) != 0;
         let count = number_at(self.node(node), BUFFERED.count) as usize;
         if is_held && count >= BUFFERED.most {
             return Err(NO_SPACE);
         }
         entries[sender] = entries[sender].max(number_at(&held, HELD_TIME));
         if self.are_rows_complete(node, &entries, None) {
-            return self.end_replay(node, is_held.then_some(held));
+            return self.end_replay(node, &sets, is_held.then_some(held));
         }
         if is_held {
             let slot = free_slot(self.node_mut(node), BUFFERED).expect("room for it");
@@ -115,11 +118,11 @@ impl InPlace<'_> {
 
     /// "Held records are placed, logged in order of column as their times, B's
     /// time becomes high, and B is up, targets and held list emptied."
-    fn end_replay(&mut self, node: usize, last: Option<Held>) -> Result<(), u32> {
+    fn end_replay(&mut self, node: usize, sets: &Sets, last: Option<Held>) -> Result<(), u32> {
         let entries = self.leaving(node).map(|channel| self.taken(channel));
         let high = entries.max().expect("a child");
         let low = number_at(self.node(node), TIME);
-        let table = self.table(node, last);
+        let table = self.table(node, sets, last);
         if table.fixed < number_at(self.node(node), TARGETS.count) as usize {
             return Err(NO_REPLAY);
         }
@@ -135,6 +138,7 @@ impl InPlace<'_> {
         for &index in order.iter() {
             let slot = free_slot(block, LOG).expect("no more than can be held");
             write_entry(slot, &table.held[index], columns[index]);
+            slot[ENTRY_SET] = table.sets[index];
         }
         block[BUFFERED.count..TARGETS.end()].fill(0);
         put_number(block, TIME, high);
@@ -144,25 +148,27 @@ impl InPlace<'_> {
 
     /// The replay table of what the node holds and of the last record. Along a
     /// row times rise as they stand.
-    fn table(&self, node: usize, last: Option<Held>) -> Table {
+    fn table(&self, node: usize, sets: &Sets, last: Option<Held>) -> Table {
         let mut table = Table {
             count: 0,
             items: [Item::default(); placing::MOST_ITEMS],
             held: [[0; HELD_USED]; placing::MOST_ITEMS],
+            sets: [0; placing::MOST_ITEMS],
             fixed: 0,
         };
         for (row, parent) in self.parents(node).enumerate() {
             let stored = slots(self.node(node), BUFFERED).map(|slot| part(slot, 0));
             for held in stored.chain(last) {
                 if usize::from(held[HELD_SENDER]) == parent {
-                    table.add(self.item(node, row, &held), held);
+                    let set = sets.of(&held);
+                    table.add(self.item(node, row, &held, set), held, set);
                 }
             }
         }
         table
     }
 
-    fn item(&self, node: usize, row: usize, held: &Held) -> Item {
+    fn item(&self, node: usize, row: usize, held: &Held, set: u8) -> Item {
         let time = number_at(held, HELD_TIME);
         let target = slots(self.node(node), TARGETS).find(|target| {
             target[TARGET_PARENT] == held[HELD_SENDER]
@@ -170,7 +176,7 @@ impl InPlace<'_> {
         });
         let (fixed, floor) = match target {
             Some(target) => (number_at(target, TARGET_TIME), 0),
-            None => (0, self.floor(node, held)),
+            None => (0, self.floor(node, set)),
         };
         Item {
             row: row as u32,
@@ -180,19 +186,19 @@ impl InPlace<'_> {
         }
     }
 
-    fn floor(&self, node: usize, held: &Held) -> u32 {
-        let taking = self
-            .leaving(node)
-            .filter(|&channel| self.takes(channel, held));
-        let entries = taking.map(|channel| self.taken(channel));
+    fn floor(&self, node: usize, set: u8) -> u32 {
+        let leaving = self.leaving(node).enumerate();
+        let taking = leaving.filter(|(place, _)| set >> place & 1 == 1);
+        let entries = taking.map(|(_, channel)| self.taken(channel));
         entries.max().expect("a held record is taken")
     }
 }
 
 impl Table {
-    fn add(&mut self, item: Item, held: Held) {
+    fn add(&mut self, item: Item, held: Held, set: u8) {
         self.items[self.count] = item;
         self.held[self.count] = held;
+        self.sets[self.count] = set;
         self.count += 1;
         self.fixed += usize::from(!item.is_free());
     }

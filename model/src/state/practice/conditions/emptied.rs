@@ -32,13 +32,15 @@ pub const HOLDING: Clause = Clause {
             let node = down(random, line)?;
             let held = receive(random, line, node)?;
             line.nodes[node].clock.time = 1;
-            line.nodes[node].log.push(logged(held, 1));
+            let entry = logged(line, node, held, 1);
+            line.nodes[node].log.push(entry);
             Some(())
         }),
         line("down: log alone", |random, line| {
             let node = down(random, line)?;
             let held = any_held(random, line, node)?;
-            line.nodes[node].log.push(logged(held, 1));
+            let entry = logged(line, node, held, 1);
+            line.nodes[node].log.push(entry);
             Some(())
         }),
         line("down: held list", |random, line| {
@@ -114,7 +116,8 @@ pub const HOLDING: Clause = Clause {
             let (node, index) = pick::held(random, line, |_, _| true)?;
             let held = line.nodes[node].buffered[index];
             let time = line.nodes[node].time().max(1);
-            line.nodes[node].log.push(logged(held, time));
+            let entry = logged(line, node, held, time);
+            line.nodes[node].log.push(entry);
             Some(())
         }),
         line("replaying: leaving message", |random, line| {
@@ -160,7 +163,7 @@ fn receive(random: &mut Random, line: &mut Line, node: usize) -> Option<Buffered
     Some(held)
 }
 
-fn logged(held: Buffered, time: u32) -> Entry {
+fn logged(line: &Line, node: usize, held: Buffered, time: u32) -> Entry {
     Entry {
         message: Message {
             record: held.record,
@@ -168,6 +171,7 @@ fn logged(held: Buffered, time: u32) -> Entry {
             made_from: Some(held.made_from),
         },
         input_made_from: held.input_made_from,
+        set: line.plan.set_of(node, &held.record),
     }
 }
 

@@ -1,5 +1,6 @@
 use super::*;
 use crate::line::practice::almost_tick;
+use crate::plan::practice::all_leaving;
 use crate::record::Record;
 use crate::state::layout::*;
 use crate::state::practice::harmless::hold_most;
@@ -65,7 +66,10 @@ pub const OUTSIDE: Clause = Clause {
         }),
         line("material in a log", |random, line| {
             let (node, index) = pick::entry(random, line, |_, _| true)?;
-            give_no_material(random, &mut line.nodes[node].log[index].message.record);
+            let set = set_of_none(random, line, node, index);
+            let entry = &mut line.nodes[node].log[index];
+            give_no_material(random, &mut entry.message.record);
+            entry.set = set;
             Some(())
         }),
         line("material of a held record", |random, line| {
@@ -86,7 +90,10 @@ pub const OUTSIDE: Clause = Clause {
         }),
         bytes("almost a tick in a log", |random, line, state| {
             let (number, index) = pick::entry(random, line, |_, _| true)?;
-            put_almost_tick(random, &mut state[node(number)..], LOG.slot(index));
+            let set = set_of_none(random, line, number, index);
+            let block = &mut state[node(number)..];
+            put_almost_tick(random, block, LOG.slot(index));
+            block[LOG.slot(index) + ENTRY_SET] = set;
             Some(())
         }),
         bytes("almost a tick that is held", |random, line, state| {
@@ -101,6 +108,12 @@ pub const OUTSIDE: Clause = Clause {
         }),
     ],
 };
+
+/// For an entry that is to have no record: no plan says which channels take it.
+fn set_of_none(random: &mut Random, line: &Line, node: usize, index: usize) -> u8 {
+    let kept = line.nodes[node].log[index].set;
+    random.pick(&[kept, 0, all_leaving(&line.plan, node)])
+}
 
 /// A material that makes it neither a record nor a tick.
 fn give_no_material(random: &mut Random, record: &mut Record) {

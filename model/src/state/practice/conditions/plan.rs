@@ -1,4 +1,5 @@
 use super::*;
+use crate::line::practice::give_sets;
 use crate::plan::practice::WRONG_RULES;
 use crate::plan::{Plan, Version, Window};
 use crate::rule::Rule;
@@ -94,6 +95,7 @@ pub const REFUSED: Clause = Clause {
                 least: wrong.0,
                 greatest: wrong.1,
             };
+            give_sets(line);
             (wrong.0 > wrong.1).then_some(())
         }),
         line("no channels", |random, line| {

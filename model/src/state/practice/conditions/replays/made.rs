@@ -3,7 +3,7 @@
 use super::pick;
 use crate::clock::Clock;
 use crate::line::practice::{reach, share_steps};
-use crate::line::{restart, Entry, Line, Message, Node, Origin, Restart, Status};
+use crate::line::{restart, Entry, Line, Message, Origin, Restart, Status};
 use crate::random::Random;
 use crate::state::practice::runs::any_record;
 use crate::state::practice::staged::plan_of;
@@ -57,7 +57,7 @@ pub fn complete_rows(
             sender: parent,
             time,
         };
-        log_input(random, &mut line.nodes[child], input, origin);
+        log_input(random, line, child, input, origin);
         let time = line.nodes[child].time();
         reach(random, line, time);
     }
@@ -93,18 +93,22 @@ pub fn greatest_target(line: &Line, node: usize, parent: usize) -> u32 {
 }
 
 /// The node logs what it made from the input, which was made from the origin.
-fn log_input(random: &mut Random, node: &mut Node, input: Origin, origin: Origin) {
+fn log_input(random: &mut Random, line: &mut Line, node: usize, input: Origin, origin: Origin) {
+    let record = any_record(random);
+    let set = line.plan.set_of(node, &record);
+    let node = &mut line.nodes[node];
     node.clock.time += 1;
     node.clock.raise_taken(input.sender, input.time);
     node.clock
         .raise_heard(input.sender, origin.sender, origin.time);
     node.log.push(Entry {
         message: Message {
-            record: any_record(random),
+            record,
             time: node.clock.time,
             made_from: Some(input),
         },
         input_made_from: Some(origin),
+        set,
     });
 }
 
@@ -117,7 +121,7 @@ pub fn too_many(random: &mut Random) -> Line {
     for time in 1..=65 {
         let child = if time == alone { 3 } else { 2 };
         let (input, origin) = (Origin { sender: 1, time }, Origin { sender: 0, time });
-        log_input(random, &mut line.nodes[child], input, origin);
+        log_input(random, &mut line, child, input, origin);
     }
     line.nodes[1].crash_marked = true;
     let told = restart(&line, 1);
