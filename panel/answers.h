@@ -1,6 +1,6 @@
 /* The numbers that Load, Step, Check, Write, Placing and the check of a plan return: document 01, "Numbers returned",
-   and requests 2026-01 and 2026-04 to 2026-06. A call returns the first that applies, in rising order; but 25 comes
-   between 11 and 12, and 26 between 13 and 14. */
+   and requests 2026-01 and 2026-04 to 2026-07. A call returns the first that applies, in rising order; but 25 comes
+   between 11 and 12, 26 between 13 and 14, and 27 between 16 and 17. */
 #ifndef ANSWERS_H
 #define ANSWERS_H
 
@@ -19,8 +19,8 @@ enum {
     ANSWER_FRAME_KIND = 11,        /* kind, or length not the kind's */
     ANSWER_STEPS_USED_UP = 12,     /* the console's 1,000,000 steps are accepted */
     ANSWER_NO_SUCH_PLACE = 13,     /* no such node or belt */
-    ANSWER_WRONG_PLACE = 14,       /* Feed not to an infeed; Crash or Recover of an infeed or outfeed */
-    ANSWER_WRONG_STATUS = 15,      /* Crash of a down node; Send, Take with an end down; Recover of a node not down */
+    ANSWER_WRONG_PLACE = 14,       /* Feed not to an infeed; Crash, Recover, Ask or Commit of an infeed or outfeed */
+    ANSWER_WRONG_STATUS = 15,      /* Crash of a down node; Send, Take with an end down; Recover, Ask, Commit of a node not down */
     ANSWER_CRASHED_NEIGHBOUR = 16, /* Crash of a node joined by a belt to one crashed earlier in the run */
     ANSWER_WRONG_RECORD = 17,      /* material over 15 and no tick, zero byte not 0 */
     ANSWER_NOTHING_THERE = 18,     /* nothing to send or take */
@@ -31,7 +31,8 @@ enum {
     ANSWER_OUTPUT_SHORT = 23,      /* output shorter than needed */
     ANSWER_NO_PLACING = 24,        /* no placing exists; targets that conflict, or one not held */
     ANSWER_NO_SUCH_CONSOLE = 25,   /* console above 3 */
-    ANSWER_NOT_ALL_UP = 26         /* Trim while a node is down or replays */
+    ANSWER_NOT_ALL_UP = 26,        /* Trim while a node is down or replays */
+    ANSWER_NOTHING_KEPT = 27       /* Commit without a kept answer */
 };
 
 #endif

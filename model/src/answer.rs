@@ -23,13 +23,14 @@ pub const STATE: u32 = 8;
 pub const FRAME_LENGTH: u32 = 9;
 /// "Frame version."
 pub const FRAME_VERSION: u32 = 10;
-/// "Kind not 1..5, or length not the kind's"; kind 6 is Trim since.
+/// "Kind not 1..5, or length not the kind's"; kind 6 is Trim since, 7 Ask, 8 Commit.
 pub const FRAME_KIND: u32 = 11;
 /// "1,000,000 steps accepted", of the caller's.
 pub const STEPS_USED_UP: u32 = 12;
 /// "No such node or belt."
 pub const NO_SUCH_PLACE: u32 = 13;
-/// "Feed not to an infeed; Crash or Recover of an infeed or outfeed."
+/// "Feed not to an infeed; Crash or Recover of an infeed or outfeed." This and 15 read
+/// Ask and Commit "as Recover".
 pub const WRONG_PLACE: u32 = 14;
 /// "Crash of a down node; Send, Take with an end down; Recover of a node not
 /// down."
@@ -53,3 +54,5 @@ pub const NO_REPLAY: u32 = 24;
 pub const NO_SUCH_CONSOLE: u32 = 25;
 /// "After 13, a Trim while a node is down or replaying."
 pub const SOME_NOT_UP: u32 = 26;
+/// "After 16, a Commit without a kept answer."
+pub const NOTHING_KEPT: u32 = 27;

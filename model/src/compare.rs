@@ -1,8 +1,9 @@
 //! What the programs that compare the engine with the model have in common:
-//! lent buffers, the same step from every caller and with the plan in either
-//! version, and counts that have to reach their floors.
+//! lent buffers, the same step from every caller, with the plan in either version and
+//! by Commit as by Recover, and counts that have to reach their floors.
 
 mod callers;
+mod commits;
 mod counts;
 mod lent;
 mod versions;
@@ -11,6 +12,7 @@ use std::process::exit;
 use std::{env, fs};
 
 pub use callers::{from_all, FromAll};
+pub use commits::as_recover;
 pub use counts::{answer, under, Counts, Floor};
 pub use lent::Lent;
 pub use versions::in_both_versions;

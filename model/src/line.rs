@@ -1,6 +1,7 @@
 //! Document 01, "The line" and "Clocks and steps": the state of a line and its
 //! load. The steps stand in the modules below, one for a paragraph or a request.
 
+mod ask;
 mod damaged;
 mod frame;
 pub mod practice;
@@ -84,6 +85,8 @@ pub struct Node {
     pub targets: Vec<Target>,
     /// The paper's held list, in order of arrival.
     pub buffered: Vec<Buffered>,
+    /// What Ask "keeps with the down node", its targets included.
+    pub kept: Option<Restart>,
 }
 
 impl Node {
@@ -97,6 +100,7 @@ impl Node {
             log: Vec::new(),
             targets: Vec::new(),
             buffered: Vec::new(),
+            kept: None,
         }
     }
 

@@ -62,14 +62,14 @@ impl Order {
                     time: after.nodes[node].time(),
                 });
             }
-            Frame::Send { .. } | Frame::Trim { .. } => {}
+            Frame::Send { .. } | Frame::Trim { .. } | Frame::Ask { .. } => {}
             Frame::Take { channel } => {
                 let message = before.queues[usize::from(channel)].messages[0];
                 let channel = &before.plan.channels[usize::from(channel)];
                 self.follow_take(before, channel.sender, channel.receiver, message, after);
             }
             Frame::Crash { node } => self.crashed[usize::from(node)] = true,
-            Frame::Recover { node } => {
+            Frame::Recover { node } | Frame::Commit { node } => {
                 let node = usize::from(node);
                 if after.nodes[node].status == Status::Up {
                     self.keep_restored(before, node);

@@ -1,4 +1,5 @@
-//! Document 01, "The sheet": what the program `sheet` writes for what it reads.
+//! Document 01, "The sheet", and request 2026-07: what the program `sheet` writes for what
+//! it reads.
 
 pub mod practice;
 #[cfg(test)]
@@ -7,7 +8,7 @@ pub mod vectors;
 
 use crate::answer::{ACCEPTED, FRAME_LENGTH};
 use crate::clock::Clock;
-use crate::line::{step, Entry, Frame, Line, Status};
+use crate::line::{step, Entry, Frame, Line, Restart, Status};
 use crate::plan::length_field;
 use crate::state::{self, direct, read_line, LENGTH};
 
@@ -99,7 +100,7 @@ fn list_answer(text: &mut Vec<u8>, number: u32, answer: u32) {
 }
 
 /// "Then per node: `N` node, up, down or replay, time; a line `L` per log entry;
-/// `T` and the clock."
+/// `T` and the clock." "After a node's `T` the sheet prints a kept answer."
 fn list_nodes(text: &mut Vec<u8>, line: &Line) {
     for (number, node) in line.nodes.iter().enumerate() {
         let status: &[u8] = match node.status {
@@ -118,6 +119,9 @@ fn list_nodes(text: &mut Vec<u8>, line: &Line) {
         text.extend(b"T ");
         list_clock(text, &node.clock);
         text.push(b'\n');
+        if let Some(kept) = &node.kept {
+            list_kept(text, kept);
+        }
     }
 }
 
@@ -146,9 +150,7 @@ fn list_entry(text: &mut Vec<u8>, node: usize, entry: &Entry) {
 /// inside brackets, parents rising, one space between; a node without parents,
 /// or in the third layer, has no brackets."
 fn list_clock(text: &mut Vec<u8>, clock: &Clock) {
-    list_numbers(text, &[clock.node as u32]);
-    text.push(b':');
-    list_numbers(text, &[clock.time]);
+    list_time(text, clock.node, clock.time);
     if clock.parents.is_empty() {
         return;
     }
@@ -160,6 +162,31 @@ fn list_clock(text: &mut Vec<u8>, clock: &Clock) {
         list_clock(text, part);
     }
     text.push(b']');
+}
+
+/// "`Q`, low, high, each parent's restored entry as `parent:time`, each target as
+/// `time[parent:time]`, parents and times rising."
+fn list_kept(text: &mut Vec<u8>, kept: &Restart) {
+    text.extend(b"Q ");
+    list_numbers(text, &[kept.low, kept.high]);
+    for entry in &kept.restored {
+        text.push(b' ');
+        list_time(text, entry.sender, entry.time);
+    }
+    for target in &kept.targets {
+        text.push(b' ');
+        list_numbers(text, &[target.time]);
+        text.push(b'[');
+        list_time(text, target.parent, target.parent_time);
+        text.push(b']');
+    }
+    text.push(b'\n');
+}
+
+fn list_time(text: &mut Vec<u8>, node: usize, time: u32) {
+    list_numbers(text, &[node as u32]);
+    text.push(b':');
+    list_numbers(text, &[time]);
 }
 
 /// In decimal digits, one space between.

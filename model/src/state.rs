@@ -43,7 +43,7 @@ pub fn load(plan: &[u8], state: &mut [u8]) -> u32 {
     ACCEPTED
 }
 
-/// "Step 8 to 21 and then 24", with 25 after 11 and 26 after 13.
+/// "Step 8 to 21 and then 24", with 25 after 11, 26 after 13 and 27 after 16.
 pub fn step(state: &mut [u8], frame: &[u8]) -> u32 {
     let line = undamaged(state).ok_or(STATE);
     match line.and_then(|line| stepped(&line, frame)) {

@@ -66,4 +66,5 @@ fn main() {
     report("4 replays, 64 targets, 63 held", &staged::replaying());
     let by_mass = staged::by_mass(staged::replaying());
     report("the same, plan of version 2", &by_mass);
+    report("3 replays, one asked, 64 targets", &staged::asked());
 }

@@ -104,6 +104,10 @@ fn main() {
         &staged::down(),
         Frame::Recover { node: 4 },
     );
+    // The same line, and the same asked.
+    let (ask, commit) = (Frame::Ask { node: 4 }, Frame::Commit { node: 4 });
+    row("Ask, 64 targets", &staged::down(), ask);
+    row("Commit, 64 targets", &staged::asked(), commit);
     // The routers have taken from the four sources in turn.
     let from = |source: usize, line: &Line| {
         let mut entering = line.plan.entering(4);

@@ -125,3 +125,12 @@ module _ (s : List ℕ) (at gap : ℕ) where
       let moved : List ℕ = take n (drop (at + gap) s) in
       let many : length moved ≡ n = behind-gap n h in
       put-replicate (put s at moved) (at + n) to gap 0 e ∙ put-behind s at moved (at + n) (replicate gap 0) (omega arith) (omega arith)
+
+-- ---- zero bytes in two parts
+
+zero-join : (s t : List ℕ) → zeroBytes (s ++ t) ≡ (zeroBytes s && zeroBytes t)
+zero-join [] t = refl
+zero-join (b ∷ s) t = ap (λ (x : Bool). eqb 0 b && x) (zero-join s t) ∙ sym (and-assoc (eqb 0 b) (zeroBytes s) (zeroBytes t))
+
+pub zero-parts : (a n m : ℕ) (s : List ℕ) → zeroAt a (n + m) s ≡ (zeroAt a n s && zeroAt (a + n) m s)
+zero-parts a n m s = ap zeroBytes (take-add n m (drop a s)) ∙ zero-join (take n (drop a s)) (take m (drop n (drop a s))) ∙ ap (λ (t : List ℕ). zeroAt a n s && zeroBytes (take m t)) (drop-drop n a s)

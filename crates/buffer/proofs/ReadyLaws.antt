@@ -1,27 +1,29 @@
 -- What a state that can be read gives: its counts, its channels' ends, and its nodes' status by their bytes.
-use Prim.Native.Nat.{ℕ, zero, suc, _+_, _<_}
+use Prim.Native.Nat.{ℕ, zero, suc, _+_, _≤_, _<_}
 use mathlib.Core.Path.{_≡_, refl, sym, ap, _∙_}
 use mathlib.Core.List.{List}
 use native.Mathlib.Nat.{add-zero}
 use native.Mathlib.Omega.{arith}
-use borrow.Author.Tests.{ne-eqb, lt-ltb}
+use native.Mathlib.Decide.{decLt}
+use borrow.Author.Tests.{eq-eqb, ne-eqb, lt-ltb}
 use lib.Dec.{ltb, eqb}
 use lib.ListN.{length, getD, take, drop, length-map}
 use Rattle.plan.specs.Layout.{spelled}
 use Rattle.plan.specs.Plan.{planOf, planNodes, planChannels, nodeCount, channelCount, channelAt, entering}
+use Rattle.plan.proofs.AcceptedLaws.{four-at}
 use Rattle.plan.proofs.FitsLaws.{fitting}
 use Rattle.plan.proofs.PlanLaws.{node-count, channel-count}
 use Rattle.plan.proofs.ReadLaws.{byte-field}
 use Rattle.rules.specs.Line.{nodeAt, laneAt, isDown, isReplay, parents, consoleCount, stepsFrom}
-use Rattle.rules.specs.Step.{nodeDown, replaying}
+use Rattle.rules.specs.Step.{isNothing, nodeDown, replaying}
 use Rattle.rules.proofs.steps.PlanOrder.{ordered-channels}
-use Rattle.state.specs.Sizes.{pageAt, stepsOfAt}
+use Rattle.state.specs.Sizes.{pageAt, keptAt, stepsOfAt}
 use Rattle.state.specs.Node.{statusOf, crashOf}
 use Rattle.state.specs.Lane.{heardCount}
 use Rattle.state.specs.State.{lineOf}
 use Rattle.state.proofs.InPlace.{Counted, line-plan, line-counts, countsIn}
 use Rattle.state.proofs.PlanFitting.{low-long}
-use Rattle.state.proofs.OffsetLaws.{line-status, line-crashed}
+use Rattle.state.proofs.OffsetLaws.{line-status, line-crashed, line-kept-none, line-kept-some}
 use Rattle.buffer.specs.Ready.{Ready, OnChannel}
 use Rattle.state.specs.Right.{wordAt}
 
@@ -34,6 +36,17 @@ line-nodes s = ap nodeCount (line-plan s) ∙ node-count s
 
 pub line-channels : (s : List ℕ) → channelCount (lineOf s .plan) ≡ planChannels s
 line-channels s = ap channelCount (line-plan s) ∙ channel-count s
+
+-- "At most 4 belts enter".
+pub few-enter : {s : List ℕ} → Ready s → (n : ℕ) → n < planNodes s → length (entering (planOf s) n) ≤ 4
+few-enter {s} ready n inside = four-at (planOf s) (nodeCount (planOf s)) n (fitting (planOf s) (ready .fits) .degrees) (rw node-count inside) .0
+
+-- Whether an answer is kept is told by its count.
+pub kept-counted : (s : List ℕ) → Ready s → (n : ℕ) → n < planNodes s → (kept : ℕ) → kept ≡ wordAt (pageAt n + keptAt) s → isNothing (nodeAt (lineOf s) n .asked) ≡ eqb kept 0
+kept-counted s ready n inside kept e = elim (decLt 0 kept) [
+  | yes h ↦ ap isNothing (line-kept-some s (counted ready) n inside (omega (arith, e))) ∙ sym (ne-eqb kept 0 (λ z. omega arith))
+  | no h ↦ ap isNothing (line-kept-none s (counted ready) n inside (omega (arith, e, h))) ∙ sym (eq-eqb kept 0 (omega (arith, h)))
+]
 
 -- ---- a node's status
 

@@ -5,7 +5,7 @@ use mathlib.Core.List.{List}
 use lib.ListN.{getD, take, drop}
 use lib.Dec.{leb, eqb}
 use Rattle.rules.specs.Line.{logLimit, queueLimit, heldLimit, targetLimit}
-use Rattle.state.specs.Sizes.{countSize, statusAt, crashedAt, logAt, entrySize, heldAt, heldSize, targetsAt, targetSize, nodeRestAt, nodeRest, heardAt, parentLimit, queueAt, messageSize, lowAt, laneRestAt, laneRest}
+use Rattle.state.specs.Sizes.{countSize, statusAt, crashedAt, logAt, entrySize, heldAt, heldSize, targetsAt, targetSize, keptAt, keptSize, nodeRestAt, nodeRest, heardAt, parentLimit, queueAt, messageSize, lowAt, laneRestAt, laneRest}
 use Rattle.state.specs.Right.{wordAt}
 use Rattle.buffer.specs.Zero.{zeroBytes}
 
@@ -34,6 +34,10 @@ heldExact a s = recordExact a s && originExact (a + 13) s && zeroAt (a + 18) 2 s
 unfoldable pub targetExact : ℕ → List ℕ → Bool
 targetExact a s = zeroAt (a + 9) 3 s
 
+-- A kept answer has no unused bytes.
+abbrev pub askedExact : ℕ → List ℕ → Bool
+askedExact a s = true
+
 -- So many slots from an offset on.
 abbrev pub slotsExact : (ℕ → List ℕ → Bool) → ℕ → ℕ → ℕ → List ℕ → Bool
 slotsExact slot size a zero s = true
@@ -48,7 +52,7 @@ unfoldable pub pageExact : ℕ → List ℕ → Bool
 unfolding entryExact heldExact targetExact listExact
 pageExact a s =
     leb (getD s (a + statusAt) 0) 2 && leb (getD s (a + crashedAt) 0) 1 && zeroAt (a + 2) 2 s && listExact entryExact logLimit entrySize (a + logAt) s
-    && listExact heldExact heldLimit heldSize (a + heldAt) s && listExact targetExact targetLimit targetSize (a + targetsAt) s && zeroAt (a + nodeRestAt) nodeRest s
+    && listExact heldExact heldLimit heldSize (a + heldAt) s && listExact targetExact targetLimit targetSize (a + targetsAt) s && listExact askedExact 1 keptSize (a + keptAt) s && zeroAt (a + nodeRestAt) nodeRest s
 
 -- A channel's block at a, on which so many are heard.
 unfoldable pub blockExact : ℕ → ℕ → List ℕ → Bool

@@ -10,7 +10,7 @@ pub const STEPS: usize = 512;
 // A node's page; node 0's stands behind the plan's.
 pub const PAGE: usize = 4_096;
 
-// In it: its time, its log, its held records, its targets, and what is unused.
+// In it: its time, its log, its held records, its targets, its kept answer, and what is unused.
 pub const TIME: usize = 4;
 
 pub const LOG: usize = 8;
@@ -19,7 +19,9 @@ pub const HELD: usize = 1_548;
 
 pub const TARGETS: usize = 2_832;
 
-pub const PAGE_REST: usize = 3_604;
+pub const KEPT: usize = 3_604;
+
+pub const PAGE_REST: usize = 3_632;
 
 // The channels' blocks, and one of them.
 pub const BLOCKS: usize = 53_248;
@@ -43,6 +45,8 @@ pub const LOG_SLOTS: usize = LOG + COUNT;
 pub const HELD_SLOTS: usize = HELD + COUNT;
 
 pub const TARGET_SLOTS: usize = TARGETS + COUNT;
+
+pub const KEPT_SLOT: usize = KEPT + COUNT;
 
 pub const QUEUE_SLOTS: usize = QUEUE + COUNT;
 

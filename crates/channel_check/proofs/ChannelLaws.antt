@@ -23,7 +23,7 @@ use Rattle.state.proofs.InPlace.{line-plan}
 use Rattle.state.proofs.OffsetLaws.{line-mark, line-queue-count}
 use Rattle.buffer.specs.Ready.{OnChannel}
 use Rattle.buffer.proofs.ReadyLaws.{counted}
-use Rattle.buffer.proofs.BytesLaws.{or-zero}
+use Rattle.buffer.proofs.BytesLaws.{or-zero, zero-parts}
 use Rattle.buffer.specs.Zero.{zeroBytes}
 use Rattle.buffer.specs.Exact.{zeroAt}
 use Rattle.basics.specs.Bools.{below-or-not}
@@ -60,15 +60,6 @@ max-above (suc a) b = lt-ltb 0 (max (suc a) b) (omega arith) ∙ sym (rw (lt-ltb
 pub greatest-above : (ns : List ℕ) → ltb 0 (greatestOf ns) ≡ anyOf (ltb 0) ns
 greatest-above [] = refl
 greatest-above (n ∷ ns) = max-above n (greatestOf ns) ∙ ap (λ (t : Bool). ltb 0 n || t) (greatest-above ns)
-
--- ---- bytes that are all 0
-
-zero-join : (s t : List ℕ) → zeroBytes (s ++ t) ≡ (zeroBytes s && zeroBytes t)
-zero-join [] t = refl
-zero-join (b ∷ s) t = ap (λ (x : Bool). eqb 0 b && x) (zero-join s t) ∙ sym (and-assoc (eqb 0 b) (zeroBytes s) (zeroBytes t))
-
-pub zero-parts : (a n m : ℕ) (s : List ℕ) → zeroAt a (n + m) s ≡ (zeroAt a n s && zeroAt (a + n) m s)
-zero-parts a n m s = ap zeroBytes (take-add n m (drop a s)) ∙ zero-join (take n (drop a s)) (take m (drop n (drop a s))) ∙ ap (λ (t : List ℕ). zeroAt a n s && zeroBytes (take m t)) (drop-drop n a s)
 
 -- A number is 0 where all its bytes are.
 digit-zero : (n b : ℕ) → eqb 0 (n * 256 + b) ≡ (eqb 0 n && eqb 0 b)

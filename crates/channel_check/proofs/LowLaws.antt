@@ -23,7 +23,8 @@ use Rattle.buffer.specs.Exact.{zeroAt}
 use Rattle.buffer.proofs.ReadyLaws.{counted}
 use Rattle.basics.specs.Bools.{both-true}
 use Rattle.channel_check.specs.Channel.{lowsWithin}
-use Rattle.channel_check.proofs.ChannelLaws.{zero-parts, word-zero}
+use Rattle.buffer.proofs.BytesLaws.{zero-parts}
+use Rattle.channel_check.proofs.ChannelLaws.{word-zero}
 
 within-none : (n : ℕ) → leb n 0 ≡ eqb 0 n
 within-none zero = refl

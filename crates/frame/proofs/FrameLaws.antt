@@ -79,7 +79,7 @@ unfolding badKind
 kind-long f kind extra k x few e = record { head = go (eqb kind 1) long; feed = λ one. let all : length f ≡ 13 + extra = rw (eq-eqb kind 1 one) at long in omega arith; few = few }
   where
     long : length f ≡ cond (eqb kind 1) 13 5 + extra
-    long = rw (k, x) (eqb-true (length f) (cond (eqb (frameKind f) 1) 13 5 + consoleBytes f) (both-true (leb 1 (frameKind f) && leb (frameKind f) 6) (eqb (length f) (cond (eqb (frameKind f) 1) 13 5 + consoleBytes f)) (not-false _ e) .1))
+    long = rw (k, x) (eqb-true (length f) (cond (eqb (frameKind f) 1) 13 5 + consoleBytes f) (both-true (leb 1 (frameKind f) && leb (frameKind f) 8) (eqb (length f) (cond (eqb (frameKind f) 1) 13 5 + consoleBytes f)) (not-false _ e) .1))
 
     go : (t : Bool) → length f ≡ cond t 13 5 + extra → 5 + extra ≤ length f
     go true q = omega arith

@@ -9,7 +9,7 @@ use Rattle.plan.specs.Record.{recordLayout, recordFits}
 use Rattle.rules.specs.Line.{consoleCount}
 use Rattle.rules.specs.Frame as rules
 use Rattle.frame.specs.declared.Frame.{Frame}
-use Rattle.frame.specs.declared.Frame.the-variants.{Feed, Send, Take, Crash, Recover, Trim}
+use Rattle.frame.specs.declared.Frame.the-variants.{Feed, Send, Take, Crash, Recover, Trim, Ask, Commit}
 use Rattle.frame.specs.declared.Reading.{Reading}
 use Rattle.frame.specs.declared.Reading.the-variants.{Refused, WellFormed}
 
@@ -21,6 +21,8 @@ Asks (Take b) g = g ≡ rules.take b
 Asks (Crash n) g = g ≡ rules.crash n
 Asks (Recover n) g = g ≡ rules.recover n
 Asks (Trim n) g = g ≡ rules.trim n
+Asks (Ask n) g = g ≡ rules.ask n
+Asks (Commit n) g = g ≡ rules.commit n
 
 -- A well-formed frame of a console, and what it asks.
 pub record AskedBy (frame : List ℕ) (console : ℕ) (f : Frame) : Type 0 where

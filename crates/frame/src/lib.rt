@@ -1,4 +1,4 @@
-// Frames (document 01, "Clocks and steps"; document 02, 2026-01 and 2026-04): the refusals 9 to 11 and 25, whose frame it is, and what it asks, read once.
+// Frames (document 01, "Clocks and steps"; document 02, 2026-01, 2026-04 and 2026-07): the refusals 9 to 11 and 25, whose frame it is, and what it asks, read once.
 ghost use mathlib.Core.Path.{_≡_};
 ghost use mathlib.Core.Bool.{cond};
 ghost use Prim.Native.Nat.{_+_, _≤_, _<_};
@@ -24,6 +24,8 @@ pub enum Frame {
     Crash(usize),
     Recover(usize),
     Trim(usize),
+    Ask(usize),
+    Commit(usize),
 }
 
 // A frame as it is read: the first of 9, 10, 11 and 25 that applies; or the console whose frame it is, and what it asks.
@@ -75,7 +77,7 @@ fn bad_kind(frame: &[u8], kind: u8, extra: usize) -> bool
     ensures { λ r. ⌜ r ≡ badKind (now (frame .entry)) ⌝ }
 {
     let size = kind_size(kind) + extra;
-    !((1 <= kind) & (kind <= 6) & (frame.len() == size))
+    !((1 <= kind) & (kind <= 8) & (frame.len() == size))
 }
 
 // The number of a node or a channel, behind so many bytes for the console.
@@ -110,7 +112,9 @@ fn frame_of(frame: &[u8], kind: u8, extra: usize) -> Frame
         3 => Frame::Take(n),
         4 => Frame::Crash(n),
         5 => Frame::Recover(n),
-        _ => Frame::Trim(n),
+        6 => Frame::Trim(n),
+        7 => Frame::Ask(n),
+        _ => Frame::Commit(n),
     }
 }
 

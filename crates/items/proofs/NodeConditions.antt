@@ -11,7 +11,7 @@ use Rattle.plan.specs.Plan.{entering}
 use Rattle.rules.specs.Lists.{anyOf, joined}
 use Rattle.rules.specs.Line.{logLimit, heldLimit, targetLimit, Entry, Held, Target, Node, Line, nodeAt, acceptedSteps}
 use Rattle.rules.specs.Replay.{passedOn}
-use Rattle.rules.specs.Damaged.{workedOn, recordPastLimits, nodePastLimits, isParent, notParent, beforeNotParent, nodeWrongParent, originTimes, nodeNamedTimes, nodeOtherTimes, nodeTimePast, nodeTimeZero, originWrong, beforeWrong, nodeMakerWrong, logWrong, setWrong, pastLane, pastClock, heldWrong, heldNotPassed, markMissing, markOnEnd, replayWrong, nodeHolds, nodeDamaged}
+use Rattle.rules.specs.Damaged.{workedOn, recordPastLimits, nodePastLimits, isParent, notParent, beforeNotParent, nodeWrongParent, originTimes, nodeNamedTimes, nodeOtherTimes, nodeTimePast, nodeTimeZero, originWrong, beforeWrong, nodeMakerWrong, logWrong, setWrong, pastLane, pastClock, heldWrong, heldNotPassed, markMissing, markOnEnd, replayWrong, answerWrong, nodeHolds, nodeDamaged}
 use Rattle.items.specs.Items.{timesRise, setRight, countsRight}
 use Rattle.items.proofs.Tests.{not-above, all-true, all-false, false-all, any-append, any-map, any-joined}
 use Rattle.items.proofs.Rises.{rise-same}
@@ -70,6 +70,7 @@ module _ (l : Line) (n : ℕ) where
     pub missing : markMissing x ≡ false
     pub on-end : markOnEnd (l .plan) n x ≡ false
     pub again : replayWrong l n ≡ false
+    pub kept : answerWrong l n ≡ false
     pub holds : nodeHolds x ≡ false
 
 -- The conditions with several parts.
@@ -115,13 +116,13 @@ module _ (l : Line) (n : ℕ) where
   abbrev others : List Bool
   others =
       nodeWrongParent (l .plan) n (x l n) ∷ nodeTimePast (acceptedSteps l) (x l n) ∷ nodeTimeZero (x l n) ∷ nodeMakerWrong (l .plan) n (x l n) ∷ logWrong (x l n) ∷ setWrong (l .plan) n (x l n) ∷ pastClock l n
-      ∷ heldWrong l n ∷ heldNotPassed (l .plan) n (x l n) ∷ markMissing (x l n) ∷ markOnEnd (l .plan) n (x l n) ∷ replayWrong l n ∷ nodeHolds (x l n) ∷ []
+      ∷ heldWrong l n ∷ heldNotPassed (l .plan) n (x l n) ∷ markMissing (x l n) ∷ markOnEnd (l .plan) n (x l n) ∷ replayWrong l n ∷ answerWrong l n ∷ nodeHolds (x l n) ∷ []
 
   pub node-clear : nodeDamaged l n ≡ false → Clear l n
   unfolding nodeDamaged nodeWrongParent nodeMakerWrong setWrong pastClock heldNotPassed
   node-clear e =
       let y : Node = nodeAt l n in
-      let (limits, (parents, (past, (nought, (makers, (log, (sets, (clock, (rows, (passed, (missing, (on-end, (again, holds))))))))))))) = all-false (nodePastLimits y) others e in
+      let (limits, (parents, (past, (nought, (makers, (log, (sets, (clock, (rows, (passed, (missing, (on-end, (again, (kept, holds)))))))))))))) = all-false (nodePastLimits y) others e in
       let (counts, records) = limits-clear y limits in
       let (inputs, targets) = neither-true (anyOf (wrongInput l n) (workedOn y)) (anyOf (wrongTarget l n) (y .targets)) parents in
       let (log-past, (inputs-past, (time-past, targets-past))) =
@@ -147,6 +148,7 @@ module _ (l : Line) (n : ℕ) where
         missing = missing;
         on-end = on-end;
         again = again;
+        kept = kept;
         holds = holds;
       }
 
@@ -159,4 +161,4 @@ module _ (l : Line) (n : ℕ) where
       let past : nodeTimePast (acceptedSteps l) y ≡ false = past-is y (acceptedSteps l) ∙ rw (c .log-past, c .inputs-past, c .time-past, c .targets-past) in
       let nought : nodeTimeZero y ≡ false = zero-is y ∙ rw (c .log-nought, c .inputs-nought) in
       let log = log-is y ∙ ap not (c .log-rises) in
-      false-all (nodePastLimits y) others (limits, (parents, (past, (nought, (c .makers, (log, (c .sets, (c .clock, (c .rows, (c .passed, (c .missing, (c .on-end, (c .again, c .holds)))))))))))))
+      false-all (nodePastLimits y) others (limits, (parents, (past, (nought, (c .makers, (log, (c .sets, (c .clock, (c .rows, (c .passed, (c .missing, (c .on-end, (c .again, (c .kept, c .holds))))))))))))))

@@ -15,13 +15,13 @@ use Rattle.rules.specs.Replay.{heldEntry, passedOn}
 use Rattle.rules.specs.Step.{replaying}
 use Rattle.rules.specs.Damaged.{workedOn, recordPastLimits, isParent, notParent, markMissing, markOnEnd, replayWrong, nodeHolds, nodeDamaged}
 use Rattle.rules.proofs.lists.Members.{In, in-left, in-right, in-map, map-in, append-in, none-any, all-in}
-use Rattle.items.specs.Items.{ifFound, fromSender, recordRight, originRight, timesRise, entryRight, heldRight, heldRise, noneHeld, targetRight, countsRight, setRight, entriesRight, logRight, heldAllRight, statusRight, replayRight, nodeRight}
+use Rattle.items.specs.Items.{ifFound, fromSender, recordRight, originRight, timesRise, entryRight, heldRight, heldRise, noneHeld, targetRight, countsRight, setRight, entriesRight, logRight, heldAllRight, statusRight, replayRight, nodePlain, keptRight, restartRight, nodeRight}
 use Rattle.items.proofs.Tests.{opposite, not-above, all-true, all-false, each-all, each-none}
 use Rattle.items.proofs.Rises.{rise-within}
 use Rattle.items.proofs.NodeConditions.{pastLimits, inputTimes, targetTimes, wrongInput, wrongMaker, pastEntry, wrongTarget, notPassed, wrongSet, Clear, node-clear, clear-node}
 use Rattle.items.proofs.Origins.{Formed, Clean, parent-found, clean-right, right-clean}
 use Rattle.items.proofs.HeldRows.{held-opposite}
-use Rattle.items.proofs.ReplayItems.{replay-items}
+use Rattle.items.proofs.ReplayItems.{replay-items, answer-items}
 
 -- ---- what a node has worked on, and its targets
 
@@ -81,6 +81,7 @@ module _ (l : Line) (line : Formed l) (n : ℕ) (inside : n < nodeCount (l .plan
     targets : (t : Target) → In t (x .targets) → targetRight l n t ≡ true
     status : statusRight (l .plan) n x ≡ true
     replays : (not (replaying l n) || replayRight l n) ≡ true
+    kept : keptRight l n (x .asked) ≡ true
 
   held-among : (h : Held) → In h (x .held) → In (heldEntry h) (workedOn x)
   held-among h i = in-right (x .log) (in-map heldEntry i)
@@ -99,13 +100,16 @@ module _ (l : Line) (line : Formed l) (n : ℕ) (inside : n < nodeCount (l .plan
         each-all (targetRight l n) (x .targets) (s .targets),
         s .status,
         s .replays,
+        s .kept,
       )
 
   right-sound : nodeRight l n ≡ true → Sound
   unfolding nodeRight logRight entriesRight heldAllRight
   right-sound e =
-      let (counts, (time, (log, (held, (targets, (status, replays)))))) =
-      all-true (countsRight x) (leb (x .time) (acceptedSteps l) ∷ logRight l n (x .log) ∷ heldAllRight l n (x .held) ∷ allOf (targetRight l n) (x .targets) ∷ statusRight (l .plan) n x ∷ (not (replaying l n) || replayRight l n) ∷ []) e in
+      let (plain, restart) = both-true (nodePlain l n) (restartRight l n) e in
+      let (replays, kept) = both-true (not (replaying l n) || replayRight l n) (keptRight l n (x .asked)) restart in
+      let (counts, (time, (log, (held, (targets, status))))) =
+      all-true (countsRight x) (leb (x .time) (acceptedSteps l) ∷ logRight l n (x .log) ∷ heldAllRight l n (x .held) ∷ allOf (targetRight l n) (x .targets) ∷ statusRight (l .plan) n x ∷ []) plain in
       let (entries, (log-rises, sets)) = all-true (allOf (entryRight l n) (x .log)) (timesRise (λ (e : Entry). e .time) 0 (x .time) (x .log) ∷ allOf (setRight (l .plan) n) (x .log) ∷ []) log in
       let (helds, held-rises) = both-true (allOf (heldRight l n) (x .held)) (heldRise noneHeld (x .held)) held in
       record {
@@ -122,6 +126,7 @@ module _ (l : Line) (line : Formed l) (n : ℕ) (inside : n < nodeCount (l .plan
         targets = λ t i. all-in (targetRight l n) targets i;
         status = status;
         replays = replays;
+        kept = kept;
       }
 
   -- The held records' senders are parents.
@@ -169,6 +174,7 @@ module _ (l : Line) (line : Formed l) (n : ℕ) (inside : n < nodeCount (l .plan
         targets = λ t i. target-right l line n t (none-any (wrongTarget l n) (c .parents) i) (none-any (targetTimes (ltb (acceptedSteps l))) (c .targets-past) i);
         status = not-false (statusRight (l .plan) n x) (sym status-is ∙ rw (c .missing, c .on-end, c .holds));
         replays = not-false (not (replaying l n) || replayRight l n) (sym replays-is ∙ c .again);
+        kept = not-false (keptRight l n (x .asked)) (sym (answer-items l line n inside) ∙ c .kept);
       }
 
   sound-clear : Sound → Clear l n
@@ -196,6 +202,7 @@ module _ (l : Line) (line : Formed l) (n : ℕ) (inside : n < nodeCount (l .plan
         missing = missing;
         on-end = on-end;
         again = replays-is ∙ ap not (s .replays);
+        kept = answer-items l line n inside ∙ ap not (s .kept);
         holds = holds;
       }
 

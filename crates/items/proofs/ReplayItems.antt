@@ -1,25 +1,25 @@
--- A replaying node is what Recover would give exactly if it passes the test by its targets and its rows.
+-- A replaying node, and a kept answer, is what Recover would give exactly if it passes the test by its targets and its rows.
 use Prim.Native.Nat.{ℕ, _<_}
-use mathlib.Core.Path.{_≡_, refl, ap, _∙_}
-use mathlib.Core.Bool.{Bool, true, false, not, _&&_}
+use mathlib.Core.Path.{_≡_, refl, sym, ap, _∙_}
+use mathlib.Core.Bool.{Bool, true, false, not, _&&_, _||_, and-assoc, true≢false}
 use mathlib.Core.List.{List, [], _∷_}
-use mathlib.Core.Option.{none, some}
+use mathlib.Core.Option.{Option, none, some}
 use lib.ListN.{length}
 use lib.Dec.{leb, ltb, eqb}
 use Rattle.plan.specs.Plan.{Plan, channelAt, nodeCount, entering, leaving}
 use Rattle.rules.specs.Lists.{isEmpty, allOf}
-use Rattle.rules.specs.Line.{targetLimit, Target, Node, Lane, Line, nodeAt, laneAt, senderOf, withNode, withLanes, freshLane}
-use Rattle.rules.specs.Recover.{lowOf, restored, targetsOf, conflict, rowGoal, rowComplete, rowsComplete, statusOf, recovered}
+use Rattle.rules.specs.Line.{targetLimit, Target, Asked, Node, Lane, Line, nodeAt, laneAt, senderOf, withNode, withLanes, freshLane}
+use Rattle.rules.specs.Recover.{lowOf, restored, targetsOf, conflict, rowGoal, rowComplete, rowsComplete, statusOf, answerOf, recovered}
 use Rattle.rules.specs.Replay.{isHeld, replayEnd, endedIfComplete}
-use Rattle.rules.specs.Step.{replaying, recoveredLine, recoverGives}
-use Rattle.rules.specs.Damaged.{sameTargets, replaysAs, replayWrong}
+use Rattle.rules.specs.Step.{isNothing, replaying, recoveredLine, recoverGives}
+use Rattle.rules.specs.Damaged.{sameTargets, sameAnswer, replaysAs, replayWrong, answersAs, answerWrong}
 use Rattle.rules.proofs.lists.Members.{In}
 use Rattle.rules.proofs.line.LineLaws.{node-there, plan-kept}
 use Rattle.rules.proofs.line.LanesLaws.{lanes-node, lanes-plan}
 use Rattle.rules.proofs.invariant.Swept.{swept-enters}
 use Rattle.rules.proofs.line.Joins.{entering-in}
 use Rattle.rules.proofs.undamaged.Restored.{all-same}
-use Rattle.items.specs.Items.{rowRestored, replayRight}
+use Rattle.items.specs.Items.{rowRestored, replayRight, answerRight, keptRight}
 use Rattle.items.proofs.Tests.{not-above}
 use Rattle.items.proofs.Origins.{Formed}
 
@@ -51,7 +51,7 @@ module _ (l : Line) (n : ℕ) where
 
 module _ (l : Line) (line : Formed l) (n : ℕ) (inside : n < nodeCount (l .plan)) where
   abbrev restoredNode : Node
-  restoredNode = record { status = statusOf (targetsOf l n); crashed = true; time = lowOf l n; log = []; held = []; targets = targetsOf l n }
+  restoredNode = record { status = statusOf (targetsOf l n); crashed = true; time = lowOf l n; log = []; held = []; targets = targetsOf l n; asked = none }
 
   abbrev left : ℕ → Lane → Lane
   left c s = record { mark = s .taken; taken = s .taken; heard = s .heard; queue = s .queue; low = s .low }
@@ -107,6 +107,33 @@ module _ (l : Line) (line : Formed l) (n : ℕ) (inside : n < nodeCount (l .plan
       ap (replaysAs n (nodeAt l n)) (few-enough l n m ∙ with-targets l n t ts c e)
       ∙ ended t ts e (allOf (rowRestored l n) (entering (l .plan) n)) rows-restored
       ∙ rw (not-above (length (targetsOf l n)) targetLimit, m, c, e)
+
+  -- Whether Recover gives anything.
+  nothing-ended : (t : Target) (ts : List Target) → targetsOf l n ≡ t ∷ ts → (done : Bool) → rowsComplete (recovered n l) n ≡ done → isNothing (endedIfComplete n (recovered n l)) ≡ done
+  unfolding endedIfComplete
+  nothing-ended t ts e true q = rw (q, endedIfComplete, no-end t ts e)
+  nothing-ended t ts e false q = rw (q, endedIfComplete)
+
+  given : (many clash : Bool) (ts : List Target) → ltb targetLimit (length (targetsOf l n)) ≡ many → conflict (targetsOf l n) ≡ clash → targetsOf l n ≡ ts
+      → not (isNothing (recoverGives l n)) ≡ (leb (length (targetsOf l n)) targetLimit && not (not (isEmpty (targetsOf l n)) && (conflict (targetsOf l n) || allOf (rowRestored l n) (entering (l .plan) n))))
+  given true clash ts m c e = ap (λ (o : Option Line). not (isNothing o)) (too-many l n m) ∙ rw (not-above (length (targetsOf l n)) targetLimit, m)
+  given false true [] m c e = absurd (true≢false (sym c ∙ ap conflict e))
+  given false true (t ∷ ts) m c e = ap (λ (o : Option Line). not (isNothing o)) (few-enough l n m ∙ clashing l n c) ∙ rw (not-above (length (targetsOf l n)) targetLimit, m, c, e)
+  given false false [] m c e = ap (λ (o : Option Line). not (isNothing o)) (few-enough l n m ∙ no-targets l n c e) ∙ rw (not-above (length (targetsOf l n)) targetLimit, m, c, e)
+  given false false (t ∷ ts) m c e =
+      ap (λ (o : Option Line). not (isNothing o)) (few-enough l n m ∙ with-targets l n t ts c e)
+      ∙ ap not (nothing-ended t ts e (allOf (rowRestored l n) (entering (l .plan) n)) rows-restored)
+      ∙ rw (not-above (length (targetsOf l n)) targetLimit, m, c, e)
+
+  pub answer-items : answerWrong l n ≡ not (keptRight l n (nodeAt l n .asked))
+  unfolding answerWrong answerRight
+  answer-items = ap not (one (nodeAt l n .asked))
+    where
+      one : (o : Option Asked) → answersAs l n o ≡ keptRight l n o
+      one none = refl
+      one (some a) =
+          and-assoc (not (isNothing (recoverGives l n))) (sameAnswer a (answerOf l n)) (sameTargets (nodeAt l n .targets) (targetsOf l n))
+          ∙ ap (λ (t : Bool). t && (sameAnswer a (answerOf l n) && sameTargets (nodeAt l n .targets) (targetsOf l n))) (given (ltb targetLimit (length (targetsOf l n))) (conflict (targetsOf l n)) (targetsOf l n) refl refl refl)
 
   pub replay-items : replaying l n ≡ true → replayWrong l n ≡ not (replayRight l n)
   unfolding replayWrong

@@ -11,11 +11,11 @@ use Rattle.plan.specs.Plan.{Plan, nodeCount, channelCount, channelAt, entering,
 use Rattle.plan.specs.Mask.{setOf}
 use Rattle.plan.specs.Check.{planFits}
 use Rattle.rules.specs.Lists.{isEmpty, allOf}
-use Rattle.rules.specs.Line.{logLimit, queueLimit, heldLimit, targetLimit, stepLimit, consoleCount, Origin, fed, made, Message, Entry, Held, Target, Node, Lane, Line, nodeAt, laneAt, nodeNumbers, channelNumbersOf, senderOf, parents, acceptedSteps}
-use Rattle.rules.specs.Recover.{lowOf, restored, targetsOf, conflict, rowGoal}
+use Rattle.rules.specs.Line.{logLimit, queueLimit, heldLimit, targetLimit, stepLimit, consoleCount, Origin, fed, made, Message, Entry, Held, Target, Asked, Node, Lane, Line, nodeAt, laneAt, nodeNumbers, channelNumbersOf, senderOf, parents, acceptedSteps}
+use Rattle.rules.specs.Recover.{lowOf, restored, targetsOf, conflict, rowGoal, answerOf}
 use Rattle.rules.specs.Replay.{passedOn}
 use Rattle.rules.specs.Step.{endDown, replaying}
-use Rattle.rules.specs.Damaged.{isFed, markMissing, markOnEnd, nodeHolds, marksJoined, channelHolds, lowWrong, sameTargets}
+use Rattle.rules.specs.Damaged.{isFed, markMissing, markOnEnd, nodeHolds, marksJoined, channelHolds, lowWrong, sameTargets, sameAnswer}
 
 -- The first of some channels that node s sends on, and its place among them, counted from k.
 abbrev pub fromSender : Plan → ℕ → List ℕ → Option ℕ
@@ -115,20 +115,31 @@ replayRight l n =
     leb (length (targetsOf l n)) targetLimit && not (conflict (targetsOf l n)) && not (isEmpty (targetsOf l n)) && not (allOf (rowRestored l n) (entering (l .plan) n))
     && eqb (nodeAt l n .time) (lowOf l n) && sameTargets (nodeAt l n .targets) (targetsOf l n)
 
--- A node but for what a replay asks; what a replay asks; both.
+-- 2026-07: a kept answer is what Recover would give: the targets are not too many, do not conflict and leave some row incomplete if there are any, and the answer is what is found, the node's own targets beside it.
+unfoldable pub answerRight : Line → ℕ → Asked → Bool
+unfolding entering targetsOf rowRestored answerOf
+answerRight l n a =
+    leb (length (targetsOf l n)) targetLimit && not (not (isEmpty (targetsOf l n)) && (conflict (targetsOf l n) || allOf (rowRestored l n) (entering (l .plan) n)))
+    && (sameAnswer a (answerOf l n) && sameTargets (nodeAt l n .targets) (targetsOf l n))
+
+abbrev pub keptRight : Line → ℕ → Option Asked → Bool
+keptRight l n none = true
+keptRight l n (some a) = answerRight l n a
+
+-- A node but for what its restart asks; what a replay or a kept answer asks; both.
 unfoldable pub nodePlain : Line → ℕ → Bool
 unfolding countsRight logRight heldAllRight targetRight statusRight
 nodePlain l n =
     let x = nodeAt l n in
     countsRight x && leb (x .time) (acceptedSteps l) && logRight l n (x .log) && heldAllRight l n (x .held) && allOf (targetRight l n) (x .targets) && statusRight (l .plan) n x
 
-unfoldable pub replayAsked : Line → ℕ → Bool
-unfolding replayRight
-replayAsked l n = not (replaying l n) || replayRight l n
+unfoldable pub restartRight : Line → ℕ → Bool
+unfolding replayRight answerRight
+restartRight l n = (not (replaying l n) || replayRight l n) && keptRight l n (nodeAt l n .asked)
 
 unfoldable pub nodeRight : Line → ℕ → Bool
-unfolding nodePlain replayAsked
-nodeRight l n = nodePlain l n && replayAsked l n
+unfolding nodePlain restartRight
+nodeRight l n = nodePlain l n && restartRight l n
 
 -- A message; its own time is tested in the pass over the queue, which is empty where an end is down. Then the channel.
 unfoldable pub messageRight : Line → ℕ → Message → Bool

@@ -1,7 +1,7 @@
 -- What the check's functions find, tied to the definitions of the whole state.
 use Prim.Native.Nat.{ℕ, suc, _+_, _*_, _-_, _≤_, _<_}
 use mathlib.Core.Path.{_≡_, refl, sym, ap, _∙_}
-use mathlib.Core.Bool.{Bool, true, false, _&&_, and-assoc, and-true}
+use mathlib.Core.Bool.{Bool, true, false, not, _&&_, _||_, and-assoc, and-true}
 use mathlib.Core.List.{List, [], _∷_}
 use native.Mathlib.Nat.{sub-zero}
 use native.Mathlib.Numerals.{add-one}
@@ -14,12 +14,12 @@ use Rattle.plan.specs.Lawful.{Bytes}
 use Rattle.plan.specs.Plan.{sizeByHead, planNodes, planChannels}
 use Rattle.plan.specs.Check.{planRefusal}
 use Rattle.rules.specs.Lists.{allOf, upTo}
-use Rattle.rules.specs.Line.{stepLimit, stepsFrom, acceptedSteps}
+use Rattle.rules.specs.Line.{Line, nodeAt, stepLimit, stepsFrom, acceptedSteps}
 use Rattle.rules.specs.Step.{replaying}
 use Rattle.state.specs.Sizes.{stateSize, pageSize, planArea, stepsAt, stepsRest, nodePages, pageAt, laneBlocks, blockSize, blocksAt, blockAt, tailAt, tailSize, stepsSize}
 use Rattle.state.specs.State.{lineOf}
 use Rattle.state.proofs.StoredPlan.{storedPlan, stored-accepted}
-use Rattle.items.specs.Items.{replayRight, nodePlain, replayAsked, stepsRight}
+use Rattle.items.specs.Items.{replayRight, keptRight, nodePlain, restartRight, stepsRight}
 use Rattle.buffer.specs.Exact.{zeroAt, pageExact}
 use Rattle.buffer.specs.Ready.{Ready}
 use Rattle.line.specs.Whole.{PagesRight, planExact, restExact, nodeChecked, channelChecked, stateChecked}
@@ -87,14 +87,10 @@ plan-ready s long bytes e =
     let few = fits-counted s fits in
     record { long = long; fits = fits; nodes = few .nodes; channels = few .channels }
 
--- What a replay asks, by whether the node replays.
-pub replay-none : (s : List ℕ) (k : ℕ) → replaying (lineOf s) k ≡ false → true ≡ replayAsked (lineOf s) k
-unfolding replayAsked
-replay-none s k e = rw e refl
-
-pub replay-some : (s : List ℕ) (k : ℕ) → replaying (lineOf s) k ≡ true → replayRight (lineOf s) k ≡ replayAsked (lineOf s) k
-unfolding replayAsked
-replay-some s k e = rw e refl
+-- What a restart asks, of the replay and of the kept answer.
+pub restart-parts : (l : Line) (k : ℕ) → ((not (replaying l k) || replayRight l k) && keptRight l k (nodeAt l k .asked)) ≡ restartRight l k
+unfolding restartRight
+restart-parts l k = refl
 
 -- The counts, one for each console: tested, and added up.
 module _ (s : List ℕ) (few : Counted s) where
@@ -124,7 +120,7 @@ pub steps-wrong : (s : List ℕ) → planExact s ≡ true → stepsRight (lineOf
 unfolding stateChecked
 steps-wrong s plan e = rw (plan, e) (one (restExact s))
   where
-    one : (t : Bool) → false ≡ (t && false && allOf (nodeChecked s) (upTo 0 (planNodes s)) && allOf (channelChecked s) (upTo 0 (planChannels s)) && allOf (replayAsked (lineOf s)) (upTo 0 (planNodes s)))
+    one : (t : Bool) → false ≡ (t && false && allOf (nodeChecked s) (upTo 0 (planNodes s)) && allOf (channelChecked s) (upTo 0 (planChannels s)) && allOf (restartRight (lineOf s)) (upTo 0 (planNodes s)))
     one true = refl
     one false = refl
 
@@ -137,15 +133,15 @@ module _ (s : List ℕ) (n m : ℕ) {rest nodes channels : Bool} (plan : planExa
   abbrev found : Bool
   found = rest && nodes && channels
 
-  found-is : stateChecked s ≡ (found && allOf (replayAsked (lineOf s)) (upTo 0 n))
+  found-is : stateChecked s ≡ (found && allOf (restartRight (lineOf s)) (upTo 0 n))
   unfolding stateChecked
   found-is = rw (plan, a, b, c, within, and-true (restExact s), same, same′) refl
 
   pub found-wrong : found ≡ false → false ≡ stateChecked s
   found-wrong e = sym (found-is ∙ rw e refl)
 
-  pub found-replays : found ≡ true → {r : Bool} → r ≡ allOf (replayAsked (lineOf s)) (upTo 0 n) → r ≡ stateChecked s
-  found-replays e k = k ∙ sym (found-is ∙ rw e refl)
+  pub found-restarts : found ≡ true → {r : Bool} → r ≡ allOf (restartRight (lineOf s)) (upTo 0 n) → r ≡ stateChecked s
+  found-restarts e k = k ∙ sym (found-is ∙ rw e refl)
 
   -- Where nothing wrong is found so far, every page has right bytes.
   pub found-pages : found ≡ true → PagesRight s

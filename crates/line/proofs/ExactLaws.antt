@@ -13,11 +13,11 @@ use borrow.Author.Tests.{eq-eqb, eqb-true, le-leb, leb-true}
 use Rattle.plan.specs.Lawful.{Zeros}
 use Rattle.basics.specs.Bools.{both-true}
 use Rattle.rules.specs.Line.{logLimit, queueLimit, heldLimit, targetLimit}
-use Rattle.state.specs.Sizes.{countSize, entrySize, heldSize, targetSize, messageSize, heardAt, parentLimit, lowAt}
-use Rattle.state.specs.Right.{ZerosAt, wordAt, MessageRight, EntryRight, HeldRight, TargetRight, ListRight, NodeRight, LaneRight}
+use Rattle.state.specs.Sizes.{countSize, entrySize, heldSize, targetSize, keptSize, messageSize, heardAt, parentLimit, lowAt}
+use Rattle.state.specs.Right.{ZerosAt, wordAt, MessageRight, EntryRight, HeldRight, TargetRight, AskedRight, ListRight, NodeRight, LaneRight}
 use Rattle.state.proofs.BlockRight.{spelled-zero}
 use Rattle.buffer.specs.Zero.{zeroBytes}
-use Rattle.buffer.specs.Exact.{zeroAt, messageExact, entryExact, heldExact, targetExact, slotsExact, listExact, pageExact, blockExact}
+use Rattle.buffer.specs.Exact.{zeroAt, messageExact, entryExact, heldExact, targetExact, askedExact, slotsExact, listExact, pageExact, blockExact}
 use Rattle.buffer.proofs.BytesLaws.{zero-bytes}
 
 -- A test stands for a property.
@@ -73,6 +73,9 @@ module _ (s : List ℕ) where
   unfolding targetExact
   target-stands a = zero-stands (a + 9) 3 s
 
+  asked-stands : (a : ℕ) → Stands (askedExact a s) (AskedRight a s)
+  asked-stands a = (λ e. tt, λ r. refl)
+
   module _ (slot : ℕ → List ℕ → Bool) (P : ℕ → List ℕ → Type 0) (each : (a : ℕ) → Stands (slot a s) (P a s)) where
     slots-stand : (size a n : ℕ) → Stands (slotsExact slot size a n s) ((i : ℕ) → i < n → P (a + size * i) s)
     slots-stand size a zero = (λ e i h. (let no : ⊥ = omega arith in absurd no), λ f. refl)
@@ -103,9 +106,10 @@ module _ (s : List ℕ) where
       let logs = list-stands entryExact EntryRight entry-stands logLimit entrySize (a + 8) in
       let held = list-stands heldExact HeldRight held-stands heldLimit heldSize (a + 1548) in
       let targets = list-stands targetExact TargetRight target-stands targetLimit targetSize (a + 2832) in
-      stands-as (and-stands (and-stands (and-stands (and-stands head logs) held) targets) (zero-stands (a + 3604) 492 s))
-      (λ r. record { status = r .0 .0 .0 .0 .0 .0; crashed = r .0 .0 .0 .0 .0 .1; unused = r .0 .0 .0 .0 .1; log = r .0 .0 .0 .1; held = r .0 .0 .1; targets = r .0 .1; rest = r .1 })
-      (λ r. ((((((r .status, r .crashed), r .unused), r .log), r .held), r .targets), r .rest))
+      let kept = list-stands askedExact AskedRight asked-stands 1 keptSize (a + 3604) in
+      stands-as (and-stands (and-stands (and-stands (and-stands (and-stands head logs) held) targets) kept) (zero-stands (a + 3632) 464 s))
+      (λ r. record { status = r .0 .0 .0 .0 .0 .0 .0; crashed = r .0 .0 .0 .0 .0 .0 .1; unused = r .0 .0 .0 .0 .0 .1; log = r .0 .0 .0 .0 .1; held = r .0 .0 .0 .1; targets = r .0 .0 .1; kept = r .0 .1; rest = r .1 })
+      (λ r. (((((((r .status, r .crashed), r .unused), r .log), r .held), r .targets), r .kept), r .rest))
 
 -- Zeros in two parts, and word by word.
 zeros-split : (n m : ℕ) (t : List ℕ) → Zeros (take (n + m) t) ↔ (Zeros (take n t) × Zeros (take m (drop n t)))

@@ -18,5 +18,7 @@ pub mod SetRun
 pub mod VersionRun
 -- Trims change nothing that anybody receives, and make space, on bytes.
 pub mod TrimRun
+-- Ask and Commit, on bytes.
+pub mod AskRun
 -- Floor times rise after ticks, on bytes.
 pub mod TickRun

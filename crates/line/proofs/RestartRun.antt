@@ -2,7 +2,7 @@
 use Prim.Native.Nat.{ℕ, _<_, _≤_}
 use mathlib.Core.Path.{_≡_, refl, sym, ap, subst, _∙_}
 use mathlib.Core.Bool.{true}
-use mathlib.Core.List.{List}
+use mathlib.Core.List.{List, _∷_}
 use native.Mathlib.Omega.{arith}
 use lib.Dec.{eqb}
 use borrow.Author.Tests.{eqb-true}
@@ -11,7 +11,7 @@ use Rattle.plan.specs.Plan.{Plan, channelCount, entering}
 use Rattle.plan.proofs.FitsLaws.{fitting}
 use Rattle.rules.specs.Line.{consoleCount, Status, up, down, replay, Line, nodeAt}
 use Rattle.rules.specs.Claim.{Story, named}
-use Rattle.rules.specs.Restart.{OnEntering, no-more, send-next, take-next, Restarting, ComesBack, NeverStuck}
+use Rattle.rules.specs.Restart.{OnEntering, no-more, send-next, take-next, askFrame, commitFrame, Restarting, ComesBack, ComesBackAsked, NeverStuck}
 use Rattle.rules.proofs.AlwaysBack.{always-back}
 use Rattle.rules.proofs.lists.Members.{any-in}
 use Rattle.rules.proofs.line.Joins.{entering-in}
@@ -22,7 +22,7 @@ use Rattle.state.specs.State.{lineOf, stateAnswer}
 use Rattle.state.proofs.SpelledLaws.{state-sane}
 use Rattle.line.specs.Load.{loadLeft}
 use Rattle.line.specs.Order.{stateAfter, storyOf}
-use Rattle.line.specs.Restart.{ComesBackOnBytes, NeverStuckOnBytes, AlwaysBackOnBytes}
+use Rattle.line.specs.Restart.{ComesBackOnBytes, ComesBackAskedOnBytes, NeverStuckOnBytes, AlwaysBackOnBytes}
 use Rattle.line.proofs.LoadLaws.{load-accepted}
 use Rattle.line.proofs.StepLaws.{answer-undamaged, refusal-not-eight}
 use Rattle.line.proofs.StepRun.{as-told, run-of-lines}
@@ -49,19 +49,19 @@ module _ (state : List ℕ) (z : stateAnswer state ≡ 0) where
   standing : Standing l
   standing = undamaged-sound l (state-sane state .0 z .undamaged) .standing
 
+  channels-few : channelCount (l .plan) ≤ 24
+  channels-few = fitting (l .plan) (standing .plan-fits) .channelsMost
+
+  down-small : (n : ℕ) → nodeAt l n .status ≡ down → n < 256
+  down-small n q = omega (arith, not-up-inside (standing .shape) n (λ e. up-not-down (sym e ∙ q)), fitting (l .plan) (standing .plan-fits) .nodesMost)
+
   restart-bytes : (w : Caller) → consoleOf w < consoleCount → (n : ℕ) (frames : List (List ℕ)) → Restarting (l .plan) w n (nodeAt l n .status) frames → Each Bytes frames
   restart-bytes w listed n frames = go (nodeAt l n .status) refl
     where
-      few : channelCount (l .plan) ≤ 24
-      few = fitting (l .plan) (standing .plan-fits) .channelsMost
-
-      small : nodeAt l n .status ≡ down → n < 256
-      small q = omega (arith, not-up-inside (standing .shape) n (λ e. up-not-down (sym e ∙ q)), fitting (l .plan) (standing .plan-fits) .nodesMost)
-
       go : (s : Status) → nodeAt l n .status ≡ s → Restarting (l .plan) w n s frames → Each Bytes frames
-      go up q shape = entering-bytes (l .plan) w listed n few shape
-      go replay q shape = entering-bytes (l .plan) w listed n few shape
-      go down q (rest, is, shape) = subst (Each Bytes) (sym is) (frame-bytes w listed 5 n (omega arith) (small q), entering-bytes (l .plan) w listed n few shape)
+      go up q shape = entering-bytes (l .plan) w listed n channels-few shape
+      go replay q shape = entering-bytes (l .plan) w listed n channels-few shape
+      go down q (rest, is, shape) = subst (Each Bytes) (sym is) (frame-bytes w listed 5 n (omega arith) (down-small n q), entering-bytes (l .plan) w listed n channels-few shape)
 
   back-on-bytes : (w : Caller) → consoleOf w < consoleCount → (n : ℕ) → ComesBack l w n → ComesBackOnBytes state w n
   unfolding storyOf
@@ -70,6 +70,21 @@ module _ (state : List ℕ) (z : stateAnswer state ≡ 0) where
       let told = as-told (c .frames) state bytes z .story in
       record {
         frames = c .frames;
+        bytes = bytes;
+        few = c .few;
+        shape = c .shape;
+        accepted = ap (λ (s : Story). s .numbers) told ∙ c .accepted;
+        back = ap (λ (s : Story). nodeAt (s .line) n .status) told ∙ c .back;
+      }
+
+  asked-on-bytes : (w : Caller) → consoleOf w < consoleCount → (n : ℕ) → nodeAt l n .status ≡ down → ComesBackAsked l w n → ComesBackAskedOnBytes state w n
+  unfolding storyOf
+  asked-on-bytes w listed n stopped c =
+      let small = down-small n stopped in
+      let bytes : Each Bytes (askFrame w n ∷ commitFrame w n ∷ c .rest) = (frame-bytes w listed 7 n (omega arith) small, (frame-bytes w listed 8 n (omega arith) small, entering-bytes (l .plan) w listed n channels-few (c .shape))) in
+      let told = as-told (askFrame w n ∷ commitFrame w n ∷ c .rest) state bytes z .story in
+      record {
+        rest = c .rest;
         bytes = bytes;
         few = c .few;
         shape = c .shape;
@@ -89,6 +104,7 @@ module _ (state : List ℕ) (z : stateAnswer state ≡ 0) where
               recovers = λ n e. answer-undamaged state _ z ∙ t .recovers n e;
               replays = λ b r o q. answer-undamaged state _ z ∙ t .replays b r o q;
               comes-back = λ n h. back-on-bytes w listed n (t .comes-back n h);
+              comes-back-asked = λ n e h. asked-on-bytes w listed n e (t .comes-back-asked n e h);
             });
       }
 
@@ -96,4 +112,4 @@ pub always-back-on-bytes : AlwaysBackOnBytes
 unfolding storyOf
 always-back-on-bytes plan lent frames bytes each z =
     let run = run-of-lines plan lent frames bytes each z in
-    never-stuck (stateAfter (loadLeft plan lent) frames) (run .accepted) (subst NeverStuck (sym (ap (λ (s : Story). s .line) (run .story))) (always-back plan frames (load-accepted plan lent z .0)))
+    never-stuck (stateAfter (loadLeft plan lent) frames) (run .accepted) (subst NeverStuck (sym (ap (λ (s : Story). s .line) (run .story))) (always-back plan frames bytes each (load-accepted plan lent z .0)))

@@ -11,7 +11,7 @@ use lib.Dec.{eqb}
 use Rattle.plan.specs.Lawful.{Bytes}
 use Rattle.rules.specs.Line.{Line}
 use Rattle.rules.specs.Frame.{Frame, frameOf}
-use Rattle.rules.specs.Step.{noSuch, someStopped, wrongNode, wrongStatus, besideCrashed, badRecord, nothingThere, queueFull, rowDone, noSpace, noPlacing, lineRefusal, refusal, accepted, step}
+use Rattle.rules.specs.Step.{noSuch, someStopped, wrongNode, wrongStatus, besideCrashed, noAnswer, badRecord, nothingThere, queueFull, rowDone, noSpace, noPlacing, lineRefusal, refusal, accepted, step}
 use Rattle.rules.specs.Damaged.{damaged}
 use Rattle.rules.proofs.theorem.Accepted.{step-refused as rules-refused, admitted}
 use Rattle.rules.proofs.undamaged.StepSound.{step-undamaged}
@@ -47,12 +47,13 @@ line-not-eight l f =
     (beyond (wrongNode l f) 14 _ (omega arith)
     (beyond (wrongStatus l f) 15 _ (omega arith)
     (beyond (besideCrashed l f) 16 _ (omega arith)
+    (beyond (noAnswer l f) 27 _ (omega arith)
     (beyond (badRecord f) 17 _ (omega arith)
     (beyond (nothingThere l f) 18 _ (omega arith)
     (beyond (queueFull l f) 19 _ (omega arith)
     (beyond (rowDone l f) 20 _ (omega arith)
     (beyond (noSpace l f) 21 _ (omega arith)
-    (beyond (noPlacing l f) 24 0 (omega arith) (λ e. omega arith)))))))))))
+    (beyond (noPlacing l f) 24 0 (omega arith) (λ e. omega arith))))))))))))
 
 pub refusal-not-eight : (l : Line) (f : List ℕ) → refusal l f ≢ 8
 refusal-not-eight l f e = line-not-eight l (frameOf f) (admitted l f 8 (λ z. omega arith, (λ z. omega arith, (λ z. omega arith, (λ z. omega arith, (λ z. omega arith, tt))))) e .answer)

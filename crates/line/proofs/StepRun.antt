@@ -91,4 +91,4 @@ run-of-lines plan lent frames bytes each z =
 
 pub in-order-on-bytes : InOrderOnBytes
 in-order-on-bytes plan lent frames bytes each z =
-    subst (OneRun (planOf plan)) (sym (run-of-lines plan lent frames bytes each z .story)) (in-order plan frames (load-accepted plan lent z .0))
+    subst (OneRun (planOf plan)) (sym (run-of-lines plan lent frames bytes each z .story)) (in-order plan frames bytes each (load-accepted plan lent z .0))

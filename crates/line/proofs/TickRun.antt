@@ -46,7 +46,7 @@ module _ (plan lent : List ℕ) (before : List (List ℕ)) (frames : FollowedFra
       behind-told frames (noTrace (lineOf state)) state each-followed (run .accepted) refl ∙ ap (λ (s : Story). traceFrom (noTrace (s .line)) frames) (run .story)
 
   floors-reached : FloorsReached (planOf plan) (traceOf (stateAfter (loadLeft plan lent) before) frames)
-  floors-reached = subst (FloorsReached (planOf plan)) (sym traces) (floors-rise plan before frames (load-accepted plan lent z .0))
+  floors-reached = subst (FloorsReached (planOf plan)) (sym traces) (floors-rise plan before frames bytes each each-followed (load-accepted plan lent z .0))
 
   none-taken : traceOf (stateAfter (loadLeft plan lent) before) frames .crashes ≡ [] → (f : List ℕ) → stepAnswer (stateAfter (stateAfter (loadLeft plan lent) before) (framesOf frames)) f ≡ 0 → NoneTaken (traceOf (stateAfter (loadLeft plan lent) before) frames) (frameOf f)
   unfolding traceOf
@@ -54,7 +54,7 @@ module _ (plan lent : List ℕ) (before : List (List ℕ)) (frames : FollowedFra
       let accepted = as-told (framesOf frames) state each-followed (run-of-lines plan lent before bytes each z .accepted) .accepted in
       let here = behind-line frames (noTrace (lineOf state)) state refl in
       let by-rules : step (traceOf state frames .line) f .number ≡ 0 = ap (λ (l : Line). step l f .number) here ∙ step-number (lineOf (stateAfter state (framesOf frames))) f ∙ sym (answer-undamaged (stateAfter state (framesOf frames)) f accepted) ∙ number in
-      subst (λ (t : Trace). t .crashes ≡ [] → step (t .line) f .number ≡ 0 → NoneTaken t (frameOf f)) (sym traces) (λ none e. none-in-replay plan before frames (load-accepted plan lent z .0) none f e) quiet by-rules
+      subst (λ (t : Trace). t .crashes ≡ [] → step (t .line) f .number ≡ 0 → NoneTaken t (frameOf f)) (sym traces) (λ none e. none-in-replay plan before frames bytes each each-followed (load-accepted plan lent z .0) none f e) quiet by-rules
 
 pub floors-rise-on-bytes : FloorsRiseOnBytes
 floors-rise-on-bytes = floors-reached

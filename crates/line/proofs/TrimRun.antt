@@ -27,7 +27,7 @@ trims-change-nothing-on-bytes plan lent before with without bytes each eachWith 
     let told = as-told with state eachWith (run .accepted) .story ∙ ap (λ (k : Line). storyFrom (startOf k) with) start in
     let told′ = as-told without state eachWithout (run .accepted) .story ∙ ap (λ (k : Line). storyFrom (startOf k) without) start in
     ap (λ (s : Story). s .receipts) told
-    ∙ trims-change-nothing plan before with without (load-accepted plan lent z .0) put-in (ap (λ (s : Story). s .numbers) (sym told) ∙ all) (ap (λ (s : Story). s .numbers) (sym told′) ∙ all′)
+    ∙ trims-change-nothing plan before with without bytes each eachWithout (load-accepted plan lent z .0) put-in (ap (λ (s : Story). s .numbers) (sym told) ∙ all) (ap (λ (s : Story). s .numbers) (sym told′) ∙ all′)
     ∙ ap (λ (s : Story). s .receipts) (sym told′)
 
 pub trim-frees-on-bytes : TrimFreesOnBytes

@@ -24,7 +24,7 @@ use Rattle.state.proofs.InPlace.{Counted, line-plan, nodes-counted, lanes-count
 use Rattle.state.proofs.PlanFitting.{fits-counted, few-heard, heard-long, low-long}
 use Rattle.state.proofs.StoredPlan.{storedPlan, stored-accepted}
 use Rattle.state.proofs.AcceptedState.{state-checked}
-use Rattle.items.specs.Items.{nodeRight, channelRight, shapeRight, lineRight, nodePlain, replayAsked, stepsRight}
+use Rattle.items.specs.Items.{nodeRight, channelRight, shapeRight, lineRight, nodePlain, restartRight, stepsRight}
 use Rattle.items.proofs.LineItems.{line-items}
 use Rattle.buffer.specs.Exact.{pageExact, blockExact}
 use Rattle.line.specs.Whole.{planExact, restExact, nodeChecked, channelChecked, stateChecked}
@@ -38,9 +38,9 @@ all-from f k (suc n) h = rw (h k (omega arith) (omega arith)) (all-from f (suc k
 pub all-stands : (f : ℕ → Bool) (n : ℕ) → Stands (allOf f (upTo 0 n)) ((i : ℕ) → i < n → f i ≡ true)
 all-stands f n = (λ e i h. all-in f e (in-up-to 0 n i (omega arith) (omega arith)), λ g. all-from f 0 n (λ i l m. g i (omega arith)))
 
--- A node's check is the plain part and the replay's.
-pub node-parts : (l : Line) (n : ℕ) → Stands (nodeRight l n) ((nodePlain l n ≡ true) × (replayAsked l n ≡ true))
-unfolding nodeRight nodePlain replayAsked
+-- A node's check is the plain part and what its restart asks.
+pub node-parts : (l : Line) (n : ℕ) → Stands (nodeRight l n) ((nodePlain l n ≡ true) × (restartRight l n ≡ true))
+unfolding nodeRight nodePlain restartRight
 node-parts l n = and-stands (λ e. e, λ e. e) (λ e. e, λ e. e)
 
 module _ (s : List ℕ) (fits : planFits (planOf s) ≡ true) where
@@ -92,7 +92,7 @@ module _ (s : List ℕ) (fits : planFits (planOf s) ≡ true) where
 
   -- Bytes and line together, node by node and channel by channel.
   abbrev Found : Type 0
-  Found = (restExact s ≡ true) × ((stepsRight (l .steps) ≡ true) × (((n : ℕ) → n < planNodes s → nodeChecked s n ≡ true) × (((b : ℕ) → b < planChannels s → channelChecked s b ≡ true) × ((n : ℕ) → n < planNodes s → replayAsked l n ≡ true))))
+  Found = (restExact s ≡ true) × ((stepsRight (l .steps) ≡ true) × (((n : ℕ) → n < planNodes s → nodeChecked s n ≡ true) × (((b : ℕ) → b < planChannels s → channelChecked s b ≡ true) × ((n : ℕ) → n < planNodes s → restartRight l n ≡ true))))
 
   rest-stands : Stands (restExact s) (((ZerosAt (stepsAt + stepsSize) stepsRest s × ZerosAt (pageAt (planNodes s)) (pageSize * (nodePages - planNodes s)) s) × ZerosAt (blockAt (planChannels s)) (blockSize * (laneBlocks - planChannels s)) s) × ZerosAt tailAt tailSize s)
   unfolding restExact
@@ -105,7 +105,7 @@ module _ (s : List ℕ) (fits : planFits (planOf s) ≡ true) where
 
   found-right : planBytes (planOf s) ≡ take size s → ZerosAt size (planArea - size) s → Found → StateRight s × (damaged l ≡ false)
   unfolding nodeChecked channelChecked
-  found-right bytes behind (rest, (steps, (nodes, (channels, replays)))) =
+  found-right bytes behind (rest, (steps, (nodes, (channels, restarts)))) =
       let (((a, b), c), d) = rest-stands .0 rest in
       let node : (n : ℕ) → n < planNodes s → (pageExact (pageAt n) s ≡ true) × (nodePlain l n ≡ true) = λ n h. both-true (pageExact (pageAt n) s) (nodePlain l n) (nodes n h) in
       let channel : (k : ℕ) → k < planChannels s → (blockExact (heardCount (planOf s) (channelAt (planOf s) k)) (blockAt k) s ≡ true) × (channelRight l k ≡ true) =
@@ -120,7 +120,7 @@ module _ (s : List ℕ) (fits : planFits (planOf s) ≡ true) where
           lanesRest = c;
           tail = d;
         },
-        undamaged-stands .0 (line-stands .1 (steps, (λ n h. node-parts l n .1 (node n h .1, replays n h), λ k h. channel k h .1))),
+        undamaged-stands .0 (line-stands .1 (steps, (λ n h. node-parts l n .1 (node n h .1, restarts n h), λ k h. channel k h .1))),
       )
 
   right-found : StateRight s × (damaged l ≡ false) → Found
@@ -142,10 +142,10 @@ module _ (s : List ℕ) (fits : planFits (planOf s) ≡ true) where
 
 -- The check's test, taken apart.
 checked-parts : (s : List ℕ) → Stands (stateChecked s)
-    ((((((planExact s ≡ true) × (restExact s ≡ true)) × (stepsRight (lineOf s .steps) ≡ true)) × ((n : ℕ) → n < planNodes s → nodeChecked s n ≡ true)) × ((b : ℕ) → b < planChannels s → channelChecked s b ≡ true)) × ((n : ℕ) → n < planNodes s → replayAsked (lineOf s) n ≡ true))
+    ((((((planExact s ≡ true) × (restExact s ≡ true)) × (stepsRight (lineOf s .steps) ≡ true)) × ((n : ℕ) → n < planNodes s → nodeChecked s n ≡ true)) × ((b : ℕ) → b < planChannels s → channelChecked s b ≡ true)) × ((n : ℕ) → n < planNodes s → restartRight (lineOf s) n ≡ true))
 unfolding stateChecked
 checked-parts s =
-    and-stands (and-stands (and-stands (and-stands (and-stands same same) same) (all-stands (nodeChecked s) (planNodes s))) (all-stands (channelChecked s) (planChannels s))) (all-stands (replayAsked (lineOf s)) (planNodes s))
+    and-stands (and-stands (and-stands (and-stands (and-stands same same) same) (all-stands (nodeChecked s) (planNodes s))) (all-stands (channelChecked s) (planChannels s))) (all-stands (restartRight (lineOf s)) (planNodes s))
   where
     same : {b : Bool} → Stands b (b ≡ true)
     same = (λ e. e, λ e. e)
@@ -159,13 +159,13 @@ pub check-answer : (s : List ℕ) → length s ≡ stateSize → Bytes s → Sta
 check-answer s long bytes =
     let known = state-checked s long bytes in (
       λ e.
-          (let (((((p, rest), steps), nodes), channels), replays) = checked-parts s .0 e in
+          (let (((((p, rest), steps), nodes), channels), restarts) = checked-parts s .0 e in
           let (accepted, behind) = plan-stands s .0 p in
           let (fits, same) = stored-accepted s bytes .0 accepted in
-          known .1 (accepted, found-right s fits same behind (rest, (steps, (nodes, (channels, replays)))))),
+          known .1 (accepted, found-right s fits same behind (rest, (steps, (nodes, (channels, restarts)))))),
       λ z.
           (let (accepted, (right, undamaged)) = known .0 z in
           let (fits, same) = stored-accepted s bytes .0 accepted in
-          let (rest, (steps, (nodes, (channels, replays)))) = right-found s fits (right, undamaged) in
-          checked-parts s .1 (((((plan-stands s .1 (accepted, right .planRest), rest), steps), nodes), channels), replays)),
+          let (rest, (steps, (nodes, (channels, restarts)))) = right-found s fits (right, undamaged) in
+          checked-parts s .1 (((((plan-stands s .1 (accepted, right .planRest), rest), steps), nodes), channels), restarts)),
     )

@@ -6,6 +6,7 @@ pub mod Console
 pub mod Sets
 pub mod Versions
 pub mod Trimming
+pub mod Ask
 pub mod Ticks
 pub mod Step
 pub mod Whole

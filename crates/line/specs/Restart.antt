@@ -1,15 +1,15 @@
 -- A crashed node can always come back, on bytes: over what Load and Step answer and leave.
-use Prim.Native.Nat.{ℕ, _+_, _<_, _≤_}
+use Prim.Native.Nat.{ℕ, suc, _+_, _<_, _≤_}
 use mathlib.Core.Path.{_≡_}
 use mathlib.Core.Logic.{_≢_}
 use mathlib.Core.Bool.{false}
-use mathlib.Core.List.{List}
+use mathlib.Core.List.{List, _∷_}
 use lib.ListN.{length, replicate}
 use Rattle.plan.specs.Lawful.{Each, Bytes}
 use Rattle.rules.specs.Lists.{isEmpty}
 use Rattle.rules.specs.Line.{stepLimit, consoleCount, stepsFrom, up, down, replay, nodeAt, laneAt, receiverOf}
-use Rattle.rules.specs.Recover.{rowComplete}
-use Rattle.rules.specs.Restart.{takeFrame, recoverFrame, unlessUsedUp, Restarting, restartSteps, mostRestartSteps}
+use Rattle.rules.specs.Recover.{rowComplete, recovered}
+use Rattle.rules.specs.Restart.{takeFrame, recoverFrame, askFrame, commitFrame, unlessUsedUp, OnEntering, Restarting, replaySteps, restartSteps, mostRestartSteps}
 use Rattle.state.specs.State.{lineOf}
 use Rattle.line.specs.Load.{loadAnswer, loadLeft}
 use Rattle.line.specs.Step.{stepAnswer}
@@ -25,6 +25,15 @@ pub record ComesBackOnBytes (state : List ℕ) (w : Caller) (n : ℕ) : Type 0 w
   pub accepted : storyOf state frames .numbers ≡ replicate (length frames) 0
   pub back : nodeAt (lineOf (stateAfter state frames)) n .status ≡ up
 
+-- The same of a node that is down by Ask and Commit in the place of Recover (2026-07): the Ask is a step more.
+pub record ComesBackAskedOnBytes (state : List ℕ) (w : Caller) (n : ℕ) : Type 0 where
+  pub rest : List (List ℕ)
+  pub bytes : Each Bytes (askFrame w n ∷ commitFrame w n ∷ rest)
+  pub few : length rest ≤ replaySteps (recovered n (lineOf state)) n
+  pub shape : OnEntering (lineOf state .plan) w n rest
+  pub accepted : storyOf state (askFrame w n ∷ commitFrame w n ∷ rest) .numbers ≡ replicate (2 + length rest) 0
+  pub back : nodeAt (lineOf (stateAfter state (askFrame w n ∷ commitFrame w n ∷ rest))) n .status ≡ up
+
 -- Of what one caller asks.
 pub record NeverStuckOnBytesFor (state : List ℕ) (w : Caller) : Type 0 where
   -- Recover of a node that is down is answered 0, or 12 if the caller's steps are used up.
@@ -34,6 +43,8 @@ pub record NeverStuckOnBytesFor (state : List ℕ) (w : Caller) : Type 0 where
       → stepAnswer state (takeFrame w b) ≡ unlessUsedUp (lineOf state) w
   -- The node comes back, if the caller has steps left for it.
   pub comes-back : (n : ℕ) → stepsFrom (lineOf state) (consoleOf w) + restartSteps (lineOf state) n (nodeAt (lineOf state) n .status) ≤ stepLimit → ComesBackOnBytes state w n
+  -- A node that is down comes back by Ask and Commit too.
+  pub comes-back-asked : (n : ℕ) → nodeAt (lineOf state) n .status ≡ down → stepsFrom (lineOf state) (consoleOf w) + suc (restartSteps (lineOf state) n down) ≤ stepLimit → ComesBackAskedOnBytes state w n
 
 pub record NeverStuckOnBytes (state : List ℕ) : Type 0 where
   -- No call answers 8 or 24.

@@ -1,4 +1,4 @@
--- Step (document 01, "Numbers returned"): "Step 8 to 21 and then 24"; 25 comes after 11, and 26 after 13 (document 02, 2026-01 and 2026-04).
+-- Step (document 01, "Numbers returned"): "Step 8 to 21 and then 24"; 25 comes after 11, 26 after 13 and 27 after 16 (document 02, 2026-01, 2026-04 and 2026-07).
 use Prim.Native.Nat.{ℕ}
 use mathlib.Core.Bool.{true, false}
 use mathlib.Core.List.{List}
@@ -6,7 +6,7 @@ use lib.Dec.{eqb}
 use Rattle.rules.specs.Step.{refusal, step}
 use Rattle.state.specs.State.{lineBytes, lineOf, stateAnswer}
 
--- 8: "state not 61,440 bytes, or (not for Load) damaged"; then 9 to 21 and 24 to 26 by the rules, of the line that the state holds and the frame.
+-- 8: "state not 61,440 bytes, or (not for Load) damaged"; then 9 to 21 and 24 to 27 by the rules, of the line that the state holds and the frame.
 unfoldable pub stepAnswer : List ℕ → List ℕ → ℕ
 unfolding stateAnswer lineOf refusal
 stepAnswer state frame =

@@ -11,7 +11,7 @@ use Rattle.state.specs.Sizes.{planArea, stepsAt, stepsSize, stepsRest, pageAt, 
 use Rattle.state.specs.Right.{NodeRight}
 use Rattle.state.specs.Lane.{heardCount}
 use Rattle.state.specs.State.{lineOf}
-use Rattle.items.specs.Items.{nodePlain, replayAsked, channelRight, stepsRight}
+use Rattle.items.specs.Items.{nodePlain, restartRight, channelRight, stepsRight}
 use Rattle.buffer.specs.Exact.{zeroAt, pageExact, blockExact}
 
 -- The stored plan would not be refused, and nothing stands behind it.
@@ -40,7 +40,7 @@ channelChecked s b = blockExact (heardCount (planOf s) (channelAt (planOf s) b))
 
 -- All of it, of a state of the right size.
 unfoldable pub stateChecked : List ℕ → Bool
-unfolding planExact restExact nodeChecked channelChecked replayAsked
+unfolding planExact restExact nodeChecked channelChecked restartRight
 stateChecked s =
     planExact s && restExact s && stepsRight (lineOf s .steps) && allOf (nodeChecked s) (upTo 0 (planNodes s)) && allOf (channelChecked s) (upTo 0 (planChannels s))
-    && allOf (replayAsked (lineOf s)) (upTo 0 (planNodes s))
+    && allOf (restartRight (lineOf s)) (upTo 0 (planNodes s))

@@ -1,23 +1,24 @@
-// The check of the whole state (document 01, "Damaged"): part by part, then every node's page, every channel's block, and what the replays ask.
+// The check of the whole state (document 01, "Damaged"): part by part, then every node's page, every channel's block, and what the restarts ask.
 ghost use mathlib.Core.Path.{_≡_};
-ghost use mathlib.Core.Bool.{true};
+ghost use mathlib.Core.Bool.{true, not, _||_};
 ghost use Prim.Native.Nat.{_<_};
 ghost use lib.ListN.{length};
 ghost use Rattle.plan.specs.Plan.{planNodes, planChannels};
 ghost use Rattle.rules.specs.Lists.{allOf, upTo};
 ghost use Rattle.rules.specs.Line.{acceptedSteps};
+ghost use Rattle.rules.specs.Step.{replaying};
 ghost use Rattle.state.specs.Sizes.{stateSize};
 ghost use Rattle.state.specs.State.{lineOf};
 ghost use Rattle.buffer.specs.Ready.{Ready};
 ghost use Rattle.buffer.specs.Table.{Table};
-ghost use Rattle.items.specs.Items.{replayAsked, stepsRight};
+ghost use Rattle.items.specs.Items.{replayRight, restartRight, stepsRight};
 ghost use Rattle.line.specs.Whole.{PagesRight, planExact, nodeChecked, channelChecked, stateChecked};
 use crate::check;
 use buffer::Line;
 use buffer::look;
 use buffer::table;
 
-// Every node's page, but for what its replay asks.
+// Every node's page, but for what its restart asks.
 fn pages_ok(s: &[u8], t: &[u8; 156], n: usize, steps: u32) -> bool
     requires { ⌜ Ready (now s) × Table (now s) (now t) × (n ≡ planNodes (now s)) × (steps ≡ acceptedSteps (lineOf (now s))) ⌝ }
     ensures { λ r. ⌜ r ≡ allOf (nodeChecked (now (s .entry))) (upTo 0 n) ⌝ }
@@ -46,9 +47,9 @@ fn channels_ok(s: &[u8], t: &[u8; 156], m: usize, steps: u32) -> bool
 }
 
 // What a node's replay asks, if it has one.
-fn replay_kept(s: &[u8], k: usize) -> bool
+fn replay_ok(s: &[u8], k: usize) -> bool
     requires { ⌜ Ready (now s) × PagesRight (now s) × (k < planNodes (now s)) ⌝ }
-    ensures { λ r. ⌜ r ≡ replayAsked (lineOf (now (s .entry))) k ⌝ }
+    ensures { λ r. ⌜ r ≡ (not (replaying (lineOf (now (s .entry))) k) || replayRight (lineOf (now (s .entry))) k) ⌝ }
 {
     if !look::is_replaying(s, k) {
         return true;
@@ -56,15 +57,24 @@ fn replay_kept(s: &[u8], k: usize) -> bool
     recover::replay_ok(s, k)
 }
 
-// What every node's replay asks.
-fn replays_ok(s: &[u8], n: usize) -> bool
+// What a node's restart asks: of its replay, and of the answer that it keeps.
+fn restart_ok(s: &[u8], k: usize) -> bool
+    requires { ⌜ Ready (now s) × PagesRight (now s) × (k < planNodes (now s)) ⌝ }
+    ensures { λ r. ⌜ r ≡ restartRight (lineOf (now (s .entry))) k ⌝ }
+{
+    let kept = recover::kept_ok(s, k);
+    replay_ok(s, k) & kept
+}
+
+// What every node's restart asks.
+fn restarts_ok(s: &[u8], n: usize) -> bool
     requires { ⌜ Ready (now s) × PagesRight (now s) × (n ≡ planNodes (now s)) ⌝ }
-    ensures { λ r. ⌜ r ≡ allOf (replayAsked (lineOf (now (s .entry)))) (upTo 0 n) ⌝ }
+    ensures { λ r. ⌜ r ≡ allOf (restartRight (lineOf (now (s .entry)))) (upTo 0 n) ⌝ }
 {
     let mut ok = true;
     let mut k: usize = 0;
     while k < n {
-        ok = ok & replay_kept(s, k);
+        ok = ok & restart_ok(s, k);
         k += 1;
     }
     ok
@@ -109,7 +119,7 @@ fn parts_ok(s: &[u8], n: usize, m: usize, steps: u32) -> bool
     if !found {
         return false;
     }
-    replays_ok(s, n)
+    restarts_ok(s, n)
 }
 
 // All that stands behind a plan that would not be refused.

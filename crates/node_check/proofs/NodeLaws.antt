@@ -13,22 +13,23 @@ use lib.Seq.{ext-getD}
 use Rattle.plan.specs.Plan.{Plan, planOf, isSource, isSink}
 use Rattle.rules.specs.Lists.{allOf, isEmpty}
 use Rattle.rules.specs.Line.{logLimit, heldLimit, targetLimit, Entry, Held, Target, Node, Line, nodeAt, isUp, acceptedSteps}
+use Rattle.rules.specs.Step.{isNothing}
 use Rattle.rules.specs.Damaged.{markMissing, markOnEnd, nodeHolds, holdsByStatus}
 use Rattle.rules.specs.Replay.{passedOn}
-use Rattle.state.specs.Sizes.{pageAt, countSize, timeAt, logAt, entrySize, heldAt, heldSize, targetsAt, targetSize, nodeRestAt, nodeRest}
+use Rattle.state.specs.Sizes.{pageAt, countSize, timeAt, logAt, entrySize, heldAt, heldSize, targetsAt, targetSize, keptAt, keptSize, nodeRestAt, nodeRest}
 use Rattle.state.specs.Node.{statusOf, crashOf}
 use Rattle.state.specs.State.{lineOf}
 use Rattle.state.specs.Right.{wordAt}
 use Rattle.state.proofs.InPlace.{Counted, line-plan}
 use Rattle.state.proofs.OffsetLaws.{line-status, line-crashed, line-time, line-log-count, line-log-at, line-held-count, line-held-at, line-targets-count, line-target-at}
 use Rattle.items.specs.Items.{timesRise, entryRight, entriesRight, setRight, logRight, heldRise, noneHeld, heldRight, heldAllRight, targetRight, countsRight, statusRight, nodePlain}
-use Rattle.buffer.specs.Exact.{zeroAt, entryExact, heldExact, targetExact, slotsExact, listExact, pageExact}
-use Rattle.node_check.specs.NodeCheck.{PageOf, entryIn, heldIn, targetIn, headExact, entryPlain, entryMade, heldPlain, heldMade, holdsNothing}
+use Rattle.buffer.specs.Exact.{zeroAt, entryExact, heldExact, targetExact, askedExact, slotsExact, listExact, pageExact}
+use Rattle.node_check.specs.NodeCheck.{PageOf, entryIn, heldIn, targetIn, headExact, entryPlain, entryMade, heldPlain, heldMade, pageEndExact, holdsNothing}
 use Rattle.buffer.specs.Nothing.{noEntry, noHeld, noTarget}
 use Rattle.buffer.specs.Check.{recordIn}
 use Rattle.node_check.proofs.SlotLaws.{swap-middle, slotsIn, passes, length-slots, slots-at, slotsPass, slots-pass, pass-more}
 use Rattle.buffer.proofs.BytesLaws.{two-zero}
-use Rattle.buffer.proofs.ReadyLaws.{counted}
+use Rattle.buffer.proofs.ReadyLaws.{counted, kept-counted}
 use Rattle.buffer.proofs.PieceReads.{entry-in, held-in}
 use Rattle.node_check.proofs.PieceBytes.{entry-ordered, held-ordered}
 
@@ -266,23 +267,24 @@ not-missing zero mark = refl
 not-missing (suc zero) mark = sym (Bool·not-not mark)
 not-missing (suc (suc n)) mark = rw (eqb·suc-zero (suc n)) (sym (Bool·not-not mark))
 
-holds-not : (x : Node) (status time log held targets : ℕ) → time ≡ x .time → isEmpty (x .log) ≡ eqb log 0 → isEmpty (x .held) ≡ eqb held 0 → isEmpty (x .targets) ≡ eqb targets 0
-    → holdsNothing status time log held targets ≡ not (holdsByStatus (statusOf status) x)
-holds-not x zero time log held targets t l h g = rw (← h, ← g) (sym (Bool·not-not (isEmpty (x .held) && isEmpty (x .targets))))
-holds-not x (suc zero) time log held targets t l h g = rw (t, ← l, ← h, ← g) (sym (Bool·not-not (eqb (x .time) 0 && isEmpty (x .log) && isEmpty (x .held) && isEmpty (x .targets))))
-holds-not x (suc (suc n)) time log held targets t l h g = rw (← l) (sym (Bool·not-not (isEmpty (x .log))))
+holds-not : (x : Node) (status time log held targets kept : ℕ) → time ≡ x .time → isEmpty (x .log) ≡ eqb log 0 → isEmpty (x .held) ≡ eqb held 0 → isEmpty (x .targets) ≡ eqb targets 0 → isNothing (x .asked) ≡ eqb kept 0
+    → holdsNothing status time log held targets kept ≡ not (holdsByStatus (statusOf status) x)
+holds-not x zero time log held targets kept t l h g k = rw (← h, ← g, ← k) (sym (Bool·not-not (isEmpty (x .held) && isEmpty (x .targets) && isNothing (x .asked))))
+holds-not x (suc zero) time log held targets kept t l h g k = rw (t, ← l, ← h, ← g, ← k) (sym (Bool·not-not (eqb (x .time) 0 && isEmpty (x .log) && isEmpty (x .held) && (isEmpty (x .targets) || not (isNothing (x .asked))))))
+holds-not x (suc (suc n)) time log held targets kept t l h g k = rw (← l, ← k) (sym (Bool·not-not (isEmpty (x .log) && isNothing (x .asked))))
 
 -- What a node of a status may not hold, by the status as it is tested.
-pub nothing-up : (status time log held targets : ℕ) → status ≡ 0 → (eqb held 0 && eqb targets 0) ≡ holdsNothing status time log held targets
-nothing-up status time log held targets e = rw e refl
+module _ (status time log held targets kept : ℕ) where
+  pub nothing-up : status ≡ 0 → (eqb held 0 && eqb targets 0 && eqb kept 0) ≡ holdsNothing status time log held targets kept
+  nothing-up e = rw e refl
 
-pub nothing-down : (status time log held targets : ℕ) → status ≡ 1 → (eqb time 0 && eqb log 0 && eqb held 0 && eqb targets 0) ≡ holdsNothing status time log held targets
-nothing-down status time log held targets e = rw e refl
+  pub nothing-down : status ≡ 1 → (eqb time 0 && eqb log 0 && eqb held 0 && (eqb targets 0 || not (eqb kept 0))) ≡ holdsNothing status time log held targets kept
+  nothing-down e = rw e refl
 
-pub nothing-replay : (status time log held targets : ℕ) → (status ≡ 0 → ⊥) → (status ≡ 1 → ⊥) → eqb log 0 ≡ holdsNothing status time log held targets
-nothing-replay zero time log held targets a b = absurd (a refl)
-nothing-replay (suc zero) time log held targets a b = absurd (b refl)
-nothing-replay (suc (suc n)) time log held targets a b = refl
+pub nothing-replay : (status time log held targets kept : ℕ) → (status ≡ 0 → ⊥) → (status ≡ 1 → ⊥) → (eqb log 0 && eqb kept 0) ≡ holdsNothing status time log held targets kept
+nothing-replay zero time log held targets kept a b = absurd (a refl)
+nothing-replay (suc zero) time log held targets kept a b = absurd (b refl)
+nothing-replay (suc (suc n)) time log held targets kept a b = refl
 
 pub head-tested : (s : List ℕ) (a steps time : ℕ) → a + 8 ≤ length s → time ≡ wordAt (a + timeAt) s
     → (leb (getD s a 0) 2 && leb (getD s (a + 1) 0) 1 && eqb (bitOr (getD s (a + 2) 0) (getD s (a + 3) 0)) 0 && leb time steps) ≡ (headExact a s && leb (wordAt (a + timeAt) s) steps)
@@ -303,15 +305,15 @@ module _ (s : List ℕ) (n at : ℕ) (page : PageOf s n at) where
   pub head-node : (steps : ℕ) → steps ≡ acceptedSteps (lineOf s) → (headExact at s && leb (wordAt (at + timeAt) s) steps) ≡ (headExact (pageAt n) s && leb (x .time) (acceptedSteps (lineOf s)))
   head-node steps e = rw (← time-in s n at page (wordAt (at + timeAt) s) refl, ← e, ← page .start) refl
 
-  pub status-tested : (status mark time log held targets : ℕ) (end nothing : Bool)
-      → status ≡ getD s at 0 → mark ≡ getD s (at + 1) 0 → time ≡ wordAt (at + timeAt) s → log ≡ wordAt (at + logAt) s → held ≡ wordAt (at + heldAt) s → targets ≡ wordAt (at + targetsAt) s
-      → end ≡ (not (eqb mark 0) && (isSource (planOf s) n || isSink (planOf s) n)) → nothing ≡ holdsNothing status time log held targets
+  pub status-tested : (status mark time log held targets kept : ℕ) (end nothing : Bool)
+      → status ≡ getD s at 0 → mark ≡ getD s (at + 1) 0 → time ≡ wordAt (at + timeAt) s → log ≡ wordAt (at + logAt) s → held ≡ wordAt (at + heldAt) s → targets ≡ wordAt (at + targetsAt) s → kept ≡ wordAt (at + keptAt) s
+      → end ≡ (not (eqb mark 0) && (isSource (planOf s) n || isSink (planOf s) n)) → nothing ≡ holdsNothing status time log held targets kept
       → ((eqb status 0 || not (eqb mark 0)) && not end && nothing) ≡ statusRight (lineOf s .plan) n x
   unfolding statusRight markMissing markOnEnd nodeHolds
-  status-tested status mark time log held targets end nothing a b c d e f g h =
+  status-tested status mark time log held targets kept end nothing a b c d e f i g h =
       let is : x .status ≡ statusOf status = line-status s few n (page .within) ∙ ap statusOf (rw (page .start, ← add-zero (pageAt n)) at (sym a)) in
       let marked : x .crashed ≡ not (eqb mark 0) = line-crashed s few n (page .within) ∙ ap crashOf (rw (page .start) at (sym b)) ∙ sym (crash-mark mark) in
-      let empty = holds-not x status time log held targets (time-in s n at page time c) (empty-count (x .log) log (line-log-count s few n (page .within) ∙ rw (at-page logAt log d) refl)) (empty-count (x .held) held (line-held-count s few n (page .within) ∙ rw (at-page heldAt held e) refl)) (empty-count (x .targets) targets (line-targets-count s few n (page .within) ∙ rw (at-page targetsAt targets f) refl)) in
+      let empty = holds-not x status time log held targets kept (time-in s n at page time c) (empty-count (x .log) log (line-log-count s few n (page .within) ∙ rw (at-page logAt log d) refl)) (empty-count (x .held) held (line-held-count s few n (page .within) ∙ rw (at-page heldAt held e) refl)) (empty-count (x .targets) targets (line-targets-count s few n (page .within) ∙ rw (at-page targetsAt targets f) refl)) (kept-counted s (page .ready) n (page .within) kept (at-page keptAt kept i)) in
       rw (is, marked, line-plan s, h, empty, g, not-missing status (not (eqb mark 0))) refl
 
   counts-right : countsRight x ≡ true
@@ -331,7 +333,7 @@ module _ (s : List ℕ) (n at : ℕ) (page : PageOf s n at) where
       → log ≡ (listExact entryExact logLimit entrySize (pageAt n + logAt) s && logRight (lineOf s) n (x .log))
       → held ≡ (listExact heldExact heldLimit heldSize (pageAt n + heldAt) s && heldAllRight (lineOf s) n (x .held))
       → targets ≡ (listExact targetExact targetLimit targetSize (pageAt n + targetsAt) s && allOf (targetRight (lineOf s) n) (x .targets))
-      → rest ≡ zeroAt (pageAt n + nodeRestAt) nodeRest s
+      → rest ≡ pageEndExact (pageAt n) s
       → status ≡ statusRight (lineOf s .plan) n x
       → (head && log && held && targets && (rest && status)) ≡ (pageExact (pageAt n) s && nodePlain (lineOf s) n)
   unfolding pageExact nodePlain
@@ -339,7 +341,8 @@ module _ (s : List ℕ) (n at : ℕ) (page : PageOf s n at) where
       let L = listExact entryExact logLimit entrySize (pageAt n + logAt) s in
       let H = listExact heldExact heldLimit heldSize (pageAt n + heldAt) s in
       let T = listExact targetExact targetLimit targetSize (pageAt n + targetsAt) s in
-      let R = zeroAt (pageAt n + nodeRestAt) nodeRest s in
+      let K = listExact askedExact 1 keptSize (pageAt n + keptAt) s in
+      let Z = zeroAt (pageAt n + nodeRestAt) nodeRest s in
       let E = headExact (pageAt n) s in
       let time = leb (x .time) (acceptedSteps (lineOf s)) in
       let lr = logRight (lineOf s) n (x .log) in
@@ -347,7 +350,8 @@ module _ (s : List ℕ) (n at : ℕ) (page : PageOf s n at) where
       let tr = allOf (targetRight (lineOf s) n) (x .targets) in
       let sr = statusRight (lineOf s .plan) n x in
       rw (a, b, c, d, e, f, counts-right)
-      (ap (λ (t : Bool). t && (H && hr) && (T && tr) && (R && sr)) (swap-middle E time L lr)
-      ∙ ap (λ (t : Bool). t && (T && tr) && (R && sr)) (swap-middle (E && L) (time && lr) H hr)
-      ∙ ap (λ (t : Bool). t && (R && sr)) (swap-middle (E && L && H) (time && lr && hr) T tr)
-      ∙ swap-middle (E && L && H && T) (time && lr && hr && tr) R sr)
+      (ap (λ (t : Bool). t && (H && hr) && (T && tr) && ((K && Z) && sr)) (swap-middle E time L lr)
+      ∙ ap (λ (t : Bool). t && (T && tr) && ((K && Z) && sr)) (swap-middle (E && L) (time && lr) H hr)
+      ∙ ap (λ (t : Bool). t && ((K && Z) && sr)) (swap-middle (E && L && H) (time && lr && hr) T tr)
+      ∙ swap-middle (E && L && H && T) (time && lr && hr && tr) (K && Z) sr
+      ∙ ap (λ (t : Bool). t && (time && lr && hr && tr && sr)) (sym (and-assoc (E && L && H && T) K Z)))

@@ -1,16 +1,16 @@
 -- What the check of a node's page goes by: where it starts, its head, its slots one by one, and what a node of a status may not hold.
 use Prim.Native.Nat.{ℕ, zero, suc, _+_, _<_}
 use mathlib.Core.Path.{_≡_}
-use mathlib.Core.Bool.{Bool, _&&_}
+use mathlib.Core.Bool.{Bool, not, _&&_, _||_}
 use mathlib.Core.List.{List}
 use lib.ListN.{getD, take, drop}
 use lib.Dec.{leb, eqb}
 use Rattle.plan.specs.Plan.{planNodes}
 use Rattle.rules.specs.Line.{Entry, Held, Target, made}
-use Rattle.state.specs.Sizes.{pageAt, statusAt, crashedAt, entrySize, heldSize, targetSize}
+use Rattle.state.specs.Sizes.{pageAt, statusAt, crashedAt, entrySize, heldSize, targetSize, keptAt, keptSize, nodeRestAt, nodeRest}
 use Rattle.state.specs.Pieces.{entryLayout, heldLayout, targetLayout}
 use Rattle.state.specs.State.{lineOf}
-use Rattle.buffer.specs.Exact.{zeroAt, recordExact, originExact}
+use Rattle.buffer.specs.Exact.{zeroAt, recordExact, originExact, askedExact, listExact}
 use Rattle.buffer.specs.Check.{recordIn}
 use Rattle.buffer.specs.Ready.{Ready}
 use Rattle.items.specs.Items.{recordRight, originRight}
@@ -51,8 +51,12 @@ unfoldable pub heldMade : ℕ → ℕ → List ℕ → Bool
 unfolding originRight
 heldMade n a s = originExact (a + 13) s && originRight (lineOf s) n (made (heldIn a s .sender) (heldIn a s .time)) (heldIn a s .before)
 
--- What a node of a status may not hold is not there: by the status, the time and the counts of log, held records and targets.
-abbrev pub holdsNothing : ℕ → ℕ → ℕ → ℕ → ℕ → Bool
-holdsNothing zero time log held targets = eqb held 0 && eqb targets 0
-holdsNothing (suc zero) time log held targets = eqb time 0 && eqb log 0 && eqb held 0 && eqb targets 0
-holdsNothing (suc (suc n)) time log held targets = eqb log 0
+-- The end of a page at a: a kept answer or none, and what is unused.
+abbrev pub pageEndExact : ℕ → List ℕ → Bool
+pageEndExact a s = listExact askedExact 1 keptSize (a + keptAt) s && zeroAt (a + nodeRestAt) nodeRest s
+
+-- What a node of a status may not hold is not there: by the status, the time and the counts of log, held records, targets and kept answers.
+abbrev pub holdsNothing : ℕ → ℕ → ℕ → ℕ → ℕ → ℕ → Bool
+holdsNothing zero time log held targets kept = eqb held 0 && eqb targets 0 && eqb kept 0
+holdsNothing (suc zero) time log held targets kept = eqb time 0 && eqb log 0 && eqb held 0 && (eqb targets 0 || not (eqb kept 0))
+holdsNothing (suc (suc n)) time log held targets kept = eqb log 0 && eqb kept 0

@@ -14,7 +14,7 @@ ghost use Rattle.state.specs.State.{lineOf};
 ghost use Rattle.state.specs.Right.{wordAt};
 ghost use Rattle.items.specs.Items.{entriesRight, logRight, heldAllRight, targetRight, statusRight, nodePlain};
 ghost use Rattle.buffer.specs.Exact.{entryExact, heldExact, targetExact, slotsExact, listExact, pageExact};
-ghost use Rattle.node_check.specs.NodeCheck.{PageOf, targetIn, headExact, entryPlain, entryMade, heldPlain, heldMade, holdsNothing};
+ghost use Rattle.node_check.specs.NodeCheck.{PageOf, targetIn, headExact, entryPlain, entryMade, heldPlain, heldMade, pageEndExact, holdsNothing};
 ghost use Rattle.buffer.specs.Check.{Tabled, recordIn};
 ghost use Rattle.buffer.specs.Ready.{Ready};
 ghost use Rattle.buffer.specs.Table.{Table};
@@ -241,9 +241,22 @@ fn targets_ok(s: &[u8], t: &[u8; 156], steps: u32, n: usize, at: usize) -> bool
     let unused = bytes::all_zero(
         s,
         at + layout::TARGET_SLOTS + layout::TARGET_SIZE * (count as usize),
-        at + layout::PAGE_REST,
+        at + layout::KEPT,
     );
     used & unused
+}
+
+// The end of a page: how many answers are kept, one at most, and zero bytes where none is and behind it.
+fn rest_ok(s: &[u8], at: usize) -> bool
+    requires { ⌜ at + 4_096 ≤ length (now s) ⌝ }
+    ensures { λ r. ⌜ r ≡ pageEndExact at (now (s .entry)) ⌝ }
+{
+    let count = bytes::get32(s, at + layout::KEPT);
+    if count == 0 {
+        return bytes::all_zero(s, at + layout::KEPT_SLOT, at + layout::PAGE);
+    }
+    let unused = bytes::all_zero(s, at + layout::PAGE_REST, at + layout::PAGE);
+    (count == 1) & unused
 }
 
 // Status, crash mark, two bytes unused, time.
@@ -256,17 +269,17 @@ fn head_ok(s: &[u8], steps: u32, at: usize) -> bool
     (s[at] <= 2) & (s[at + 1] <= 1) & unused & (time <= steps)
 }
 
-// What a node of a status may not hold: held records and targets where it is up, anything where it is down, a log where it replays.
-fn holds_nothing(status: u8, time: u32, log: u32, held: u32, targets: u32) -> bool
-    ensures { λ r. ⌜ r ≡ holdsNothing status time log held targets ⌝ }
+// What a node of a status may not hold: held records, targets and a kept answer where it is up; anything but a kept answer and its targets where it is down; a log and a kept answer where it replays.
+fn holds_nothing(status: u8, time: u32, log: u32, held: u32, targets: u32, kept: u32) -> bool
+    ensures { λ r. ⌜ r ≡ holdsNothing status time log held targets kept ⌝ }
 {
     if status == 0 {
-        return (held == 0) & (targets == 0);
+        return (held == 0) & (targets == 0) & (kept == 0);
     }
     if status == 1 {
-        return (time == 0) & (log == 0) & (held == 0) & (targets == 0);
+        return (time == 0) & (log == 0) & (held == 0) & ((targets == 0) | (kept != 0));
     }
-    log == 0
+    (log == 0) & (kept == 0)
 }
 
 // Whether a crash mark is on a source or a sink.
@@ -291,12 +304,13 @@ fn status_ok(s: &[u8], t: &[u8; 156], n: usize, at: usize) -> bool
     let log = bytes::get32(s, at + layout::LOG);
     let held = bytes::get32(s, at + layout::HELD);
     let targets = bytes::get32(s, at + layout::TARGETS);
+    let kept = bytes::get32(s, at + layout::KEPT);
     let end = marks_an_end(s, t, n, crashed);
-    let nothing = holds_nothing(status, time, log, held, targets);
+    let nothing = holds_nothing(status, time, log, held, targets, kept);
     ((status == 0) | crashed) & !end & nothing
 }
 
-// A node's page: right bytes, and a right node but for what a replay asks.
+// A node's page: right bytes, and a right node but for what its restart asks.
 pub fn node_ok(s: &[u8], t: &[u8; 156], n: usize, steps: u32) -> bool
     requires { ⌜ Ready (now s) × Table (now s) (now t) × (n < planNodes (now s)) × (steps ≡ acceptedSteps (lineOf (now s))) ⌝ }
     ensures { λ r. ⌜ r ≡ (pageExact (pageAt n) (now (s .entry)) && nodePlain (lineOf (now (s .entry))) n) ⌝ }
@@ -306,7 +320,7 @@ pub fn node_ok(s: &[u8], t: &[u8; 156], n: usize, steps: u32) -> bool
     let log = log_ok(s, t, n, at);
     let held = held_ok(s, t, n, at);
     let targets = targets_ok(s, t, steps, n, at);
-    let rest = bytes::all_zero(s, at + layout::PAGE_REST, at + layout::PAGE);
+    let rest = rest_ok(s, at);
     let status = status_ok(s, t, n, at);
     head & log & held & targets & (rest & status)
 }

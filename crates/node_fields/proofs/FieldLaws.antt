@@ -3,24 +3,27 @@ use Prim.Native.Nat.{ℕ, zero, suc, _+_, _*_, _-_, _≤_, _<_}
 use mathlib.Core.Path.{_≡_, refl, sym, ap, _∙_}
 use mathlib.Core.Bool.{Bool}
 use mathlib.Core.List.{List, [], _∷_, _++_}
+use mathlib.Core.Option.{Option, none, some}
 use native.Mathlib.Omega.{arith}
+use lib.Dec.{lit≤}
 use lib.ListN.{length, getD, take, drop, replicate, length-append, length-drop, take-append-drop}
-use Rattle.basics.specs.Put.{put}
+use Rattle.basics.specs.Put.{put, puts, Adjacent, joined, put-replicate, puts-joined}
 use Rattle.plan.specs.Layout.{Layout, bytesOf, upToSlots}
-use Rattle.plan.specs.Lawful.{UpToFit}
-use Rattle.rules.specs.Line.{logLimit, heldLimit, targetLimit, Entry, Held, Target, Status, Node, nodeAt, withNode}
-use Rattle.state.specs.Sizes.{countSize, pageAt, crashedAt, timeAt, logAt, entrySize, heldAt, heldSize, targetsAt, targetSize}
+use Rattle.plan.specs.Lawful.{Each, UpToFit}
+use Rattle.rules.specs.Line.{logLimit, heldLimit, targetLimit, Entry, Held, Target, Asked, Status, Node, nodeAt, withNode}
+use Rattle.state.specs.Sizes.{countSize, pageAt, crashedAt, timeAt, logAt, entrySize, heldAt, heldSize, targetsAt, targetSize, keptAt, nodeRestAt}
 use Rattle.state.specs.Sound.{Sound}
 use Rattle.state.specs.Pieces.{entryLayout, heldLayout, targetLayout}
-use Rattle.state.specs.Node.{statusNumber, statusOf, crashNumber, logLayout, heldListLayout, targetsLayout}
+use Rattle.state.specs.Node.{statusNumber, statusOf, crashNumber, logLayout, heldListLayout, targetsLayout, keptLayout}
 use Rattle.state.specs.State.{lineBytes, lineOf}
-use Rattle.state.specs.Fits.{TimeFits, EntryFits, HeldFits, TargetFits, NodeFits}
+use Rattle.state.specs.Fits.{TimeFits, EntryFits, HeldFits, TargetFits, AskedFits, NodeFits}
 use Rattle.rules.specs.Trim.{withLog}
-use Rattle.state.specs.Changes.{withStatus, withCrashed, withTime, withHeld, withTargets, moreLogged, moreHeld, moreTargets}
+use Rattle.state.specs.Changes.{withStatus, withCrashed, withTime, withHeld, withTargets, withAsked, moreLogged, moreHeld, moreTargets}
 use Rattle.state.proofs.PieceLaws.{entry-sound, held-sound, target-sound}
+use Rattle.state.proofs.BlockLaws.{KeptFits, kept-sound}
 use Rattle.state.proofs.ListLaws.{each-append, each-split}
 use Rattle.state.proofs.Swapped.{Swapped, swap-in, counts-long, more-put, cleared-put, front-gone-put}
-use Rattle.state.proofs.Written.{node-status, node-crashed, node-time, node-log, node-held, node-targets}
+use Rattle.state.proofs.Written.{node-status, node-crashed, node-time, node-log, node-held, node-targets, node-kept}
 use Rattle.state.proofs.OffsetLaws.{line-log-at, line-held-at, line-target-at}
 use Rattle.buffer.specs.Holds.{AtNode, NodeNow}
 use Rattle.buffer.proofs.ReadyLaws.{counted}
@@ -61,28 +64,51 @@ module _ {s : List ℕ} {n : ℕ} (at : AtNode s n) where
   pub status-written : {t : List ℕ} (v : Status) → t ≡ put s (pageAt n) (bytesOf 1 (statusNumber v)) → NodeNow s n (withStatus v) t
   status-written v e =
       let f = node-fits at in
-      node-now (withStatus v) at (node-put at (withStatus v x) (record { time = f .time; log = f .log; held = f .held; targets = f .targets }) (node-status x v) (counts-long 1 (statusNumber (x .status)) (statusNumber v)) (pageAt n) (omega arith) e)
+      node-now (withStatus v) at (node-put at (withStatus v x) (record { time = f .time; log = f .log; held = f .held; targets = f .targets; asked = f .asked }) (node-status x v) (counts-long 1 (statusNumber (x .status)) (statusNumber v)) (pageAt n) (omega arith) e)
 
   pub crash-written : {t : List ℕ} (v : Bool) → t ≡ put s (pageAt n + crashedAt) (bytesOf 1 (crashNumber v)) → NodeNow s n (withCrashed v) t
   crash-written v e =
       let f = node-fits at in
-      node-now (withCrashed v) at (node-put at (withCrashed v x) (record { time = f .time; log = f .log; held = f .held; targets = f .targets }) (node-crashed x v) (counts-long 1 (crashNumber (x .crashed)) (crashNumber v)) (pageAt n + crashedAt) refl e)
+      node-now (withCrashed v) at (node-put at (withCrashed v x) (record { time = f .time; log = f .log; held = f .held; targets = f .targets; asked = f .asked }) (node-crashed x v) (counts-long 1 (crashNumber (x .crashed)) (crashNumber v)) (pageAt n + crashedAt) refl e)
 
   pub time-written : {t : List ℕ} (v : ℕ) → TimeFits v → t ≡ put s (pageAt n + timeAt) (bytesOf 4 v) → NodeNow s n (withTime v) t
   time-written v h e =
       let f = node-fits at in
-      node-now (withTime v) at (node-put at (withTime v x) (record { time = h; log = f .log; held = f .held; targets = f .targets }) (node-time x v) (counts-long 4 (x .time) v) (pageAt n + timeAt) refl e)
+      node-now (withTime v) at (node-put at (withTime v x) (record { time = h; log = f .log; held = f .held; targets = f .targets; asked = f .asked }) (node-time x v) (counts-long 4 (x .time) v) (pageAt n + timeAt) refl e)
+
+  -- ---- the kept answer
+
+  pub kept-written : {t : List ℕ} (v : Option Asked) → KeptFits v → t ≡ put s (pageAt n + keptAt) (keptLayout .write v) → NodeNow s n (withAsked v) t
+  kept-written v h e =
+      let f = node-fits at in
+      node-now (withAsked v) at (node-put at (withAsked v x) (record { time = f .time; log = f .log; held = f .held; targets = f .targets; asked = h }) (node-kept x v) (kept-sound .sized (x .asked) ∙ sym (kept-sound .sized v)) (pageAt n + keptAt) refl e)
+
+  pub kept-cleared : {t : List ℕ} (from to : ℕ) → from ≡ pageAt n + keptAt → to ≡ pageAt n + nodeRestAt → t ≡ take from s ++ replicate (to - from) 0 ++ drop to s → NodeNow s n (withAsked none) t
+  unfolding keptLayout
+  kept-cleared from to q r e = kept-written none (lit≤ tt, tt) (e ∙ put-replicate s from to 28 0 (omega arith) ∙ ap (λ (a : ℕ). put s a (replicate 28 0)) q)
+
+  -- Its count and its six numbers, one behind the other.
+  pub kept-put : {t : List ℕ} (v : Asked) (a b c d : ℕ) → v .entries ≡ a ∷ b ∷ c ∷ d ∷ [] → AskedFits v → (at : ℕ) → at ≡ pageAt n + keptAt → at ≤ length s
+      → t ≡ puts s ((at, bytesOf 4 1) ∷ (at + 4, bytesOf 4 (v .low)) ∷ (at + 8, bytesOf 4 (v .high)) ∷ (at + 12, bytesOf 4 a) ∷ (at + 16, bytesOf 4 b) ∷ (at + 20, bytesOf 4 c) ∷ (at + 24, bytesOf 4 d) ∷ [])
+      → NodeNow s n (withAsked (some v)) t
+  unfolding keptLayout
+  kept-put v a b c d four fits at q inside put-them =
+      let ps : List (ℕ × List ℕ) = (at, bytesOf 4 1) ∷ (at + 4, bytesOf 4 (v .low)) ∷ (at + 8, bytesOf 4 (v .high)) ∷ (at + 12, bytesOf 4 a) ∷ (at + 16, bytesOf 4 b) ∷ (at + 20, bytesOf 4 c) ∷ (at + 24, bytesOf 4 d) ∷ [] in
+      let next : Adjacent at ps = (refl, (refl, (omega arith, (omega arith, (omega arith, (omega arith, (omega arith, tt))))))) in
+      kept-written (some v) (lit≤ tt, (fits, tt))
+      (put-them ∙ puts-joined s at ps inside next ∙ ap (λ (o : ℕ). put s o (joined ps)) q
+      ∙ ap (λ (es : List ℕ). put s (pageAt n + keptAt) (keptLayout .write (some (record { low = v .low; high = v .high; entries = es })))) (sym four))
 
   -- ---- lists emptied
 
   fits-log : (es : List Entry) → UpToFit logLimit EntryFits es → NodeFits (withLog es x)
-  fits-log es h = let f = node-fits at in record { time = f .time; log = h; held = f .held; targets = f .targets }
+  fits-log es h = let f = node-fits at in record { time = f .time; log = h; held = f .held; targets = f .targets; asked = f .asked }
 
   fits-held : (hs : List Held) → UpToFit heldLimit HeldFits hs → NodeFits (withHeld hs x)
-  fits-held hs h = let f = node-fits at in record { time = f .time; log = f .log; held = h; targets = f .targets }
+  fits-held hs h = let f = node-fits at in record { time = f .time; log = f .log; held = h; targets = f .targets; asked = f .asked }
 
   fits-targets : (ts : List Target) → UpToFit targetLimit TargetFits ts → NodeFits (withTargets ts x)
-  fits-targets ts h = let f = node-fits at in record { time = f .time; log = f .log; held = f .held; targets = h }
+  fits-targets ts h = let f = node-fits at in record { time = f .time; log = f .log; held = f .held; targets = h; asked = f .asked }
 
   log-over : (es : List Entry) → Swapped (pageAt n + logAt) (logLayout .write (x .log)) (logLayout .write es) s (lineBytes (withNode n (withLog es x) (lineOf s)))
   log-over es = swap-in (node-over at (withLog es x)) (node-log x es)

@@ -1,17 +1,20 @@
 // A node's fields, read and written in the state's bytes. What is written leaves every other byte as it was: each function promises the line with that node changed.
 ghost use mathlib.Core.Path.{_≡_};
-ghost use mathlib.Core.Bool.{true};
-ghost use mathlib.Core.List.{[]};
+ghost use mathlib.Core.Bool.{true, not};
+ghost use mathlib.Core.List.{[], _∷_};
+ghost use mathlib.Core.Option.{none, some};
 ghost use Prim.Native.Nat.{_≤_, _<_};
 ghost use lib.ListN.{length, getD, drop};
 ghost use Rattle.plan.specs.Plan.{planNodes};
-ghost use Rattle.rules.specs.Line.{logLimit, heldLimit, targetLimit, nodeAt};
+ghost use Rattle.rules.specs.Line.{logLimit, heldLimit, targetLimit, Asked, nodeAt};
+ghost use Rattle.rules.specs.Step.{isNothing};
+ghost use Rattle.state.specs.Pieces.{askedNumbers};
 ghost use Rattle.state.specs.Node.{statusOf};
 ghost use Rattle.state.specs.State.{lineOf};
 ghost use Rattle.buffer.specs.Ready.{Ready};
 ghost use Rattle.buffer.specs.Holds.{AtNode, NodeNow};
 ghost use Rattle.rules.specs.Trim.{withLog};
-ghost use Rattle.state.specs.Changes.{withStatus, withCrashed, withTime, withHeld, withTargets, moreLogged, moreHeld, moreTargets};
+ghost use Rattle.state.specs.Changes.{withStatus, withCrashed, withTime, withHeld, withTargets, withAsked, moreLogged, moreHeld, moreTargets};
 ghost use Rattle.slots.specs.Slots.{entryIs, heldIs, targetIs};
 ghost use Rattle.buffer.specs.Nothing.{noEntry, noHeld, noTarget};
 use buffer::bytes;
@@ -81,6 +84,21 @@ pub fn target_of(s: &[u8], n: usize, i: usize) -> Goal
     )
 }
 
+// Whether an answer is kept with the node (document 02, 2026-07), and number i of a kept answer: low, high, the entries.
+pub fn has_kept(s: &[u8], n: usize) -> bool
+    requires { ⌜ Ready (now s) × (n < planNodes (now s)) ⌝ }
+    ensures { λ r. ⌜ r ≡ not (isNothing (nodeAt (lineOf (now (s .entry))) n .asked)) ⌝ }
+{
+    bytes::get32(s, layout::PAGE * (1 + n) + layout::KEPT) != 0
+}
+
+pub fn kept_number(s: &[u8], n: usize, i: usize) -> u32
+    requires { ⌜ Ready (now s) × (n < planNodes (now s)) × (i < 6) ⌝ }
+    ensures { λ r. ⌜ ((a : Asked) → nodeAt (lineOf (now (s .entry))) n .asked ≡ some a → r ≡ getD (askedNumbers a) i 0) ⌝ }
+{
+    bytes::get32(s, layout::PAGE * (1 + n) + (layout::KEPT_SLOT + 4 * i))
+}
+
 // ---- written
 
 // The status is 0 for up, 1 for down, 2 for replay.
@@ -131,6 +149,38 @@ pub fn clear_targets(s: &mut [u8], n: usize)
     let count = target_count(s, n);
     let at = layout::PAGE * (1 + n) + layout::TARGETS;
     bytes::fill_zero(s, at, at + layout::COUNT + layout::TARGET_SIZE * count);
+}
+
+// The kept answer written, and emptied.
+pub fn set_kept(
+    s: &mut [u8],
+    n: usize,
+    low: u32,
+    high: u32,
+    first: u32,
+    second: u32,
+    third: u32,
+    fourth: u32,
+)
+    requires { ⌜ AtNode (now s) n ⌝ }
+    ensures { λ _. ⌜ NodeNow (now (s .entry)) n (withAsked (some (record { low = low; high = high; entries = first ∷ second ∷ third ∷ fourth ∷ [] }))) (now (s .exit)) ⌝ }
+{
+    let at = layout::PAGE * (1 + n) + layout::KEPT;
+    bytes::put32(s, at, 1);
+    bytes::put32(s, at + 4, low);
+    bytes::put32(s, at + 8, high);
+    bytes::put32(s, at + 12, first);
+    bytes::put32(s, at + 16, second);
+    bytes::put32(s, at + 20, third);
+    bytes::put32(s, at + 24, fourth);
+}
+
+pub fn clear_kept(s: &mut [u8], n: usize)
+    requires { ⌜ AtNode (now s) n ⌝ }
+    ensures { λ _. ⌜ NodeNow (now (s .entry)) n (withAsked none) (now (s .exit)) ⌝ }
+{
+    let at = layout::PAGE * (1 + n);
+    bytes::fill_zero(s, at + layout::KEPT, at + layout::PAGE_REST);
 }
 
 // One more entry in the log, one more held record, one more target, behind the others.

@@ -12,7 +12,7 @@ use Rattle.plan.specs.Plan.{nodeCount, channelCount, isSource}
 use Rattle.rules.specs.Lists.{isEmpty}
 use Rattle.rules.specs.Line.{logLimit, queueLimit, Line, nodeAt, laneAt, receiverOf}
 use Rattle.rules.specs.Frame.{Frame, feed, send, take}
-use Rattle.rules.specs.Step.{noSuch, someStopped, wrongNode, endDown, wrongStatus, besideCrashed, badRecord, sendable, isNothing, nothingThere, queueFull, replaying, rowDone, takeLacks, noSpace, effect, noPlacing, lineRefusal}
+use Rattle.rules.specs.Step.{noSuch, someStopped, wrongNode, endDown, wrongStatus, besideCrashed, noAnswer, badRecord, sendable, isNothing, nothingThere, queueFull, replaying, rowDone, takeLacks, noSpace, effect, noPlacing, lineRefusal}
 use Rattle.state.specs.State.{lineOf}
 use Rattle.buffer.specs.Holds.{Holds, Did}
 
@@ -22,7 +22,7 @@ firstOf [] = 0
 firstOf ((k, t) ∷ ts) = elim t [ true ↦ k | false ↦ firstOf ts ]
 
 pub refusal-first : (l : Line) (f : Frame) → lineRefusal l f
-    ≡ firstOf ((13, noSuch l f) ∷ (26, someStopped l f) ∷ (14, wrongNode l f) ∷ (15, wrongStatus l f) ∷ (16, besideCrashed l f) ∷ (17, badRecord f) ∷ (18, nothingThere l f) ∷ (19, queueFull l f) ∷ (20, rowDone l f) ∷ (21, noSpace l f) ∷ (24, noPlacing l f) ∷ [])
+    ≡ firstOf ((13, noSuch l f) ∷ (26, someStopped l f) ∷ (14, wrongNode l f) ∷ (15, wrongStatus l f) ∷ (16, besideCrashed l f) ∷ (27, noAnswer l f) ∷ (17, badRecord f) ∷ (18, nothingThere l f) ∷ (19, queueFull l f) ∷ (20, rowDone l f) ∷ (21, noSpace l f) ∷ (24, noPlacing l f) ∷ [])
 unfolding lineRefusal noPlacing
 refusal-first l f = refl
 

@@ -9,4 +9,6 @@ pub mod RestoredLaws
 pub mod ToldLaws
 pub mod RisingLaws
 pub mod RowLaws
+pub mod ListedLaws
 pub mod ReplayLaws
+pub mod KeptLaws

@@ -6,10 +6,10 @@ use mathlib.Core.List.{List, [], _∷_, _++_, map}
 use lib.Dec.{leb, ltb, eqb}
 use lib.ListN.{length, getD, set, take, drop}
 use Rattle.plan.specs.Plan.{planOf, planNodes, channelAt, entering}
-use Rattle.rules.specs.Lists.{keep, allOf, greatestOf}
-use Rattle.rules.specs.Line.{logLimit, Entry, Target, Line, nodeAt, laneAt, senderOf, targetLimit}
-use Rattle.rules.specs.Recover.{lowThrough, triple, triples, sameTarget, targetBefore, addTarget, sortTargets, restored, conflict, rowGoal}
-use Rattle.rules.specs.Damaged.{sameTargets}
+use Rattle.rules.specs.Lists.{isEmpty, keep, allOf, greatestOf}
+use Rattle.rules.specs.Line.{logLimit, Entry, Target, Asked, Line, nodeAt, laneAt, senderOf, targetLimit}
+use Rattle.rules.specs.Recover.{lowThrough, triple, triples, sameTarget, targetBefore, addTarget, sortTargets, restored, conflict, rowGoal, answerOf}
+use Rattle.rules.specs.Damaged.{sameTargets, sameAnswer}
 use Rattle.state.specs.Sizes.{pageAt, logAt}
 use Rattle.state.specs.Right.{wordAt}
 use Rattle.state.specs.State.{lineOf}
@@ -162,8 +162,18 @@ rowIn l n ts parent = leb (rowGoal ts parent) (restored l n parent)
 abbrev pub rowsIn : Line → ℕ → List Target → Bool
 rowsIn l n ts = allOf (λ (c : ℕ). rowIn l n ts (senderOf l c)) (entering (l .plan) n)
 
+-- Targets that conflict, or all of whose rows are complete at once: nothing is held then, and no target is.
+abbrev pub noOutcome : Line → ℕ → List Target → Bool
+noOutcome l n ts = not (isEmpty ts) && (conflict ts || rowsIn l n ts)
+
 -- ---- a replaying node
 
 -- What is left of the test when targets are found, neither none nor too many.
 abbrev pub replayFound : Line → ℕ → ℕ → List Target → Bool
 replayFound l n low ts = not (conflict ts) && not (rowsIn l n ts) && eqb (nodeAt l n .time) low && sameTargets (nodeAt l n .targets) ts
+
+-- ---- a kept answer
+
+-- What is left of the test when the targets found are not too many.
+abbrev pub answerFound : Line → ℕ → Asked → List Target → Bool
+answerFound l n a ts = not (noOutcome l n ts) && (sameAnswer a (answerOf l n) && sameTargets (nodeAt l n .targets) ts)

@@ -5,13 +5,13 @@ ghost use mathlib.Core.List.{List};
 ghost use lib.Dec.{eqb};
 ghost use Prim.Native.Nat.{_≤_, _<_};
 ghost use lib.ListN.{length};
-ghost use Rattle.plan.specs.Plan.{planOf, channelAt};
+ghost use Rattle.plan.specs.Plan.{planOf, planNodes, channelAt};
 ghost use Rattle.rules.specs.Line.{Target};
-ghost use Rattle.rules.specs.Recover.{restored, conflict, rowGoal};
+ghost use Rattle.rules.specs.Recover.{restored, conflict, rowGoal, answerOf};
 ghost use Rattle.state.specs.State.{lineOf};
 ghost use Rattle.buffer.specs.Ready.{Ready, OnChannel};
 ghost use Rattle.buffer.specs.Rows.{rowsLong, Rows};
-ghost use Rattle.recover.specs.Found.{slotsLong, targetsIn, rowsIn, raisedAt, isAbove, rowReached};
+ghost use Rattle.recover.specs.Found.{slotsLong, targetsIn, rowsIn, raisedAt, isAbove, rowReached, noOutcome};
 use crate::goals;
 use buffer::bytes;
 use buffer::look;
@@ -93,4 +93,35 @@ pub fn rows_restored(s: &[u8], n: usize, goals: &[u32; 12], entries: &[u32; 12])
         b += 1;
     }
     ok
+}
+
+// Whether targets conflict, or all rows are complete as soon as the node is restored, and it has targets.
+pub fn no_outcome(s: &[u8], n: usize, xs: &[u32], count: usize, entries: &[u32; 12]) -> bool
+    requires { ⌜ Ready (now s) × (length (now xs) ≡ slotsLong) × (count ≤ 64) × Rows (now entries) (restored (lineOf (now s)) n) ⌝ }
+    ensures { λ r. ⌜ r ≡ noOutcome (lineOf (now (s .entry))) n (targetsIn (now (xs .entry)) count) ⌝ }
+{
+    if count == 0 {
+        return false;
+    }
+    let mut goals: [u32; 12] = [0; 12];
+    let clash = conflict_in(xs, count, &mut goals);
+    let done = rows_restored(s, n, &goals, entries);
+    clash | done
+}
+
+// The restored entry of each parent, in the order of the channels that enter the node, 0 behind them.
+pub fn listed(s: &[u8], n: usize, entries: &[u32; 12], out: &mut [u32; 4])
+    requires { ⌜ Ready (now s) × (n < planNodes (now s)) × Rows (now entries) (restored (lineOf (now s)) n) ⌝ }
+    ensures { λ _. ⌜ now (out .exit) ≡ answerOf (lineOf (now (s .entry))) n .entries ⌝ }
+{
+    *out = [0; 4];
+    let mut left = plan::masks::entering_mask(s, n);
+    let mut place: usize = 0;
+    while left != 0 {
+        let b = plan::masks::mask_next(left);
+        let parent = look::sender_of(s, b as usize);
+        out[place] = entries[parent];
+        left = plan::masks::without(left, b);
+        place += 1;
+    }
 }

@@ -52,8 +52,8 @@ module _ (l : Line) (sound : Sound l) (n : ℕ) (within : n < nodeCount (l .plan
       let e = in-right (nodeAt l n .log) (in-map heldEntry (in-at (nodeAt l n .held) i noHeld h)) in
       parent-small (getD (nodeAt l n .held) i noHeld .sender) (sound .standing .nodes n within .fits .entries (heldEntry (getD (nodeAt l n .held) i noHeld)) e .origin .0)
 
-  log-empty : replaying l n ≡ true → nodeAt l n .log ≡ []
-  log-empty e = subst (λ (z : Status). Empties z (nodeAt l n)) (is-replay (nodeAt l n .status) e) (sound .standing .nodes n within .fits .empties)
+  emptied : replaying l n ≡ true → (nodeAt l n .log ≡ []) × (nodeAt l n .asked ≡ none)
+  emptied e = subst (λ (z : Status). Empties z (nodeAt l n)) (is-replay (nodeAt l n .status) e) (sound .standing .nodes n within .fits .empties)
 
 -- ---- refused
 
@@ -166,7 +166,7 @@ module _ {s : List ℕ} {b n : ℕ} {m : Message} {h : Held} {goes : Bool} (v : 
       pub not-placed : logLimit < r → Did s (take b) s 24
       not-placed more =
           let all : r ≡ 65 = omega (arith, found .few) in
-          refused s (take b) 24 (λ z. omega arith) (number none true (leads ∙ found .none all after (as-in s u b (v .below) m (v .first) (v .again))) refl)
+          refused s (take b) 24 (λ z. omega arith) (number none true (leads ∙ found .nowhere all after (as-in s u b (v .below) m (v .first) (v .again))) refl)
 
       -- The log's numbers name held records.
       pub loggable : r ≤ logLimit → Loggable (lineOf s) n h out r
@@ -177,7 +177,8 @@ module _ {s : List ℕ} {b n : ℕ} {m : Message} {h : Held} {goes : Bool} (v : 
           let o = ordered-channels (l .plan) (fits .channels) in
           let here-below : b < channelCount (l .plan) = rw (sym (holds-channels (u .holds))) (v .below) in
           record {
-            empty = log-empty l sound n inner (ap (replaying l) (v .to) ∙ v .again);
+            empty = emptied l sound n inner (ap (replaying l) (v .to) ∙ v .again) .0;
+            unasked = emptied l sound n inner (ap (replaying l) (v .to) ∙ v .again) .1;
             few = q;
             long = ends .long;
             numbers = λ j i. at-most goes (ends .inside q j i);

@@ -3,6 +3,7 @@ use Prim.Native.Nat.{ℕ, zero, suc, _+_, _≤_, _<_}
 use mathlib.Core.Path.{_≡_, refl, sym, ap, ap₂, subst, _∙_}
 use mathlib.Core.Bool.{Bool, true, false}
 use mathlib.Core.List.{List, [], _∷_, _++_}
+use mathlib.Core.Option.{none}
 use native.Mathlib.Numerals.{add-one}
 use native.Mathlib.Omega.{arith}
 use lib.ListN.{length, getD, length-append}
@@ -114,6 +115,7 @@ module _ (s₀ : List ℕ) (n : ℕ) (last : Held) (out : List ℕ) (count : ℕ
 pub loggable-same : (l k : Line) (n : ℕ) (last : Held) (out : List ℕ) (count : ℕ) → nodeAt k n ≡ nodeAt l n → Loggable l n last out count → Loggable k n last out count
 loggable-same l k n last out count e ok = record {
   empty = ap (λ (y : Node). y .log) e ∙ ok .empty;
+  unasked = ap (λ (y : Node). y .asked) e ∙ ok .unasked;
   few = ok .few;
   long = ok .long;
   numbers = λ j h. rw (ap (λ (y : Node). y .held) e) (ok .numbers j h);
@@ -131,9 +133,9 @@ module _ {s t : List ℕ} {n b : ℕ} (e : Enters s n b) (m : Message) (now : Ho
       record { on = onward-node on (e .on); below = rw (on .channels) (e .below); to = e .to ∙ sym (ap (λ (p : Plan). channelAt p b .receiver) (taken-plan at b m now)) }
 
   pub end-now : (last : Held) (out : List ℕ) (count high : ℕ) {u v w x y : List ℕ} → NodeNow t n (withLog (endLog (lineOf t) n last out count)) u → NodeNow u n (withHeld []) v
-      → NodeNow v n (withTargets []) w → NodeNow w n (withTime high) x → NodeNow x n (withStatus up) y → high ≡ highOf (lineOf s) n
+      → NodeNow v n (withTargets []) w → NodeNow w n (withTime high) x → NodeNow x n (withStatus up) y → high ≡ highOf (lineOf s) n → nodeAt (lineOf s) n .asked ≡ none
       → Holds y (withNode n (endedNode (lineOf s) n (endLog (lineOf s) n last out count)) (takenNow (lineOf s) b m))
-  end-now last out count high {u} {v} {w} {x} {y} logged held targets timed status is =
+  end-now last out count high {u} {v} {w} {x} {y} logged held targets timed status is unasked =
       let log : Node → Node = withLog (endLog (lineOf t) n last out count) in
       let on = enters-taken .on in
       let all = node-then on (node-then on (node-then on (node-then on logged held) targets) timed) status in
@@ -145,5 +147,6 @@ module _ {s t : List ℕ} {n b : ℕ} (e : Enters s n b) (m : Message) (now : Ho
         log = loggedFrom (setOf (taken-plan at b m now i) n) (taken-node at b m now n i .held ++ last ∷ []) out count;
         held = [];
         targets = [];
+        asked = unasked i;
       }) (takenNow (lineOf s) b m))
       (node-now at b m now n (λ (z : Node). withStatus up (withTime high (withTargets [] (withHeld [] (log z))))) all)

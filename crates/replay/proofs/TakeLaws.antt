@@ -3,7 +3,7 @@ use Prim.Native.Nat.{ℕ, zero, suc, _+_, _<_, max}
 use mathlib.Core.Path.{_≡_, refl, sym, ap, ap₂, _∙_}
 use mathlib.Core.Bool.{Bool, true, false, cond, _&&_}
 use mathlib.Core.List.{List, [], _∷_, _++_}
-use mathlib.Core.Option.{some}
+use mathlib.Core.Option.{none, some}
 use native.Mathlib.Omega.{arith}
 use native.Mathlib.Decide.{ℕ-discrete}
 use borrow.Author.Tests.{ne-eqb, eq-eqb, lt-leb}
@@ -197,6 +197,7 @@ module _ (s : List ℕ) (u : Undamaged s) (b : ℕ) (below : b < planChannels s)
         log = logged goes f i;
         held = [];
         targets = [];
+        asked = none;
       }) (takenNow l b m))
     where
       logged : (t : Bool) → ((j : ℕ) → j < r → getD out j 0 < length (heldWith l n t h)) → loggedFrom (setOf (l .plan) n) (heldWith l n t h) out r ≡ endLog l n h out r

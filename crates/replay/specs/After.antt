@@ -3,6 +3,7 @@ use Prim.Native.Nat.{ℕ, max, _≤_, _<_}
 use mathlib.Core.Path.{_≡_}
 use mathlib.Core.Bool.{Bool, true, false, cond, _&&_}
 use mathlib.Core.List.{List, [], _∷_, _++_}
+use mathlib.Core.Option.{none}
 use lib.Dec.{leb, eqb}
 use lib.ListN.{length, getD, drop}
 use Rattle.plan.specs.Mask.{setOf}
@@ -52,7 +53,7 @@ endLog l n last out r = loggedFrom (setOf (l .plan) n) (nodeAt l n .held ++ last
 
 -- The node then.
 abbrev pub endedNode : Line → ℕ → List Entry → Node
-endedNode l n log = record { status = up; crashed = nodeAt l n .crashed; time = highOf l n; log = log; held = []; targets = [] }
+endedNode l n log = record { status = up; crashed = nodeAt l n .crashed; time = highOf l n; log = log; held = []; targets = []; asked = none }
 
 -- A channel b that enters a node n.
 pub record Enters (s : List ℕ) (n b : ℕ) : Type 0 where
@@ -63,6 +64,7 @@ pub record Enters (s : List ℕ) (n b : ℕ) : Type 0 where
 -- What the log's numbers must be: none past the held records and one more, whose senders a byte can name.
 pub record Loggable (l : Line) (n : ℕ) (last : Held) (out : List ℕ) (count : ℕ) : Type 0 where
   pub empty : nodeAt l n .log ≡ []
+  pub unasked : nodeAt l n .asked ≡ none
   pub few : count ≤ logLimit
   pub long : length out ≡ 128
   pub numbers : (j : ℕ) → j < count → getD out j 0 ≤ length (nodeAt l n .held)

@@ -37,8 +37,8 @@ loggedFrom sets hs out (suc j) = loggedFrom sets hs out j ++ entryFrom sets hs o
 pub record Ends (l : Line) (n : ℕ) (hs : List Held) (out : List ℕ) (r : ℕ) : Type 0 where
   pub long : length out ≡ 128
   pub few : r ≤ 65
-  pub none : r ≡ 65 → (k : Line) → AsIn l n hs k → replayEnd n k ≡ none
+  pub nowhere : r ≡ 65 → (k : Line) → AsIn l n hs k → replayEnd n k ≡ none
   pub ended : r ≤ logLimit → (k : Line) → AsIn l n hs k
-      → replayEnd n k ≡ some (withNode n (record { status = up; crashed = nodeAt k n .crashed; time = highOf k n; log = loggedFrom (setOf (l .plan) n) hs out r; held = []; targets = [] }) k)
+      → replayEnd n k ≡ some (withNode n (record { status = up; crashed = nodeAt k n .crashed; time = highOf k n; log = loggedFrom (setOf (l .plan) n) hs out r; held = []; targets = []; asked = none }) k)
   pub inside : r ≤ logLimit → (j : ℕ) → j < r → getD out j 0 < length hs
   pub placed : r ≤ logLimit → r ≤ length hs

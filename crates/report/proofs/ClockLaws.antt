@@ -1,33 +1,20 @@
--- The parents that a clock lists: their channels, the entries for them, and their parts one behind the other.
-use Prim.Native.Nat.{ℕ, zero, suc, _+_, _-_, _*_, _^_, _≤_, _<_}
-use mathlib.Core.Path.{_≡_, refl, sym, ap, subst, _∙_}
-use mathlib.Core.Logic.{_≢_, _⊎_, inl, inr}
-use mathlib.Core.List.{List, [], _∷_, _++_, map, zipWith, append-assoc, append-nil}
+-- The parents' parts of a clock, one behind the other.
+use Prim.Native.Nat.{ℕ, zero, suc, _+_, _-_, _*_, _≤_, _<_}
+use mathlib.Core.Path.{_≡_, refl, sym, ap, _∙_}
+use mathlib.Core.Logic.{_≢_}
+use mathlib.Core.List.{List, [], _∷_, _++_, zipWith, append-assoc, append-nil}
 use native.Mathlib.Nat.{zero-mul, one-mul, add-mul, mul-le-mul-right}
 use native.Mathlib.Numerals.{add-one}
 use native.Mathlib.Omega.{arith}
-use lib.ListN.{length, getD, drop, length-map, length-drop, drop-of-length-le}
-use lib.Pow.{pow-pos}
+use lib.ListN.{length, getD, drop, drop-of-length-le}
 use lib.Seq.{drop-cons}
-use Rattle.basics.specs.Bools.{below-or-not}
-use Rattle.plan.specs.Plan.{Plan, planOf, planNodes, planChannels, channelAt, nodeCount, entering}
-use Rattle.plan.specs.Mask.{maskOf, Rising, planMask, FirstOf}
-use Rattle.plan.proofs.MaskLaws.{rising-lower, entering-rise, mask-few}
-use Rattle.plan.proofs.AcceptedLaws.{four-at}
-use Rattle.plan.proofs.FitsLaws.{fitting}
-use Rattle.plan.proofs.PlanLaws.{node-count, channel-count}
+use Rattle.plan.specs.Plan.{Plan, planOf, channelAt, entering}
+use Rattle.plan.specs.Mask.{maskOf}
 use Rattle.rules.specs.Line.{Line, nodeAt, laneAt, senderOf}
-use Rattle.rules.specs.Sheet.{spaced, bracketed, nodeAndTime, listed, clockText}
-use Rattle.rules.proofs.lists.ListLaws.{map-at}
-use Rattle.rules.proofs.lists.Members.{in-drop}
-use Rattle.rules.proofs.line.Joins.{entering-in}
+use Rattle.rules.specs.Sheet.{bracketed, nodeAndTime, listed, clockText}
 use Rattle.state.specs.State.{lineOf}
 use Rattle.state.proofs.InPlace.{line-plan}
-use Rattle.state.proofs.PlanFitting.{heard-long}
-use Rattle.buffer.specs.Ready.{Ready, OnChannel}
-use Rattle.buffer.specs.Holds.{Holds, AtNode, AtLane}
-use Rattle.buffer.proofs.ReadyLaws.{heard-entering, sender-inside}
-use Rattle.buffer.proofs.MaskWalk.{Left, Next, next}
+use Rattle.buffer.specs.Holds.{AtNode}
 use Rattle.report.specs.declared.Heard.{Heard}
 use Rattle.report.specs.declared.Heard.the-variants.{Itself, Through}
 use Rattle.report.specs.declared.Parent.{Parent}
@@ -36,102 +23,15 @@ use Rattle.report.specs.Most.{clockMost}
 use Rattle.report.specs.Parts.{after}
 use Rattle.report.specs.Wrote.{Wrote}
 use Rattle.report.proofs.PartsLaws.{spaced-after}
+use Rattle.report.proofs.ParentLaws.{mask-empty, entering-same, four-parents, times-long, Walking, walking-four, walking-end, walking-turn, walking-less}
 use Rattle.report.proofs.WroteLaws.{Writing, wrote-most, writing-of, writing-start, writing-on, writing-as, writing-last}
-
-pub separator-first : (place : ℕ) → place ≡ 0 → 91 ≡ separatorAt place
-separator-first place e = rw e
-
-pub separator-later : (place : ℕ) → place ≢ 0 → 32 ≡ separatorAt place
-separator-later zero h = absurd (h refl)
-separator-later (suc place) h = refl
-
--- ---- the channels from a place on
-
-rising-drop : (k i : ℕ) (bs : List ℕ) → Rising k bs → Rising k (drop i bs)
-rising-drop k zero bs r = r
-rising-drop k (suc i) [] r = tt
-rising-drop k (suc i) (b ∷ bs) r = rising-drop k i bs (rising-lower k (suc b) bs (omega (arith, r .0)) (r .1))
-
--- The first of them is the one at that place.
-first-there : {b : ℕ} {rest : List ℕ} (place : ℕ) (bs : List ℕ) → drop place bs ≡ b ∷ rest → (place < length bs) × (b ≡ getD bs place 0) × (rest ≡ drop (suc place) bs)
-first-there {b} {rest} place bs e = go (below-or-not place (length bs))
-  where
-    go : (place < length bs) ⊎ (length bs ≤ place) → (place < length bs) × (b ≡ getD bs place 0) × (rest ≡ drop (suc place) bs)
-    go (inl h) =
-        let same : b ∷ rest ≡ getD bs place 0 ∷ drop (suc place) bs = sym e ∙ drop-cons bs place 0 h in
-        let one : b ≡ getD bs place 0 = cc in
-        let others : rest ≡ drop (suc place) bs = cc in
-        (h, one, others)
-    go (inr h) =
-        let none : drop place bs ≡ [] = drop-of-length-le bs {i = place} h in
-        let z : _≡_ {A = ℕ} 0 1 = cc in
-        let no : ⊥ = omega arith in
-        absurd no
-
--- ---- one parent
-
-module _ (s : List ℕ) (n : ℕ) (ready : Ready s) where
-  abbrev those : List ℕ
-  those = entering (planOf s) n
-
-  listed-same : entering (lineOf s .plan) n ≡ entering (planOf s) n
-  listed-same = ap (λ (p : Plan). entering p n) (line-plan s)
-
-  pub parents-none : (layers : ℕ) → layers ≡ 0 → 0 ≡ maskOf (parentsListed (lineOf s) layers n)
-  parents-none layers e = rw e
-
-  pub parents-some : (layers mask : ℕ) → layers ≢ 0 → mask ≡ planMask s (entering (planOf s) n) → mask ≡ maskOf (parentsListed (lineOf s) layers n)
-  parents-some zero mask h e = absurd (h refl)
-  parents-some (suc layers) mask h e = e ∙ mask-few s (ready .channels) those ∙ ap maskOf (sym listed-same)
-
-  channels-left : (left place : ℕ) → left ≡ maskOf (drop place (entering (planOf s) n)) → left < 2 ^ 32 → Left (planChannels s) left (drop place (entering (planOf s) n))
-  channels-left left place e small =
-      record {
-        rise = rising-drop 0 place those (entering-rise (planOf s) n);
-        is = e;
-        small = small;
-        inside = λ b x. omega (arith, entering-in (planOf s) n b (in-drop place those x) .0, channel-count s);
-      }
-
-  pub next-channel : (left place b : ℕ) → left ≡ maskOf (drop place (entering (planOf s) n)) → left < 2 ^ 32 → left ≢ 0 → FirstOf left b → Next (planChannels s) left b (drop place (entering (planOf s) n))
-  next-channel left place b e small some first = next (planChannels s) left b (drop place those) (channels-left left place e small) some first
-
-  pub at-place : (left place b : ℕ) → Next (planChannels s) left b (drop place (entering (planOf s) n)) → (place < length (entering (planOf s) n)) × (getD (entering (planOf s) n) place 0 ≡ b)
-  at-place left place b x = let (h, e, r) = first-there place those (x .first) in (h, sym e)
-
-  pub behind-place : (left place b : ℕ) → Next (planChannels s) left b (drop place (entering (planOf s) n)) → left - 2 ^ b ≡ maskOf (drop (suc place) (entering (planOf s) n))
-  behind-place left place b x = let (h, e, r) = first-there place those (x .first) in x .after .is ∙ ap maskOf r
-
-  -- As many entries as parents.
-  pub times-long : (h : Heard) → HeardAt s n h → length (timesOf (lineOf s) n h) ≡ length (entering (planOf s) n)
-  unfolding timesOf
-  times-long Itself x = length-map (entering (lineOf s .plan) n) (λ (b : ℕ). laneAt (lineOf s) b .taken) ∙ ap length listed-same
-  times-long (Through c) x =
-      heard-long s (ready .fits) c (x .0) ∙ sym (heard-entering s c (record { ready = ready; below = x .0 })) ∙ ap (λ (k : ℕ). length (entering (planOf s) k)) (x .1)
-
-  pub own-time : (h : Heard) (place b : ℕ) → h ≡ Itself → place < length (entering (planOf s) n) → getD (entering (planOf s) n) place 0 ≡ b → laneAt (lineOf s) b .taken ≡ getD (timesOf (lineOf s) n h) place 0
-  unfolding timesOf
-  own-time h place b e inside is =
-      let taken : ℕ → ℕ = λ (b : ℕ). laneAt (lineOf s) b .taken in
-      rw e (ap taken (sym is) ∙ sym (map-at taken those place 0 0 inside) ∙ ap (λ (bs : List ℕ). getD (map taken bs) place 0) (sym listed-same))
-
-  pub heard-time : (h : Heard) (place c : ℕ) → h ≡ Through c → getD (laneAt (lineOf s) c .heard) place 0 ≡ getD (timesOf (lineOf s) n h) place 0
-  unfolding timesOf
-  heard-time h place c e = rw e
-
--- The channel that entries are heard through, and one of them.
-pub through-at : (s : List ℕ) (n : ℕ) → Ready s → (h : Heard) (place c : ℕ) → h ≡ Through c → HeardAt s n h → place < length (entering (planOf s) n) → Ready s × (c < planChannels s) × (place < length (laneAt (lineOf s) c .heard))
-unfolding timesOf
-through-at s n ready h place c e x inside =
-    let y : HeardAt s n (Through c) = subst (λ (k : Heard). HeardAt s n k) e x in
-    (ready, y .0, omega (arith, times-long s n ready (Through c) y))
 
 -- ---- the parts, one behind the other
 
 -- Each behind what stands before it.
 abbrev pub partsFrom : ℕ → List (List ℕ) → List ℕ
 partsFrom place [] = []
-partsFrom place (w ∷ ws) = (separatorAt place ∷ []) ++ (w ++ partsFrom (suc place) ws)
+partsFrom place (w ∷ ws) = (separatorAt 91 place ∷ []) ++ (w ++ partsFrom (suc place) ws)
 
 parts-after : (place : ℕ) (ws : List (List ℕ)) → partsFrom (suc place) ws ≡ after ws
 parts-after place [] = refl
@@ -159,7 +59,7 @@ module _ (l : Line) (layers n t : ℕ) (ts : List ℕ) where
   unfolding zipWith
   listed-none e = rw e (append-nil (nodeAndTime n t))
 
-  module _ (long : length ts ≡ length (entering (l .plan) n)) where
+  module _ (long : length (entering (l .plan) n) ≤ length ts) where
     zip-at : (place : ℕ) → place < length channels
         → zipWith part (drop place channels) (drop place ts) ≡ part (getD channels place 0) (getD ts place 0) ∷ zipWith part (drop (suc place) channels) (drop (suc place) ts)
     unfolding zipWith
@@ -168,26 +68,16 @@ module _ (l : Line) (layers n t : ℕ) (ts : List ℕ) where
     pub listed-parts : 0 < length (entering (l .plan) n) → listed l (suc layers) n t ts ≡ nodeAndTime n t ++ rest 0
     listed-parts h = ap (λ (x : List ℕ). nodeAndTime n t ++ x) (rw (zip-at 0 h) (brackets (part (getD channels 0 0) (getD ts 0 0)) (zipWith part (drop 1 channels) (drop 1 ts))))
 
-    pub rest-at : (place : ℕ) → place < length (entering (l .plan) n) → rest place ≡ (separatorAt place ∷ []) ++ (part (getD (entering (l .plan) n) place 0) (getD ts place 0) ++ rest (suc place))
+    pub rest-at : (place : ℕ) → place < length (entering (l .plan) n) → rest place ≡ (separatorAt 91 place ∷ []) ++ (part (getD (entering (l .plan) n) place 0) (getD ts place 0) ++ rest (suc place))
     rest-at place h =
         ap (λ (ws : List (List ℕ)). partsFrom place ws ++ 93 ∷ []) (zip-at place h)
-        ∙ ap (λ (x : List ℕ). separatorAt place ∷ x) (append-assoc (part (getD channels place 0) (getD ts place 0)) (partsFrom (suc place) (zipWith part (drop (suc place) channels) (drop (suc place) ts))) (93 ∷ []))
+        ∙ ap (λ (x : List ℕ). separatorAt 91 place ∷ x) (append-assoc (part (getD channels place 0) (getD ts place 0)) (partsFrom (suc place) (zipWith part (drop (suc place) channels) (drop (suc place) ts))) (93 ∷ []))
 
     pub rest-none : (place : ℕ) → length (entering (l .plan) n) ≤ place → rest place ≡ 93 ∷ []
     unfolding zipWith
     rest-none place h = rw (drop-of-length-le channels {i = place} h)
 
 -- ---- as they are written
-
-pub node-few : (s : List ℕ) (n : ℕ) → AtNode s n → n < 12
-node-few s n a = omega (arith, a .inside, a .holds .ready .nodes)
-
-mask-empty : (bs : List ℕ) → maskOf bs ≡ 0 → bs ≡ []
-mask-empty [] e = refl
-mask-empty (b ∷ bs) e = let p : 0 < 2 ^ b = pow-pos b in let no : ⊥ = omega arith in absurd no
-
-drop-empty : (i : ℕ) (bs : List ℕ) → drop i bs ≡ [] → length bs ≤ i
-drop-empty i bs e = omega (arith, length-drop i bs, ap length e)
 
 pub root-most : (layers : ℕ) → 21 ≤ clockMost layers
 root-most zero = omega arith
@@ -198,8 +88,7 @@ pub record Listing (s : List ℕ) (layers n t : ℕ) (h : Heard) (out : List ℕ
   pub deeper : layers ≡ suc (layers - 1)
   pub room : at + (4 * (1 + clockMost (layers - 1)) + 1) ≤ length out
   pub some : 0 < length (entering (planOf s) n)
-  pub mask : left ≡ maskOf (drop place (entering (planOf s) n))
-  pub few : place ≤ length (entering (planOf s) n)
+  pub walking : Walking s n left place
   pub writing : Writing (rest (lineOf s) (layers - 1) n t (timesOf (lineOf s) n h) 0) out at (place * (1 + clockMost (layers - 1))) now to (rest (lineOf s) (layers - 1) n t (timesOf (lineOf s) n h) place)
 
 module _ (s : List ℕ) (n t : ℕ) (h : Heard) (node : AtNode s n) (heard : HeardAt s n h) where
@@ -209,17 +98,11 @@ module _ (s : List ℕ) (n t : ℕ) (h : Heard) (node : AtNode s n) (heard : Hea
   abbrev ts : List ℕ
   ts = timesOf (lineOf s) n h
 
-  abbrev ready : Ready s
-  ready = node .holds .ready
-
   same : entering (lineOf s .plan) n ≡ entering (planOf s) n
-  same = listed-same s n ready
+  same = entering-same s n
 
-  long : length (timesOf (lineOf s) n h) ≡ length (entering (lineOf s .plan) n)
-  long = times-long s n ready h heard ∙ ap length (sym same)
-
-  four : length (entering (planOf s) n) ≤ 4
-  four = let p = fitting (planOf s) (ready .fits) in four-at (planOf s) (nodeCount (planOf s)) n (p .degrees) (omega (arith, node .inside, node-count s)) .0
+  long : length (entering (lineOf s .plan) n) ≤ length (timesOf (lineOf s) n h)
+  long = omega (arith, times-long s n node h heard, ap length same)
 
   module _ (start : List ℕ) (first layers : ℕ) (room : first + clockMost layers ≤ length start) (out : List ℕ) (at : ℕ) (root : Wrote 21 start first (nodeAndTime n t) out at) where
     pub listing-none : (left : ℕ) → left ≡ maskOf (parentsListed (lineOf s) layers n) → left ≡ 0 → Wrote (clockMost layers) start first (listed (lineOf s) layers n t (timesOf (lineOf s) n h)) out at
@@ -244,8 +127,7 @@ module _ (s : List ℕ) (n t : ℕ) (h : Heard) (node : AtNode s n) (heard : Hea
               deeper = ap suc (sym less);
               room = rw less (omega (arith, root .end, root .short, root .same));
               some = positive (entering (planOf s) n) (f ∙ ap maskOf same);
-              mask = f ∙ ap maskOf same;
-              few = omega arith;
+              walking = record { mask = f ∙ ap maskOf same; few = omega arith };
               writing = rw (less, zero-mul (1 + clockMost k)) (writing-start (rest l k n t ts 0) out at (omega (arith, root .within, root .same)));
             }
 
@@ -262,18 +144,18 @@ module _ (s : List ℕ) (n t : ℕ) (h : Heard) (node : AtNode s n) (heard : Hea
           omega (arith, w .end, w .short, w .same, x .room)
 
       pub listing-four : place ≤ 4
-      listing-four = omega (arith, x .few, four)
+      listing-four = walking-four (x .walking) node
 
       pub listing-separator : to < length now
       listing-separator = omega (arith, space 0 (omega (arith, listing-four)), zero-mul (1 + clockMost k))
 
       pub listing-room : place < length (entering (planOf s) n) → to + 1 + clockMost (layers - 1) ≤ length now
-      listing-room p = omega (arith, space 1 (omega (arith, four)), one-mul (1 + clockMost k))
+      listing-room p = omega (arith, space 1 (omega (arith, four-parents s n node)), one-mul (1 + clockMost k))
 
       pub listing-same : length now ≡ length start
       listing-same = x .writing .wrote .same ∙ root .same
 
-      pub listing-turn : (then : List ℕ) (r : Parent) (later : List ℕ) (next : ℕ) → NextParent s n h place now to then r
+      pub listing-turn : (then : List ℕ) (r : Parent) (later : List ℕ) (next : ℕ) → NextParent s n h place 91 now to then r
           → Wrote (clockMost (layers - 1)) then (r .start) (listed (lineOf s) (layers - 1) (r .node) (r .time) (timesOf (lineOf s) (r .node) (Through (r .channel)))) later next
           → Listing s layers n t h out at later next (r .left) (place + 1)
       unfolding timesOf
@@ -287,22 +169,16 @@ module _ (s : List ℕ) (n t : ℕ) (h : Heard) (node : AtNode s n) (heard : Hea
             deeper = x .deeper;
             room = x .room;
             some = x .some;
-            mask = rw add-one (p .left);
-            few = omega (arith, p .inside);
+            walking = walking-turn (x .walking) p;
             writing = writing-as ((place + 1) * (1 + clockMost k)) done (rw (add-one place) (writing-on refl (writing-on (rest-at l k n t ts long place inside) (x .writing) (p .wrote)) (rw text at w)));
           }
 
-      pub listing-less : (then : List ℕ) (r : Parent) → NextParent s n h place now to then r → r .left < left
-      listing-less then r p =
-          let bs : List ℕ = entering (planOf s) n in
-          let one : maskOf (drop place bs) ≡ 2 ^ getD bs place 0 + maskOf (drop (suc place) bs) = ap maskOf (drop-cons bs place 0 (p .inside)) in
-          omega (arith, x .mask, p .left, pow-pos (getD bs place 0))
+      pub listing-less : (then : List ℕ) (r : Parent) → NextParent s n h place 91 now to then r → r .left < left
+      listing-less then r p = walking-less (x .walking) p
 
       pub listing-end : (last : List ℕ) (r : ℕ) → left ≡ 0 → Wrote 1 now to (93 ∷ []) last r → Wrote (clockMost layers) start first (listed (lineOf s) layers n t (timesOf (lineOf s) n h)) last r
       listing-end last r z w =
-          let bs : List ℕ = entering (planOf s) n in
-          let all : length bs ≤ place = drop-empty place bs (mask-empty (drop place bs) (sym (x .mask) ∙ z)) in
-          let none : rest l k n t ts place ≡ 93 ∷ [] = rest-none l k n t ts long place (rw same all) in
+          let none : rest l k n t ts place ≡ 93 ∷ [] = rest-none l k n t ts long place (rw same (walking-end (x .walking) z)) in
           let parts : Wrote (place * (1 + clockMost k) + 1) out at (rest l k n t ts 0) last r = writing-last (rw none at (x .writing)) w in
           let m : place * (1 + clockMost k) ≤ 4 * (1 + clockMost k) = mul-le-mul-right (1 + clockMost k) listing-four in
           let whole : Wrote (21 + (place * (1 + clockMost k) + 1)) start first (listed l (suc k) n t ts) last r =

@@ -4,5 +4,7 @@ pub mod DecimalLaws
 pub mod PartsLaws
 pub mod OriginText
 pub mod StatusLaws
+pub mod ParentLaws
 pub mod ClockLaws
+pub mod KeptLaws
 pub mod NodesLaws

@@ -1,13 +1,15 @@
 -- The parts of a sheet's lines, one behind the other.
 use Prim.Native.Nat.{ℕ}
 use mathlib.Core.Path.{_≡_, refl, sym, ap, _∙_}
-use mathlib.Core.List.{List, [], _∷_, _++_, map, append-assoc}
+use mathlib.Core.List.{List, [], _∷_, _++_, map, zipWith, append-assoc}
+use mathlib.Core.Option.{none, some}
 use Rattle.plan.specs.declared.Record.{Record}
 use Rattle.rules.specs.Lists.{joined}
-use Rattle.rules.specs.Line.{Origin, fed, made, Entry, Line, nodeAt}
-use Rattle.rules.specs.Sheet.{decimal, spaced, textLine, answerLine, statusWord, originWords, entryLine, clockText, nodeText}
+use Rattle.rules.specs.Line.{Origin, fed, made, Entry, Target, Asked, Line, nodeAt, parents}
+use Rattle.rules.specs.Sheet.{decimal, spaced, textLine, answerLine, statusWord, originWords, entryLine, clockText, nodeAndTime, targetWord, keptText, nodeText}
 use Rattle.rules.proofs.lists.ListLaws.{nil-right}
-use Rattle.report.specs.Parts.{after, originAfter, recordAfter, headLine, logText, clockLine}
+use Rattle.report.specs.Clock.{timesOf}
+use Rattle.report.specs.Parts.{after, originAfter, recordAfter, headLine, logText, clockLine, keptLine, restoredWords, targetWords}
 
 pub spaced-after : (w : List ℕ) (ws : List (List ℕ)) → spaced (w ∷ ws) ≡ w ++ after ws
 spaced-after w [] = sym (nil-right w)
@@ -67,6 +69,26 @@ pub clock-parts : (l : Line) (n : ℕ) → clockLine l n ≡ (84 ∷ 32 ∷ []) 
 unfolding clockLine
 clock-parts l n = refl
 
-pub node-parts : (l : Line) (n : ℕ) → nodeText l n ≡ headLine l n ++ (logText l n ++ clockLine l n)
-unfolding nodeText headLine logText clockLine
-node-parts l n = append-assoc (headLine l n) (logText l n) (clockLine l n)
+pub target-parts : (u : Target) → 32 ∷ targetWord u ≡ (32 ∷ decimal (u .time)) ++ ((91 ∷ []) ++ (nodeAndTime (u .parent) (u .parentTime) ++ 93 ∷ []))
+target-parts u = refl
+
+pub kept-none : (l : Line) (n : ℕ) → nodeAt l n .asked ≡ none → keptLine l n ≡ []
+unfolding keptLine
+kept-none l n e = ap (keptText (parents (l .plan) n) (nodeAt l n .targets)) e
+
+pub kept-parts : (l : Line) (n : ℕ) (a : Asked) → nodeAt l n .asked ≡ some a
+    → keptLine l n ≡ (81 ∷ []) ++ (((32 ∷ decimal (a .low)) ++ (32 ∷ decimal (a .high))) ++ (after (restoredWords l n) ++ (after (targetWords l n) ++ 10 ∷ [])))
+unfolding keptLine timesOf
+kept-parts l n a e =
+    let words : List (List ℕ) = zipWith nodeAndTime (parents (l .plan) n) (a .entries) in
+    let numbers : List ℕ = (32 ∷ decimal (a .low)) ++ (32 ∷ decimal (a .high)) in
+    rw e
+    (line-after (81 ∷ []) (decimal (a .low) ∷ decimal (a .high) ∷ (words ++ targetWords l n))
+    ∙ ap (λ (x : List ℕ). 81 ∷ x)
+    (ap (λ (x : List ℕ). x ++ 10 ∷ []) (sym (append-assoc (32 ∷ decimal (a .low)) (32 ∷ decimal (a .high)) (after (words ++ targetWords l n))))
+    ∙ append-assoc numbers (after (words ++ targetWords l n)) (10 ∷ [])
+    ∙ ap (λ (x : List ℕ). numbers ++ x) (ap (λ (x : List ℕ). x ++ 10 ∷ []) (after-append words (targetWords l n)) ∙ append-assoc (after words) (after (targetWords l n)) (10 ∷ []))))
+
+pub node-parts : (l : Line) (n : ℕ) → nodeText l n ≡ headLine l n ++ (logText l n ++ (clockLine l n ++ keptLine l n))
+unfolding nodeText headLine logText clockLine keptLine
+node-parts l n = append-assoc (headLine l n ++ logText l n) (clockLine l n) (keptLine l n) ∙ append-assoc (headLine l n) (logText l n) (clockLine l n ++ keptLine l n)

@@ -1,6 +1,6 @@
 -- How long the parts of a sheet's text can be: a buffer with so much space is long enough.
 use Prim.Native.Nat.{ℕ, zero, suc, _+_, _*_}
-use Rattle.rules.specs.Line.{logLimit}
+use Rattle.rules.specs.Line.{logLimit, targetLimit}
 
 -- A number of 64 bits, and one of 32.
 abbrev pub digitsMost : ℕ
@@ -34,9 +34,20 @@ clockMost (suc layers) = 21 + 4 * (1 + clockMost layers) + 1
 abbrev pub clockLineMost : ℕ
 clockLineMost = 2 + clockMost 2 + 1
 
--- A node: its line, its log, its clock.
+-- A parent and its entry, and a target, each behind a space
+abbrev pub restoredMost : ℕ
+restoredMost = 22
+
+abbrev pub targetMost : ℕ
+targetMost = 34
+
+-- `Q`, low and high, four parents, the targets
+abbrev pub keptMost : ℕ
+keptMost = 1 + 2 * (1 + numberMost) + 4 * restoredMost + targetLimit * targetMost + 1
+
+-- A node: its line, its log, its clock, its kept answer.
 abbrev pub nodeMost : ℕ
-nodeMost = headMost + logLimit * entryMost + clockLineMost
+nodeMost = headMost + logLimit * entryMost + clockLineMost + keptMost
 
 -- Twelve nodes.
 abbrev pub textMost : ℕ

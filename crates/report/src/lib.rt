@@ -9,16 +9,18 @@ ghost use Rattle.report.specs.Wrote.{Wrote};
 use buffer::look;
 
 pub mod clock;
+pub mod kept;
 pub mod node;
 pub mod text;
 
-// Whose entries for a node's parents a clock lists: the node's own, or those that a child has heard through its channel from the node.
+// Whose entries for a node's parents are listed: the node's own, those that a child has heard through its channel from the node, or those of the node's kept answer.
 pub enum Heard {
     Itself,
     Through(usize),
+    Kept,
 }
 
-// A parent that a clock lists: its number, its time, the channel from it, the mask of the channels behind that one, and where its part starts.
+// A parent that is listed: its number, its time, the channel from it, the mask of the channels behind that one, and where its part starts.
 pub struct Parent {
     pub node: usize,
     pub time: u32,

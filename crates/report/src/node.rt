@@ -1,4 +1,4 @@
-// A node's text: its line, a line for each log entry, its clock.
+// A node's text: its line, a line for each log entry, its clock, its kept answer.
 ghost use mathlib.Core.List.{_∷_};
 ghost use Prim.Native.Nat.{_+_, _*_, _≤_, _<_};
 ghost use lib.ListN.{length};
@@ -12,6 +12,7 @@ ghost use Rattle.report.specs.Parts.{headLine, logText, clockLine, origi
 ghost use Rattle.report.specs.Wrote.{Wrote};
 use crate::Heard;
 use crate::clock;
+use crate::kept;
 use crate::text;
 use buffer::bytes;
 use buffer::look;
@@ -54,8 +55,7 @@ fn origin_words(m: Made, out: &mut [u8], at: usize) -> usize
         return text::word(out, at, b" - -");
     }
     let sender = bytes::wide32(m.from - 1);
-    let next = text::byte_and_number(out, at, b' ', sender);
-    text::byte_and_number(out, next, b' ', m.time)
+    text::two_numbers(out, at, sender, m.time)
 }
 
 // piece, material, mass, each behind a space
@@ -115,6 +115,7 @@ pub fn node_text(s: &[u8], n: usize, out: &mut [u8], at: usize) -> usize
     ensures { λ r. ⌜ Wrote nodeMost (now (out .entry)) at (nodeText (lineOf (now (s .entry))) n) (now (out .exit)) r ⌝ }
 {
     let logged = head_line(s, n, out, at);
-    let last = log_lines(s, n, out, logged);
-    clock_line(s, n, out, last)
+    let clock = log_lines(s, n, out, logged);
+    let kept = clock_line(s, n, out, clock);
+    kept::kept_line(s, n, out, kept)
 }

@@ -1,7 +1,7 @@
 // Bytes, words and numbers.
 ghost use mathlib.Core.Path.{_≡_};
-ghost use mathlib.Core.List.{[], _∷_};
-ghost use Prim.Native.Nat.{_+_, _≤_, _<_};
+ghost use mathlib.Core.List.{[], _∷_, _++_};
+ghost use Prim.Native.Nat.{_+_, _*_, _≤_, _<_};
 ghost use lib.ListN.{length};
 ghost use Rattle.rules.specs.Sheet.{decimal as Sheet·decimal};
 ghost use Rattle.report.specs.Most.{digitsMost, numberMost};
@@ -63,4 +63,13 @@ pub fn byte_and_number(out: &mut [u8], at: usize, b: u8, n: u32) -> usize
 {
     let next = byte(out, at, b);
     decimal(out, next, n as u64)
+}
+
+// Two numbers, each behind a space.
+pub fn two_numbers(out: &mut [u8], at: usize, first: u32, second: u32) -> usize
+    requires { ⌜ at + 2 * (1 + numberMost) ≤ length (now out) ⌝ }
+    ensures { λ r. ⌜ Wrote (2 * (1 + numberMost)) (now (out .entry)) at ((32 ∷ Sheet·decimal first) ++ (32 ∷ Sheet·decimal second)) (now (out .exit)) r ⌝ }
+{
+    let next = byte_and_number(out, at, b' ', first);
+    byte_and_number(out, next, b' ', second)
 }

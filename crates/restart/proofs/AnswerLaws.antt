@@ -1,4 +1,4 @@
--- What Crash and Recover answer is the rules' number.
+-- What Crash, Recover, Ask and Commit answer is the rules' number.
 use Prim.Native.Nat.{ℕ, _<_}
 use mathlib.Core.Path.{_≡_, refl, sym, ap, _∙_}
 use mathlib.Core.Logic.{_≢_}
@@ -12,14 +12,14 @@ use lib.Dec.{leb, ltb}
 use Rattle.plan.specs.Plan.{nodeCount}
 use Rattle.rules.specs.Lists.{isEmpty, allOf}
 use Rattle.rules.specs.Line.{targetLimit, Target, Node, Line, nodeAt}
-use Rattle.rules.specs.Frame.{crash, recover}
+use Rattle.rules.specs.Frame.{crash, recover, commit}
 use Rattle.rules.specs.Recover.{targetsOf, conflict, recovered, rowsComplete}
 use Rattle.rules.specs.Replay.{isHeld, replayEnd, endedIfComplete}
 use Rattle.rules.specs.Step.{nodeDown, isNothing, noPlacing, recoveredLine, effect, lineRefusal}
 use Rattle.rules.proofs.invariant.Inv.{Shape, Ordered}
 use Rattle.rules.proofs.undamaged.Restored.{restoredNode, recovered-is, restored-node, restored-complete}
-use Rattle.recover.specs.Found.{rowsIn}
-use Rattle.restart.specs.Answers.{firstOf, isEnd, crashAnswer, recoverAsked, noOutcome}
+use Rattle.recover.specs.Found.{rowsIn, noOutcome}
+use Rattle.restart.specs.Answers.{firstOf, isEnd, crashAnswer, restartAsked, commitAnswer}
 
 -- A test that refuses, one that does not, and what follows where none does.
 pub first-here : (t : Bool) (n rest : ℕ) → t ≡ true → n ≡ firstOf t n rest
@@ -31,6 +31,19 @@ first-past t n rest r e q = rw e q
 pub first-none : (t : Bool) (n rest : ℕ) → n ≢ 0 → firstOf t n rest ≡ 0 → (t ≡ false) × (rest ≡ 0)
 first-none true n rest d e = absurd (d e)
 first-none false n rest d e = (refl, e)
+
+-- Of 13 to 15 one refuses, whatever comes behind; or none does.
+first-refuses : (a b c : Bool) (rest r : ℕ) → r ≡ firstOf a 13 (firstOf b 14 (firstOf c 15 0)) → r ≢ 0 → firstOf a 13 (firstOf b 14 (firstOf c 15 rest)) ≡ r
+first-refuses true b c rest r q d = sym q
+first-refuses false true c rest r q d = sym q
+first-refuses false false true rest r q d = sym q
+first-refuses false false false rest r q d = absurd (d q)
+
+first-passes : (a b c : Bool) (rest : ℕ) → firstOf a 13 (firstOf b 14 (firstOf c 15 0)) ≡ 0 → firstOf a 13 (firstOf b 14 (firstOf c 15 rest)) ≡ rest
+first-passes true b c rest q = let no : ⊥ = omega arith in absurd no
+first-passes false true c rest q = let no : ⊥ = omega arith in absurd no
+first-passes false false true rest q = let no : ⊥ = omega arith in absurd no
+first-passes false false false rest q = refl
 
 module _ (l : Line) (n : ℕ) where
   -- ---- Crash
@@ -44,10 +57,10 @@ module _ (l : Line) (n : ℕ) where
 
   -- ---- Recover
 
-  pub asked-inside : recoverAsked l n ≡ 0 → n < nodeCount (l .plan)
+  pub asked-inside : restartAsked l n ≡ 0 → n < nodeCount (l .plan)
   asked-inside e = leb-false (nodeCount (l .plan)) n (first-none (leb (nodeCount (l .plan)) n) 13 _ (λ q. omega arith) e .0)
 
-  pub asked-down : recoverAsked l n ≡ 0 → nodeDown l n ≡ true
+  pub asked-down : restartAsked l n ≡ 0 → nodeDown l n ≡ true
   asked-down e =
       let rest : ℕ = firstOf (not (nodeDown l n)) 15 0 in
       let a = first-none (leb (nodeCount (l .plan)) n) 13 (firstOf (isEnd l n) 14 rest) (λ q. omega arith) e .1 in
@@ -63,24 +76,23 @@ module _ (l : Line) (n : ℕ) where
   recover-number = refl
 
   -- A refusal by the node alone.
-  pub asked-number : (r : ℕ) → r ≡ recoverAsked l n → r ≢ 0 → lineRefusal l (recover n) ≡ r
-  asked-number r is d = recover-number ∙ go (leb (nodeCount (l .plan)) n) (isEnd l n) (not (nodeDown l n)) (firstOf (ltb targetLimit (length ts)) 21 (firstOf (isNothing (effect l (recover n))) 24 0)) is
-    where
-      go : (a b c : Bool) (rest : ℕ) → r ≡ firstOf a 13 (firstOf b 14 (firstOf c 15 0)) → firstOf a 13 (firstOf b 14 (firstOf c 15 rest)) ≡ r
-      go true b c rest q = sym q
-      go false true c rest q = sym q
-      go false false true rest q = sym q
-      go false false false rest q = absurd (d q)
+  pub asked-number : (r : ℕ) → r ≡ restartAsked l n → r ≢ 0 → lineRefusal l (recover n) ≡ r
+  asked-number r is d = recover-number ∙ first-refuses (leb (nodeCount (l .plan)) n) (isEnd l n) (not (nodeDown l n)) (firstOf (ltb targetLimit (length ts)) 21 (firstOf (isNothing (effect l (recover n))) 24 0)) r is d
+
+  -- Commit: by the node, and by whether an answer is kept.
+  pub commit-number : lineRefusal l (commit n) ≡ commitAnswer l n
+  unfolding lineRefusal noPlacing effect
+  commit-number = refl
+
+  pub commit-asked : (r : ℕ) → r ≡ restartAsked l n → r ≢ 0 → commitAnswer l n ≡ r
+  commit-asked r is d = first-refuses (leb (nodeCount (l .plan)) n) (isEnd l n) (not (nodeDown l n)) (firstOf (isNothing (nodeAt l n .asked)) 27 0) r is d
+
+  pub commit-kept : restartAsked l n ≡ 0 → commitAnswer l n ≡ firstOf (isNothing (nodeAt l n .asked)) 27 0
+  commit-kept is = first-passes (leb (nodeCount (l .plan)) n) (isEnd l n) (not (nodeDown l n)) (firstOf (isNothing (nodeAt l n .asked)) 27 0) is
 
   -- By the targets.
-  pub found-number : recoverAsked l n ≡ 0 → lineRefusal l (recover n) ≡ firstOf (ltb targetLimit (length ts)) 21 (firstOf (isNothing (effect l (recover n))) 24 0)
-  found-number is = recover-number ∙ go (leb (nodeCount (l .plan)) n) (isEnd l n) (not (nodeDown l n)) (firstOf (ltb targetLimit (length ts)) 21 (firstOf (isNothing (effect l (recover n))) 24 0)) is
-    where
-      go : (a b c : Bool) (rest : ℕ) → firstOf a 13 (firstOf b 14 (firstOf c 15 0)) ≡ 0 → firstOf a 13 (firstOf b 14 (firstOf c 15 rest)) ≡ rest
-      go true b c rest q = let no : ⊥ = omega arith in absurd no
-      go false true c rest q = let no : ⊥ = omega arith in absurd no
-      go false false true rest q = let no : ⊥ = omega arith in absurd no
-      go false false false rest q = refl
+  pub found-number : restartAsked l n ≡ 0 → lineRefusal l (recover n) ≡ firstOf (ltb targetLimit (length ts)) 21 (firstOf (isNothing (effect l (recover n))) 24 0)
+  found-number is = recover-number ∙ first-passes (leb (nodeCount (l .plan)) n) (isEnd l n) (not (nodeDown l n)) (firstOf (ltb targetLimit (length ts)) 21 (firstOf (isNothing (effect l (recover n))) 24 0)) is
 
 module _ (l : Line) (n : ℕ) (ordered : Ordered (l .plan)) (shape : Shape l) (inside : n < nodeCount (l .plan)) where
   -- A node that has just been restored holds nothing: with targets its replay has no end.

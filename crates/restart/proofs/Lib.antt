@@ -1,4 +1,4 @@
--- What Crash and Recover rest on.
+-- What Crash, Recover, Ask and Commit rest on.
 pub mod FitsLaws
 pub mod StateLaws
 pub mod SweepLaws
@@ -6,4 +6,5 @@ pub mod AnswerLaws
 pub mod BesideLaws
 pub mod CrashLaws
 pub mod TargetLaws
+pub mod KeptLaws
 pub mod RecoverLaws

@@ -1,21 +1,22 @@
--- Recover: what it leaves is the rules' line.
-use Prim.Native.Nat.{ℕ, zero, suc, _≤_, _<_}
+-- Recover, Ask and Commit: what they leave is the rules' line.
+use Prim.Native.Nat.{ℕ, suc, _≤_, _<_}
 use mathlib.Core.Path.{_≡_, refl, sym, ap, subst, _∙_}
 use mathlib.Core.Logic.{_≢_}
-use mathlib.Core.Bool.{Bool, true, false, _||_}
+use mathlib.Core.Bool.{Bool, true, false, not, _||_}
 use mathlib.Core.List.{List, [], _∷_}
+use mathlib.Core.Option.{Option, none, some, Option·map}
 use native.Mathlib.Omega.{arith}
-use borrow.Author.Tests.{lt-ltb, le-ltb}
+use borrow.Author.Tests.{lt-ltb, le-ltb, not-false, not-true}
 use lib.ListN.{length, getD, replicate}
 use lib.Dec.{ltb}
 use Rattle.plan.specs.Lawful.{Each}
-use Rattle.plan.specs.Plan.{planNodes, channelAt, nodeCount}
-use Rattle.rules.specs.Lists.{isEmpty}
-use Rattle.rules.specs.Line.{targetLimit, made, Target, Status, down, Node, Line, nodeAt, laneAt, withNode, freshLane, isDown}
+use Rattle.plan.specs.Plan.{planOf, planNodes, channelAt, nodeCount, entering}
+use Rattle.rules.specs.Line.{targetLimit, made, Target, Status, down, Asked, Node, Line, nodeAt, laneAt, withNode, freshLane, isDown}
 use Rattle.rules.specs.Damaged.{lowWrong}
-use Rattle.rules.specs.Frame.{recover}
-use Rattle.rules.specs.Recover.{lowOf, restored, targetsOf, statusOf, recovered}
-use Rattle.rules.specs.Step.{isNothing, nodeDown, effect, lineRefusal}
+use Rattle.rules.specs.Frame.{recover, ask, commit}
+use Rattle.rules.specs.Recover.{lowOf, highOf, restored, targetsOf, statusOf, restoredTo, recovered, answerOf, beside, committed}
+use Rattle.rules.specs.Step.{isNothing, nodeDown, asking, askedLine, committedBy, committedLine, effect, lineRefusal}
+use Rattle.rules.proofs.lists.Options.{nothing-none, something-there}
 use Rattle.rules.proofs.lists.Members.{In, here, there, in-at}
 use Rattle.rules.proofs.ending.Targets.{triples-at-in, targets-from}
 use Rattle.rules.proofs.invariant.Inv.{Enters}
@@ -24,28 +25,29 @@ use Rattle.rules.proofs.theorem.Accepted.{is-down}
 use Rattle.rules.proofs.undamaged.Standing.{Empties, Standing}
 use Rattle.rules.proofs.undamaged.CrashSound.{stopped-marked}
 use Rattle.rules.proofs.undamaged.LowLaws.{low-within}
-use Rattle.rules.proofs.undamaged.Restored.{restoredNode}
 use Rattle.rules.proofs.undamaged.Undamaged.{undamaged-sound}
+use Rattle.rules.proofs.restart.AskCommit.{asks-as-recover}
 use Rattle.state.specs.Fits.{LineFits, EntryFits, OriginFits}
+use Rattle.state.specs.Changes.{withTargets, withAsked}
 use Rattle.state.specs.State.{lineOf}
+use Rattle.state.proofs.InPlace.{line-plan}
 use Rattle.buffer.specs.Holds.{Holds, AtNode, NodeNow, Undamaged, Did}
-use Rattle.buffer.proofs.HoldsLaws.{node-fits, node-log-counted}
+use Rattle.buffer.proofs.HoldsLaws.{node-fits, node-then, node-after, node-log-counted}
 use Rattle.buffer.specs.Nothing.{noTarget}
 use Rattle.buffer.specs.Rows.{Rows}
-use Rattle.recover.specs.Found.{targetAt, targetsIn, LogsCounted, Found}
-use Rattle.recover.proofs.TargetLaws.{targets-at}
-use Rattle.restart.specs.Answers.{firstOf, recoverAsked, noOutcome}
-use Rattle.restart.specs.Lanes.{restoredTo, marked, restoredLanes}
-use Rattle.restart.specs.Nodes.{restoredBy, Fillable}
+use Rattle.recover.specs.Found.{targetAt, targetsIn, LogsCounted, Found, noOutcome}
+use Rattle.recover.proofs.ListedLaws.{answer-four}
+use Rattle.recover.proofs.TargetLaws.{targets-length, targets-at}
+use Rattle.restart.specs.declared.Outcome.{Outcome}
+use Rattle.restart.specs.Answers.{firstOf, restartAsked}
+use Rattle.restart.specs.Finds.{Restores, Finds, KeptRows}
+use Rattle.restart.specs.Lanes.{withEntry, marked, restoredLanes}
+use Rattle.restart.specs.Nodes.{settled, Fillable}
 use Rattle.restart.proofs.FitsLaws.{ordered-of, shape-of, lane-fresh}
 use Rattle.buffer.proofs.ReadyLaws.{line-nodes}
 use Rattle.restart.proofs.StateLaws.{at-node}
 use Rattle.restart.proofs.SweepLaws.{swept-same}
-use Rattle.restart.proofs.AnswerLaws.{asked-inside, asked-down, asked-number, found-number, effect-none, effect-some}
-
-pub some-targets : (xs : List ℕ) (count : ℕ) → count ≢ 0 → isEmpty (targetsIn xs count) ≡ false
-some-targets xs zero d = absurd (d refl)
-some-targets xs (suc k) d = refl
+use Rattle.restart.proofs.AnswerLaws.{asked-inside, asked-down, asked-number, found-number, effect-none, effect-some, commit-number, commit-asked, commit-kept}
 
 -- ---- lists by their members
 
@@ -63,16 +65,14 @@ module _ (l : Line) (fits : LineFits l) (standing : Standing l) (n : ℕ) (insid
   blank : Empties down (nodeAt l n)
   blank = subst (λ (s : Status). Empties s (nodeAt l n)) stopped (standing .nodes n inside .fits .empties)
 
-  pub no-targets : nodeAt l n .targets ≡ []
-  no-targets = blank .3
-
-  restored-is : restoredBy (lowOf l n) (targetsOf l n) (nodeAt l n) ≡ restoredNode l n
-  restored-is =
+  -- The node as it is left, for a time and some targets.
+  node-is : (low : ℕ) (ts : List Target) → settled low (withTargets ts (nodeAt l n)) ≡ record { status = statusOf ts; crashed = true; time = low; log = []; held = []; targets = ts; asked = none }
+  node-is low ts =
       let crashed = stopped-marked l standing n inside (λ e. up-not-down (sym e ∙ stopped)) in
-      λ j. record { status = statusOf (targetsOf l n); crashed = crashed j; time = lowOf l n; log = blank .1 j; held = blank .2 j; targets = targetsOf l n }
+      λ j. record { status = statusOf ts; crashed = crashed j; time = low; log = blank .1 j; held = blank .2 j; targets = ts; asked = none }
 
   -- A channel that enters it has nothing on it, and its clock is 0, and so is its low clock, which is never past it.
-  entered-is : (c t : ℕ) → Enters (l .plan) n c → restoredTo t (laneAt l c) ≡ freshLane (l .plan) (channelAt (l .plan) c) t
+  entered-is : (c t : ℕ) → Enters (l .plan) n c → withEntry t (laneAt l c) ≡ freshLane (l .plan) (channelAt (l .plan) c) t
   unfolding lowWrong
   entered-is c t e =
       let on = standing .channels c (e .0) in
@@ -87,14 +87,24 @@ module _ (l : Line) (fits : LineFits l) (standing : Standing l) (n : ℕ) (insid
       or-down true b q = refl
       or-down false b q = q
 
-  recover-lanes : (entries : List ℕ) → Rows entries (restored l n) → nodeCount (l .plan) ≤ 12 → restoredLanes n entries (withNode n (restoredNode l n) l) ≡ recovered n l
-  unfolding recovered withNode
-  recover-lanes entries rows few =
-      let ordered = ordered-of l fits in
-      swept-same (λ c x. freshLane (l .plan) (channelAt (l .plan) c) (restored l n (channelAt (l .plan) c .sender))) (λ c. marked)
-      (λ c. restoredTo (getD entries (channelAt (l .plan) c .sender) 0)) (λ c. marked) (withNode n (restoredNode l n) l) n ordered (fits .lanes)
-      (λ c e. ap (λ (t : ℕ). restoredTo t (laneAt l c)) (rows .each (channelAt (l .plan) c .sender) (omega (arith, ordered .forward c (e .0), ordered .inside c (e .0)))) ∙ entered-is c (restored l n (channelAt (l .plan) c .sender)) e)
-      (λ c e. refl)
+  -- The node and the lanes, for a time, some targets and some entries.
+  pub line-is : (low : ℕ) (ts : List Target) (entry : ℕ → ℕ) (entries : List ℕ) → ((c : ℕ) → Enters (l .plan) n c → getD entries (channelAt (l .plan) c .sender) 0 ≡ entry c)
+      → restoredLanes n entries (withNode n (settled low (withTargets ts (nodeAt l n))) l) ≡ restoredTo low ts entry n l
+  unfolding restoredTo withNode
+  line-is low ts entry entries rows =
+      let node : Node = record { status = statusOf ts; crashed = true; time = low; log = []; held = []; targets = ts; asked = none } in
+      ap (λ (x : Node). restoredLanes n entries (withNode n x l)) (node-is low ts)
+      ∙ swept-same (λ c x. freshLane (l .plan) (channelAt (l .plan) c) (entry c)) (λ c. marked) (λ c. withEntry (getD entries (channelAt (l .plan) c .sender) 0)) (λ c. marked) (withNode n node l) n (ordered-of l fits) (fits .lanes)
+      (λ c e. ap (λ (t : ℕ). withEntry t (laneAt l c)) (rows c e) ∙ entered-is c (entry c) e) (λ c e. refl)
+
+-- A list of four, number by number.
+four-entries : (es : List ℕ) → length es ≡ 4 → getD es 0 0 ∷ getD es 1 0 ∷ getD es 2 0 ∷ getD es 3 0 ∷ [] ≡ es
+four-entries [] e = let no : ⊥ = omega arith in absurd no
+four-entries (a ∷ []) e = let no : ⊥ = omega arith in absurd no
+four-entries (a ∷ b ∷ []) e = let no : ⊥ = omega arith in absurd no
+four-entries (a ∷ b ∷ c ∷ []) e = let no : ⊥ = omega arith in absurd no
+four-entries (a ∷ b ∷ c ∷ d ∷ []) e = refl
+four-entries (a ∷ b ∷ c ∷ d ∷ f ∷ es) e = let no : ⊥ = omega arith in absurd no
 
 -- ---- the targets found
 
@@ -107,37 +117,43 @@ target-small l fits n u i =
     omega (arith, o .0)
 
 module _ (s : List ℕ) (n : ℕ) (whole : Undamaged s) where
+  abbrev line : Line
+  line = lineOf s
+
   pub logs-counted : LogsCounted s
   logs-counted k h = let at : AtNode s k = record { holds = whole .holds; inside = h } in omega (arith, node-log-counted at, node-fits at .log .0)
 
-  pub recover-refused : (r : ℕ) → r ≡ recoverAsked (lineOf s) n → r ≢ 0 → Did s (recover n) s r
-  recover-refused r is d = record { number = asked-number (lineOf s) n r is d; refused = λ q. refl; done = λ q. absurd (d q) }
+  standing : Standing line
+  standing = undamaged-sound line (whole .undamaged) .standing
 
-  module _ (asked : recoverAsked (lineOf s) n ≡ 0) where
-    inside : n < nodeCount (lineOf s .plan)
-    inside = asked-inside (lineOf s) n asked
+  -- What is found.
+  pub asked-refused : (r : ℕ) → r ≡ restartAsked line n → r ≢ 0 → (xs entries : List ℕ) → Finds s n (record { number = r; low = 0; count = 0 }) xs entries
+  asked-refused r is d xs entries = record { number = asked-number line n r is d; restores = λ z. absurd (d z) }
 
-    pub recover-inside : n < planNodes s
-    recover-inside = omega (arith, inside, line-nodes s)
+  module _ (asked : restartAsked line n ≡ 0) where
+    inside : n < nodeCount (line .plan)
+    inside = asked-inside line n asked
 
-    standing : Standing (lineOf s)
-    standing = undamaged-sound (lineOf s) (whole .undamaged) .standing
+    pub restart-inside : n < planNodes s
+    restart-inside = omega (arith, inside, line-nodes s)
 
-    stopped : nodeAt (lineOf s) n .status ≡ down
-    stopped = is-down (nodeAt (lineOf s) n .status) (asked-down (lineOf s) n asked)
+    pub restart-on : AtNode s n
+    restart-on = at-node (whole .holds) n inside
 
-    module _ (xs : List ℕ) (count : ℕ) (found : Found xs count (targetsOf (lineOf s) n)) where
+    stopped : nodeAt line n .status ≡ down
+    stopped = is-down (nodeAt line n .status) (asked-down line n asked)
+
+    module _ (xs : List ℕ) (count : ℕ) (found : Found xs count (targetsOf line n)) (low : ℕ) (entries : List ℕ) where
       abbrev ts : List Target
-      ts = targetsOf (lineOf s) n
+      ts = targetsOf line n
 
-      number-is : (full empty : Bool) (r : ℕ) → ltb targetLimit (length (targetsOf (lineOf s) n)) ≡ full → isNothing (effect (lineOf s) (recover n)) ≡ empty → firstOf full 21 (firstOf empty 24 0) ≡ r
-          → lineRefusal (lineOf s) (recover n) ≡ r
-      number-is full empty r a b q = found-number (lineOf s) n asked ∙ (λ j. firstOf (a j) 21 (firstOf (b j) 24 0)) ∙ q
+      number-is : (full empty : Bool) (r : ℕ) → ltb targetLimit (length ts) ≡ full → isNothing (effect line (recover n)) ≡ empty → firstOf full 21 (firstOf empty 24 0) ≡ r → lineRefusal line (recover n) ≡ r
+      number-is full empty r a b q = found-number line n asked ∙ (λ j. firstOf (a j) 21 (firstOf (b j) 24 0)) ∙ q
 
-      pub recover-full : 64 < count → Did s (recover n) s 21
-      recover-full h =
+      pub find-full : 64 < count → Finds s n (record { number = 21; low = low; count = count }) xs entries
+      find-full h =
           let full : ltb targetLimit (length ts) ≡ true = lt-ltb targetLimit (length ts) (omega (arith, found .holds .counted)) in
-          record { number = number-is true (isNothing (effect (lineOf s) (recover n))) 21 full refl refl; refused = λ q. refl; done = λ q. (let no : ⊥ = omega arith in absurd no) }
+          record { number = number-is true (isNothing (effect line (recover n))) 21 full refl refl; restores = λ z. (let no : ⊥ = omega arith in absurd no) }
 
       module _ (few : count ≤ 64) where
         room : ltb targetLimit (length ts) ≡ false
@@ -146,33 +162,112 @@ module _ (s : List ℕ) (n : ℕ) (whole : Undamaged s) where
         held : targetsIn xs count ≡ ts
         held = found .holds .held (omega arith)
 
-        pub recover-none : noOutcome (lineOf s) n (targetsIn xs count) ≡ true → Did s (recover n) s 24
-        recover-none e =
-            let gone = effect-none (lineOf s) n (ordered-of (lineOf s) (whole .holds .fits)) (shape-of (lineOf s) (whole .holds .fits)) inside (ap (noOutcome (lineOf s) n) (sym held) ∙ e) in
-            record { number = number-is false true 24 room (ap isNothing gone) refl; refused = λ q. refl; done = λ q. (let no : ⊥ = omega arith in absurd no) }
+        pub find-none : noOutcome line n (targetsIn xs count) ≡ true → Finds s n (record { number = 24; low = low; count = count }) xs entries
+        find-none e =
+            let gone = effect-none line n (ordered-of line (whole .holds .fits)) (shape-of line (whole .holds .fits)) inside (ap (noOutcome line n) (sym held) ∙ e) in
+            record { number = number-is false true 24 room (ap isNothing gone) refl; restores = λ z. (let no : ⊥ = omega arith in absurd no) }
 
-        pub recover-fillable : Fillable s n xs count
-        recover-fillable =
+        pub find-some : noOutcome line n (targetsIn xs count) ≡ false → low ≡ lowOf line n → Rows entries (restored line n) → Finds s n (record { number = 0; low = low; count = count }) xs entries
+        find-some e is rows =
+            let leads = effect-some line n (ordered-of line (whole .holds .fits)) (shape-of line (whole .holds .fits)) inside (ap (noOutcome line n) (sym held) ∙ e) in
             record {
-              on = at-node (whole .holds) n inside;
-              none = no-targets (lineOf s) (whole .holds .fits) standing n inside stopped;
-              long = found .long;
-              few = few;
-              parents = λ i h.
-                  (let same : getD ts i noTarget ≡ targetAt xs i = ap (λ (us : List Target). getD us i noTarget) (sym held) ∙ targets-at xs count i noTarget h in
-                  let small = target-small (lineOf s) (whole .holds .fits) n (getD ts i noTarget) (in-at ts i noTarget (omega (arith, found .holds .counted))) in
-                  subst (λ (u : Target). u .parent < 256) same small);
+              number = number-is false false 0 room (ap isNothing leads) refl;
+              restores = λ z. record { inside = inside; stopped = stopped; leads = leads; low = is; few = few; long = found .long; targets = held; rows = rows };
             }
 
-        pub recover-done : noOutcome (lineOf s) n (targetsIn xs count) ≡ false → (low : ℕ) → low ≡ lowOf (lineOf s) n → (entries : List ℕ) → Rows entries (restored (lineOf s) n)
-            → (t : List ℕ) → NodeNow s n (restoredBy low (targetsIn xs count)) t → (u : List ℕ) → Holds u (restoredLanes n entries (lineOf t)) → Did s (recover n) u 0
-        recover-done e low is entries rows t node u lanes =
-            let some-line = effect-some (lineOf s) n (ordered-of (lineOf s) (whole .holds .fits)) (shape-of (lineOf s) (whole .holds .fits)) inside (ap (noOutcome (lineOf s) n) (sym held) ∙ e) in
-            let same : restoredBy low (targetsIn xs count) (nodeAt (lineOf s) n) ≡ restoredNode (lineOf s) n = (λ j. restoredBy (is j) (held j) (nodeAt (lineOf s) n)) ∙ restored-is (lineOf s) (whole .holds .fits) standing n inside stopped in
-            let left = node .holds .same ∙ ap (λ (x : Node). withNode n x (lineOf s)) same in
-            let line = ap (restoredLanes n entries) left ∙ recover-lanes (lineOf s) (whole .holds .fits) standing n inside stopped entries rows (omega (arith, whole .holds .ready .nodes, line-nodes s)) in
+  -- Recover and Ask, refused and done.
+  module _ (found : Outcome) (xs entries : List ℕ) (finds : Finds s n found xs entries) where
+    pub recover-refused : found .number ≢ 0 → Did s (recover n) s (found .number)
+    recover-refused d = record { number = finds .number; refused = λ q. refl; done = λ q. absurd (d q) }
+
+    pub ask-refused : found .number ≢ 0 → Did s (ask n) s (found .number)
+    ask-refused d = record { number = asks-as-recover line n ∙ finds .number; refused = λ q. refl; done = λ q. absurd (d q) }
+
+    module _ (zero-is : found .number ≡ 0) where
+      restores : Restores s n found xs entries
+      restores = finds .restores zero-is
+
+      pub found-on : AtNode s n
+      found-on = at-node (whole .holds) n (restores .inside)
+
+      pub found-four : (es : List ℕ) → es ≡ answerOf line n .entries → getD es 0 0 ∷ getD es 1 0 ∷ getD es 2 0 ∷ getD es 3 0 ∷ [] ≡ answerOf line n .entries
+      found-four es e = four-entries es (ap length e ∙ answer-four s n (whole .holds .ready) (omega (arith, restores .inside, line-nodes s))) ∙ e
+
+      pub found-inside : n < planNodes s
+      found-inside = omega (arith, restores .inside, line-nodes s)
+
+      -- The targets that it had are gone before those found are written.
+      pub found-fillable : {t : List ℕ} → NodeNow s n (withTargets []) t → Fillable t n xs (found .count)
+      found-fillable {t} empty =
+          record {
+            on = empty .on;
+            none = ap (λ (x : Node). x .targets) (node-after found-on (withTargets [] (nodeAt line n)) (empty .holds));
+            long = restores .long;
+            few = restores .few;
+            parents = λ i h.
+                (let us = targetsOf line n in
+                let same : getD us i noTarget ≡ targetAt xs i = ap (λ (vs : List Target). getD vs i noTarget) (sym (restores .targets)) ∙ targets-at xs (found .count) i noTarget h in
+                let among : i < length us = omega (arith, h, sym (ap length (restores .targets)) ∙ targets-length xs (found .count)) in
+                subst (λ (u : Target). u .parent < 256) same (target-small line (whole .holds .fits) n (getD us i noTarget) (in-at us i noTarget among)));
+          }
+
+      module _ {t : List ℕ} (targets : NodeNow s n (withTargets (targetsIn xs (found .count))) t) where
+        pub recover-done : {u v : List ℕ} → NodeNow t n (settled (found .low)) u → Holds v (restoredLanes n entries (lineOf u)) → Did s (recover n) v 0
+        unfolding recovered
+        recover-done {v = v} node lanes =
+            let both = node-then found-on targets node in
+            let few : nodeCount (line .plan) ≤ 12 = omega (arith, whole .holds .ready .nodes, line-nodes s) in
+            let ordered = ordered-of line (whole .holds .fits) in
+            let same = ap (restoredLanes n entries) (both .holds .same)
+            ∙ line-is line (whole .holds .fits) standing n (restores .inside) (restores .stopped) (found .low) (targetsIn xs (found .count)) (λ (c : ℕ). restored line n (channelAt (line .plan) c .sender)) entries
+            (λ c e. restores .rows .each (channelAt (line .plan) c .sender) (omega (arith, few, ordered .forward c (e .0), ordered .inside c (e .0))))
+            ∙ (λ j. restoredTo (restores .low j) (restores .targets j) (λ (c : ℕ). restored line n (channelAt (line .plan) c .sender)) n line) in
+            record { number = finds .number ∙ zero-is; refused = λ q. absurd (q refl); done = λ q. (recovered n line, (restores .leads, subst (Holds v) same lanes)) }
+
+        pub ask-done : {u : List ℕ} (high : ℕ) (es : List ℕ) → high ≡ highOf line n → es ≡ answerOf line n .entries → NodeNow t n (withAsked (some (record { low = found .low; high = high; entries = es }))) u → Did s (ask n) u 0
+        unfolding effect askedLine asking answerOf
+        ask-done {u} high es is entries-are kept =
+            let both = node-then found-on targets kept in
+            let x = nodeAt line n in
+            let node : Asked → List Target → Node = λ a vs. record { status = x .status; crashed = x .crashed; time = x .time; log = x .log; held = x .held; targets = vs; asked = some a } in
+            let same : node (record { low = found .low; high = high; entries = es }) (targetsIn xs (found .count)) ≡ asking (answerOf line n) (targetsOf line n) x = λ j. node (record { low = restores .low j; high = is j; entries = entries-are j }) (restores .targets j) in
             record {
-              number = number-is false false 0 room (ap isNothing some-line) refl;
+              number = asks-as-recover line n ∙ finds .number ∙ zero-is;
               refused = λ q. absurd (q refl);
-              done = λ q. (recovered n (lineOf s), (some-line, subst (Holds u) line lanes));
+              done = λ q. (askedLine n line, (ap (Option·map (λ (k : Line). askedLine n line)) (restores .leads), subst (λ (y : Node). Holds u (withNode n y line)) same (both .holds)));
             }
+
+  -- Commit.
+  pub commit-refused : (r : ℕ) → r ≡ restartAsked line n → r ≢ 0 → Did s (commit n) s r
+  commit-refused r is d = record { number = commit-number line n ∙ commit-asked line n r is d; refused = λ q. refl; done = λ q. absurd (d q) }
+
+  module _ (asked : restartAsked line n ≡ 0) where
+    commit-none : nodeAt line n .asked ≡ none → Did s (commit n) s 27
+    commit-none e =
+        record { number = commit-number line n ∙ commit-kept line n asked ∙ ap (λ (o : Option Asked). firstOf (isNothing o) 27 0) e; refused = λ q. refl; done = λ q. (let no : ⊥ = omega arith in absurd no) }
+
+    commit-done : (a : Asked) → nodeAt line n .asked ≡ some a → (low : ℕ) → low ≡ a .low → (entries : List ℕ) → KeptRows (planOf s) n a entries
+        → {t u : List ℕ} → NodeNow s n (settled low) t → Holds u (restoredLanes n entries (lineOf t)) → Did s (commit n) u 0
+    unfolding effect committedLine committed
+    commit-done a e low is entries rows {u = u} node lanes =
+        let x = nodeAt line n in
+        let same-plan = line-plan s in
+        let same = ap (restoredLanes n entries) (node .holds .same)
+        ∙ line-is line (whole .holds .fits) standing n (inside asked) (stopped asked) low (x .targets) (beside (entering (line .plan) n) (a .entries)) entries (rw (line-plan s) (λ c h. rows c (h .0) (h .1)))
+        ∙ ap (λ (t : ℕ). restoredTo t (x .targets) (beside (entering (line .plan) n) (a .entries)) n line) is in
+        record {
+          number = commit-number line n ∙ commit-kept line n asked ∙ ap (λ (o : Option Asked). firstOf (isNothing o) 27 0) e;
+          refused = λ q. absurd (q refl);
+          done = λ q. (committed n a line, (ap some (ap (λ (o : Option Asked). committedBy n o line) e), subst (Holds u) same lanes));
+        }
+
+    -- By the test whether an answer is kept.
+    module _ (t : Bool) (is : t ≡ not (isNothing (nodeAt line n .asked))) where
+      pub commit-unkept : not t ≡ true → Did s (commit n) s 27
+      commit-unkept e = commit-none (nothing-none (nodeAt line n .asked) (not-false _ (sym is ∙ not-true t e)))
+
+      pub commit-done-by : not t ≡ false → (low : ℕ) → ((a : Asked) → nodeAt line n .asked ≡ some a → low ≡ a .low) → (entries : List ℕ) → ((a : Asked) → nodeAt line n .asked ≡ some a → KeptRows (planOf s) n a entries)
+          → {v u : List ℕ} → NodeNow s n (settled low) v → Holds u (restoredLanes n entries (lineOf v)) → Did s (commit n) u 0
+      commit-done-by e low low-is entries rows =
+          let (a, q) = something-there (nodeAt line n .asked) (not-true _ (sym is ∙ not-false t e)) in
+          commit-done a q low (low-is a q) entries (rows a q)

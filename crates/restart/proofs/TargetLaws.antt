@@ -52,6 +52,6 @@ module _ {s : List ℕ} {n : ℕ} {xs : List ℕ} {count : ℕ} (fill : Fillable
   filled-end {t} {i} h filled = subst (λ (us : List Target). NodeNow s n (withTargets us) t) (take-all i ts (omega (arith, targets-length xs count))) (filled .now)
 
 -- The status by their number.
-pub status-is : (xs : List ℕ) (count r : ℕ) → (count ≡ 0 → r ≡ 0) → (0 < count → r ≡ 2) → layout.statusOf r ≡ statusOf (targetsIn xs count)
-status-is xs zero r none some = ap layout.statusOf (none refl)
-status-is xs (suc k) r none some = ap layout.statusOf (some (omega arith))
+pub status-is : (ts : List Target) (count r : ℕ) → count ≡ length ts → (count ≡ 0 → r ≡ 0) → (0 < count → r ≡ 2) → layout.statusOf r ≡ statusOf ts
+status-is [] count r e none some = ap layout.statusOf (none e)
+status-is (t ∷ ts) count r e none some = ap layout.statusOf (some (omega arith))

@@ -1,14 +1,10 @@
--- The numbers that Crash and Recover answer, 0 for none.
+-- The numbers that Crash, Recover, Ask and Commit answer, 0 for none.
 use Prim.Native.Nat.{ℕ}
 use mathlib.Core.Bool.{Bool, true, false, not, _&&_, _||_}
-use mathlib.Core.List.{List}
 use lib.Dec.{leb, eqb}
 use Rattle.plan.specs.Plan.{nodeCount, isSource, isSink}
-use Rattle.rules.specs.Lists.{isEmpty}
-use Rattle.rules.specs.Line.{Target, Line, nodeAt, senderOf, receiverOf}
-use Rattle.rules.specs.Recover.{conflict}
-use Rattle.rules.specs.Step.{nodeDown, neighbourCrashed}
-use Rattle.recover.specs.Found.{rowsIn}
+use Rattle.rules.specs.Line.{Line, nodeAt, senderOf, receiverOf}
+use Rattle.rules.specs.Step.{isNothing, nodeDown, neighbourCrashed}
 
 -- The first of some numbers whose test holds.
 abbrev pub firstOf : Bool → ℕ → ℕ → ℕ
@@ -20,13 +16,13 @@ isEnd l n = isSource (l .plan) n || isSink (l .plan) n
 abbrev pub crashAnswer : Line → ℕ → ℕ
 crashAnswer l n = firstOf (leb (nodeCount (l .plan)) n) 13 (firstOf (isEnd l n) 14 (firstOf (nodeDown l n) 15 (firstOf (neighbourCrashed l n) 16 0)))
 
--- Of 13 to 15, by the node alone.
-abbrev pub recoverAsked : Line → ℕ → ℕ
-recoverAsked l n = firstOf (leb (nodeCount (l .plan)) n) 13 (firstOf (isEnd l n) 14 (firstOf (not (nodeDown l n)) 15 0))
+-- Of 13 to 15, by the node alone: of one that is to be restarted.
+abbrev pub restartAsked : Line → ℕ → ℕ
+restartAsked l n = firstOf (leb (nodeCount (l .plan)) n) 13 (firstOf (isEnd l n) 14 (firstOf (not (nodeDown l n)) 15 0))
 
--- Targets that conflict, or all of whose rows are complete at once: nothing is held then, and no target is.
-abbrev pub noOutcome : Line → ℕ → List Target → Bool
-noOutcome l n ts = not (isEmpty ts) && (conflict ts || rowsIn l n ts)
+-- Commit: these, and 27.
+abbrev pub commitAnswer : Line → ℕ → ℕ
+commitAnswer l n = firstOf (leb (nodeCount (l .plan)) n) 13 (firstOf (isEnd l n) 14 (firstOf (not (nodeDown l n)) 15 (firstOf (isNothing (nodeAt l n .asked)) 27 0)))
 
 -- Whether channel b joins a node to one that bears a crash mark.
 abbrev pub besideOn : Line → ℕ → ℕ → Bool

@@ -33,14 +33,14 @@ abbrev pub crashedOn : Plan → ℕ → ℕ → Lane → Lane
 crashedOn p n = atEnds p n (λ b. wiped) (λ b. cleared)
 
 -- Recover: the restored entry, of those for each parent; the child's entry.
-abbrev pub restoredTo : ℕ → Lane → Lane
-restoredTo t x = withTaken t (withMark t x)
+abbrev pub withEntry : ℕ → Lane → Lane
+withEntry t x = withTaken t (withMark t x)
 
 abbrev pub marked : Lane → Lane
 marked x = withMark (x .taken) x
 
 abbrev pub restoredOn : Plan → ℕ → List ℕ → ℕ → Lane → Lane
-restoredOn p n entries = atEnds p n (λ b. restoredTo (getD entries (channelAt p b .sender) 0)) (λ b. marked)
+restoredOn p n entries = atEnds p n (λ b. withEntry (getD entries (channelAt p b .sender) 0)) (λ b. marked)
 
 -- All of a line's channels changed.
 abbrev pub sweptAll : (ℕ → Lane → Lane) → Line → Line

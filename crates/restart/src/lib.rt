@@ -1,21 +1,24 @@
-// Crash and Recover on the bytes of a state (document 01, kinds 4 and 5). Nothing is written before the answer is known to be 0: a refusal leaves the state as it came.
+// Crash, Recover, Ask and Commit on the bytes of a state (document 01, kinds 4 and 5; document 02, 2026-07). Nothing is written before the answer is known to be 0: a refusal leaves the state as it came.
 use buffer::Line;
 use buffer::look;
 ghost use mathlib.Core.Path.{_≡_};
+ghost use mathlib.Core.Option.{some};
 ghost use Prim.Native.Nat.{_≤_, _<_};
 ghost use lib.ListN.{length};
+ghost use Rattle.plan.specs.Plan.{planOf, planNodes};
+ghost use Rattle.rules.specs.Line.{Asked, nodeAt};
 ghost use Rattle.rules.specs.Step.{neighbourCrashed};
-ghost use Rattle.rules.specs.Frame.{crash, recover};
-ghost use Rattle.rules.specs.Recover.{restored};
+ghost use Rattle.rules.specs.Frame.{crash, recover, ask, commit};
 ghost use Rattle.state.specs.Changes.{withTargets};
 ghost use Rattle.state.specs.State.{lineOf};
 ghost use Rattle.buffer.specs.Ready.{Ready, OnChannel};
 ghost use Rattle.buffer.specs.Holds.{Holds, AtNode, AtLane, NodeNow, LaneNow, Undamaged, Did};
 ghost use Rattle.buffer.specs.Rows.{rowsLong, Rows};
 ghost use Rattle.recover.specs.Found.{slotsLong, targetsIn};
-ghost use Rattle.restart.specs.Answers.{isEnd, besideOn, crashAnswer, recoverAsked, noOutcome};
-ghost use Rattle.restart.specs.Lanes.{wiped, cleared, restoredTo, marked, crashedOn, restoredOn, crashedLanes, restoredLanes};
-ghost use Rattle.restart.specs.Nodes.{emptied, restoredBy, Fillable};
+ghost use Rattle.restart.specs.Answers.{isEnd, besideOn, crashAnswer, restartAsked};
+ghost use Rattle.restart.specs.Finds.{Finds, KeptRows};
+ghost use Rattle.restart.specs.Lanes.{wiped, cleared, withEntry, marked, crashedOn, restoredOn, crashedLanes, restoredLanes};
+ghost use Rattle.restart.specs.Nodes.{emptied, settled, Fillable};
 
 const MOST: usize = Line::TARGET_LIMIT as usize;
 
@@ -72,9 +75,10 @@ fn crash_refusal(s: &[u8], n: usize) -> u32
     0
 }
 
-fn recover_refusal(s: &[u8], n: usize) -> u32
+// Of a node that is to be restarted.
+fn restart_refusal(s: &[u8], n: usize) -> u32
     requires { ⌜ Ready (now s) ⌝ }
-    ensures { λ r. ⌜ r ≡ recoverAsked (lineOf (now (s .entry))) n ⌝ }
+    ensures { λ r. ⌜ r ≡ restartAsked (lineOf (now (s .entry))) n ⌝ }
 {
     if look::node_count(s) <= n {
         return 13;
@@ -101,6 +105,7 @@ fn empty_node(s: &mut [u8], n: usize)
     node_fields::clear_log(s, n);
     node_fields::clear_held(s, n);
     node_fields::clear_targets(s, n);
+    node_fields::clear_kept(s, n);
 }
 
 // A channel that enters it, with its clock and its low clock; one that leaves it, whose clocks are the child's.
@@ -162,20 +167,49 @@ pub fn crash(s: &mut [u8], n: usize) -> u32
     0
 }
 
-// ---- Recover
+// ---- Recover, Ask and Commit
 
-// Whether targets conflict, or all rows are complete as soon as the node is restored, and it has targets.
-fn no_outcome(s: &[u8], n: usize, xs: &[u32], count: usize, entries: &[u32; 12]) -> bool
-    requires { ⌜ Ready (now s) × (length (now xs) ≡ slotsLong) × (count ≤ 64) × Rows (now entries) (restored (lineOf (now s)) n) ⌝ }
-    ensures { λ r. ⌜ r ≡ noOutcome (lineOf (now (s .entry))) n (targetsIn (now (xs .entry)) count) ⌝ }
+// What Recover finds of a node: the number that it answers, and where it is 0 low and how many targets.
+pub struct Outcome {
+    pub number: u32,
+    pub low: u32,
+    pub count: usize,
+}
+
+// It leaves the targets in xs and the restored entries, by parent, in rows that are 0 before.
+fn find(s: &[u8], n: usize, xs: &mut [u32], entries: &mut [u32; 12]) -> Outcome
+    requires { ⌜ Undamaged (now s) × (length (now xs) ≡ slotsLong) × Rows (now entries) (λ q. 0) ⌝ }
+    ensures { λ r. ⌜ Finds (now (s .entry)) n r (now (xs .exit)) (now (entries .exit)) ⌝ }
 {
-    if count == 0 {
-        return false;
+    let refusal = restart_refusal(s, n);
+    if refusal != 0 {
+        return Outcome {
+            number: refusal,
+            low: 0,
+            count: 0,
+        };
     }
-    let mut goals: [u32; 12] = [0; 12];
-    let clash = recover::rows::conflict_in(xs, count, &mut goals);
-    let done = recover::rows::rows_restored(s, n, &goals, entries);
-    clash | done
+    let low = recover::told::low_of(s, n);
+    let count = recover::told::told_of(s, n, low, xs, entries);
+    if MOST < count {
+        return Outcome {
+            number: 21,
+            low,
+            count,
+        };
+    }
+    if recover::rows::no_outcome(s, n, xs, count, entries) {
+        return Outcome {
+            number: 24,
+            low,
+            count,
+        };
+    }
+    Outcome {
+        number: 0,
+        low,
+        count,
+    }
 }
 
 // The targets found, into a node that has none.
@@ -197,20 +231,21 @@ fn status_with(count: usize) -> u8
     if count == 0 { 0 } else { 2 }
 }
 
-// "B's time is low".
-fn restore_node(s: &mut [u8], n: usize, low: u32, xs: &[u32], count: usize)
-    requires { ⌜ Fillable (now s) n (now xs) count ⌝ }
-    ensures { λ _. ⌜ NodeNow (now (s .entry)) n (restoredBy low (targetsIn (now (xs .entry)) count)) (now (s .exit)) ⌝ }
+// "B's time is low", its status goes by its targets, and it keeps no answer.
+fn settle(s: &mut [u8], n: usize, low: u32)
+    requires { ⌜ AtNode (now s) n ⌝ }
+    ensures { λ _. ⌜ NodeNow (now (s .entry)) n (settled low) (now (s .exit)) ⌝ }
 {
-    put_targets(s, n, xs, count);
+    let count = node_fields::target_count(s, n);
     node_fields::set_time(s, n, low);
     node_fields::set_status(s, n, status_with(count));
+    node_fields::clear_kept(s, n);
 }
 
 // "each entering belt's mark [is] the restored entry", and so is the clock's.
 fn restore_entry(s: &mut [u8], b: usize, time: u32)
     requires { ⌜ AtLane (now s) b ⌝ }
-    ensures { λ _. ⌜ LaneNow (now (s .entry)) b (restoredTo time) (now (s .exit)) ⌝ }
+    ensures { λ _. ⌜ LaneNow (now (s .entry)) b (withEntry time) (now (s .exit)) ⌝ }
 {
     channel_fields::set_mark(s, b, time);
     channel_fields::set_taken(s, b, time);
@@ -256,21 +291,80 @@ pub fn recover(s: &mut [u8], n: usize) -> u32
     requires { ⌜ Undamaged (now s) ⌝ }
     ensures { λ r. ⌜ Did (now (s .entry)) (recover n) (now (s .exit)) r ⌝ }
 {
-    let refusal = recover_refusal(s, n);
+    let mut xs = [0u32; 3 * MOST];
+    let mut entries: [u32; 12] = [0; 12];
+    let found = find(s, n, &mut xs, &mut entries);
+    if found.number != 0 {
+        return found.number;
+    }
+    node_fields::clear_targets(s, n);
+    put_targets(s, n, &xs, found.count);
+    settle(s, n, found.low);
+    restore_channels(s, n, &entries);
+    0
+}
+
+// Kind 7: "works out what Recover would and keeps it with the down node".
+pub fn ask(s: &mut [u8], n: usize) -> u32
+    requires { ⌜ Undamaged (now s) ⌝ }
+    ensures { λ r. ⌜ Did (now (s .entry)) (ask n) (now (s .exit)) r ⌝ }
+{
+    let mut xs = [0u32; 3 * MOST];
+    let mut entries: [u32; 12] = [0; 12];
+    let answer = find(s, n, &mut xs, &mut entries);
+    if answer.number != 0 {
+        return answer.number;
+    }
+    let high = recover::told::high_of(s, n);
+    let mut parents: [u32; 4] = [0; 4];
+    recover::rows::listed(s, n, &entries, &mut parents);
+    node_fields::clear_targets(s, n);
+    put_targets(s, n, &xs, answer.count);
+    node_fields::set_kept(
+        s,
+        n,
+        answer.low,
+        high,
+        parents[0],
+        parents[1],
+        parents[2],
+        parents[3],
+    );
+    0
+}
+
+// The kept entry of each parent, by the parent's number.
+fn kept_entries(s: &[u8], n: usize, entries: &mut [u32; 12])
+    requires { ⌜ Ready (now s) × (n < planNodes (now s)) × (length (now entries) ≡ rowsLong) ⌝ }
+    ensures { λ _. ⌜ (length (now (entries .exit)) ≡ rowsLong) × ((a : Asked) → nodeAt (lineOf (now (s .entry))) n .asked ≡ some a → KeptRows (planOf (now (s .entry))) n a (now (entries .exit))) ⌝ }
+{
+    let mut left = plan::masks::entering_mask(s, n);
+    let mut place: usize = 0;
+    while left != 0 {
+        let b = plan::masks::mask_next(left);
+        let parent = look::sender_of(s, b as usize);
+        entries[parent] = node_fields::kept_number(s, n, 2 + place);
+        left = plan::masks::without(left, b);
+        place += 1;
+    }
+}
+
+// Kind 8: "applies it". Nothing is worked out.
+pub fn commit(s: &mut [u8], n: usize) -> u32
+    requires { ⌜ Undamaged (now s) ⌝ }
+    ensures { λ r. ⌜ Did (now (s .entry)) (commit n) (now (s .exit)) r ⌝ }
+{
+    let refusal = restart_refusal(s, n);
     if refusal != 0 {
         return refusal;
     }
-    let low = recover::told::low_of(s, n);
-    let mut xs = [0u32; 3 * MOST];
-    let mut entries: [u32; 12] = [0; 12];
-    let count = recover::told::told_of(s, n, low, &mut xs, &mut entries);
-    if MOST < count {
-        return 21;
+    if !node_fields::has_kept(s, n) {
+        return 27;
     }
-    if no_outcome(s, n, &xs, count, &entries) {
-        return 24;
-    }
-    restore_node(s, n, low, &xs, count);
-    restore_channels(s, n, &entries);
+    let mut kept: [u32; 12] = [0; 12];
+    kept_entries(s, n, &mut kept);
+    let low = node_fields::kept_number(s, n, 0);
+    settle(s, n, low);
+    restore_channels(s, n, &kept);
     0
 }

@@ -1,10 +1,10 @@
 -- No set is read by a step: lines with and without sets are answered alike, and leave lines that are alike but for the sets.
-use Prim.Native.Nat.{ℕ, suc}
+use Prim.Native.Nat.{ℕ, suc, _-_}
 use mathlib.Core.Path.{_≡_, refl, sym, ap, fun-ext, _∙_}
 use mathlib.Core.Bool.{Bool, true, false, cond, not, _&&_, _||_}
 use mathlib.Core.List.{List, [], _∷_, _++_, map, map-map}
 use mathlib.Core.Option.{Option, none, some, Option·map}
-use lib.ListN.{length, length-map}
+use lib.ListN.{length, replicate, length-map}
 use lib.Dec.{leb, ltb, eqb}
 use Rattle.plan.specs.declared.Record.{Record}
 use Rattle.plan.specs.declared.Channel.{Channel}
@@ -13,13 +13,13 @@ use Rattle.plan.specs.Record.{recordLayout}
 use Rattle.plan.specs.Plan.{channelAt, entering, leaving}
 use Rattle.plan.specs.Mask.{setOf}
 use Rattle.rules.specs.Lists.{keep, allOf, anyOf, joined, isEmpty, greatestOf, leastOf}
-use Rattle.rules.specs.Line.{logLimit, heldLimit, targetLimit, Origin, fed, made, Message, Entry, Held, Target, down, Node, Lane, Line, freshNode, nodeAt, laneAt, nodeNumbers, withNode, withLane, withLanes, receiverOf, senderOf, parents, freshLane, isUp, isDown, isReplay, counted}
-use Rattle.rules.specs.Frame.{Frame, feed, send, take, crash, recover, trim, frameConsole, frameOf, frameRefusal}
+use Rattle.rules.specs.Line.{logLimit, heldLimit, targetLimit, Origin, fed, made, Message, Entry, Held, Target, Asked, down, Node, Lane, Line, freshNode, nodeAt, laneAt, nodeNumbers, withNode, withLane, withLanes, receiverOf, senderOf, parents, isUp, isDown, isReplay, counted}
+use Rattle.rules.specs.Frame.{Frame, feed, send, take, crash, recover, trim, ask, commit, frameConsole, frameOf, frameRefusal}
 use Rattle.rules.specs.Clock.{logged, nextToSend, sentOn}
-use Rattle.rules.specs.Recover.{triple, triples, childTriples, childLows, lowOf, targetsOf, sortTargets, restored, conflict, statusOf, rowGoal, rowComplete, rowsComplete, recovered}
+use Rattle.rules.specs.Recover.{triple, triples, childTriples, childLows, lowOf, highOf, answerOf, beside, committed, targetsOf, sortTargets, restored, conflict, statusOf, rowGoal, rowComplete, rowsComplete, restoredTo, recovered}
 use Rattle.rules.specs.Replay.{passedOn, isHeld, holding, replayEnd, endedIfComplete}
 use Rattle.rules.specs.Trim.{entriesFor, floorTime, senderBelow, droppable, leading, behind, lowBy, lowAfter, lowRaised, withLow, withLog, trimmedLine}
-use Rattle.rules.specs.Step.{noStepsLeft, noSuch, wrongNode, endDown, nodeDown, neighbourCrashed, badRecord, sendable, isNothing, queueFull, replaying, madeBy, firstRecord, toHold, takeLacks, sentLine, takenUp, takenReplaying, takenLane, takenFirst, crashedLine, recoveredLine, effect, noPlacing, lineRefusal, refusal, Answer, accepted, step}
+use Rattle.rules.specs.Step.{noStepsLeft, asking, askedLine, committedBy, committedLine, noSuch, wrongNode, endDown, nodeDown, neighbourCrashed, badRecord, sendable, isNothing, queueFull, replaying, madeBy, firstRecord, toHold, takeLacks, sentLine, takenUp, takenReplaying, takenLane, takenFirst, crashedLine, recoveredLine, effect, noPlacing, lineRefusal, refusal, Answer, accepted, step}
 use Rattle.rules.specs.Sets.{withoutSet, nodeWithoutSets, withoutSets, answerWithoutSets, StepWithoutSets}
 use Rattle.rules.proofs.lists.ListLaws.{map-append}
 use Rattle.rules.proofs.lists.Members.{map-same}
@@ -63,7 +63,7 @@ bare-entries es = map-map withoutSet withoutSet es
 
 bare-nodes : (ns : List Node) → map nodeWithoutSets (map nodeWithoutSets ns) ≡ map nodeWithoutSets ns
 bare-nodes [] = refl
-bare-nodes (x ∷ ns) = λ i. record { status = x .status; crashed = x .crashed; time = x .time; log = bare-entries (x .log) i; held = x .held; targets = x .targets } ∷ bare-nodes ns i
+bare-nodes (x ∷ ns) = λ i. record { status = x .status; crashed = x .crashed; time = x .time; log = bare-entries (x .log) i; held = x .held; targets = x .targets; asked = x .asked } ∷ bare-nodes ns i
 
 bare-twice : (l : Line) → withoutSets (withoutSets l) ≡ withoutSets l
 bare-twice l = λ i. record { plan = l .plan; steps = l .steps; nodes = bare-nodes (l .nodes) i; lanes = l .lanes }
@@ -83,7 +83,7 @@ logged-bare n chosen what origin before l =
     log x e = map-append withoutSet (map withoutSet (x .log)) (e ∷ []) ∙ ap (λ (es : List Entry). es ++ withoutSet e ∷ []) (bare-entries (x .log)) ∙ sym (map-append withoutSet (x .log) (e ∷ []))
 
     one : (x : Node) → nodeWithoutSets (logged chosen what origin before (nodeWithoutSets x)) ≡ nodeWithoutSets (logged chosen what origin before x)
-    one x i = record { status = x .status; crashed = x .crashed; time = suc (x .time); log = log x (record { what = what; time = suc (x .time); origin = origin; before = before; set = chosen }) i; held = x .held; targets = x .targets }
+    one x i = record { status = x .status; crashed = x .crashed; time = suc (x .time); log = log x (record { what = what; time = suc (x .time); origin = origin; before = before; set = chosen }) i; held = x .held; targets = x .targets; asked = x .asked }
 
 -- Channels changed.
 lanes-bare : (f : ℕ → Lane → Lane) (bs : List ℕ) (l : Line) → withLanes f bs (withoutSets l) ≡ withoutSets (withLanes f bs l)
@@ -169,7 +169,7 @@ taken-bare b (m ∷ rest) l = (λ i. Option·map withoutSets (by (withoutSets l)
 -- Crash, Recover.
 crashed-bare : (n : ℕ) (l : Line) → crashedLine n (withoutSets l) ≡ withoutSets (crashedLine n l)
 unfolding crashedLine
-crashed-bare n l = swept-bare _ _ (entering (l .plan) n) (leaving (l .plan) n) n (record { status = down; crashed = true; time = 0; log = []; held = []; targets = [] }) l
+crashed-bare n l = swept-bare _ _ (entering (l .plan) n) (leaving (l .plan) n) n (record { status = down; crashed = true; time = 0; log = []; held = []; targets = []; asked = none }) l
 
 targets-bare : (l : Line) (n : ℕ) → targetsOf (withoutSets l) n ≡ targetsOf l n
 unfolding targetsOf
@@ -179,20 +179,15 @@ restored-bare : (l : Line) (n parent : ℕ) → restored (withoutSets l) n paren
 unfolding restored
 restored-bare l n parent = ap (λ (ts : List Target). greatestOf (childLows l n parent ++ map (λ (t : Target). t .parentTime) (keep (λ (t : Target). eqb (t .parent) parent && leb (t .time) (lowOf l n)) ts))) (bare-children l n)
 
+restored-to-bare : (low : ℕ) (ts : List Target) (entry : ℕ → ℕ) (n : ℕ) (l : Line) → restoredTo low ts entry n (withoutSets l) ≡ withoutSets (restoredTo low ts entry n l)
+unfolding restoredTo
+restored-to-bare low ts entry n l = swept-bare _ _ (entering (l .plan) n) (leaving (l .plan) n) n (record { status = statusOf ts; crashed = true; time = low; log = []; held = []; targets = ts; asked = none }) l
+
 recovered-bare : (n : ℕ) (l : Line) → recovered n (withoutSets l) ≡ withoutSets (recovered n l)
 unfolding recovered
 recovered-bare n l =
-    (λ i. withLanes (entered (fun-ext (restored-bare l n) i)) (entering (l .plan) n) (withLanes marked (leaving (l .plan) n) (withNode n (node (targets-bare l n i)) (withoutSets l))))
-    ∙ swept-bare (entered (restored l n)) marked (entering (l .plan) n) (leaving (l .plan) n) n (node (targetsOf l n)) l
-  where
-    marked : ℕ → Lane → Lane
-    marked c s = record { mark = s .taken; taken = s .taken; heard = s .heard; queue = s .queue; low = s .low }
-
-    entered : (ℕ → ℕ) → ℕ → Lane → Lane
-    entered back c s = freshLane (l .plan) (channelAt (l .plan) c) (back (channelAt (l .plan) c .sender))
-
-    node : List Target → Node
-    node ts = record { status = statusOf ts; crashed = true; time = lowOf l n; log = []; held = []; targets = ts }
+    (λ i. restoredTo (lowOf l n) (targets-bare l n i) (λ (c : ℕ). restored-bare l n (senderOf l c) i) n (withoutSets l))
+    ∙ restored-to-bare (lowOf l n) (targetsOf l n) (λ (c : ℕ). restored l n (senderOf l c)) n l
 
 recovers-bare : (n : ℕ) (l : Line) → Option·map withoutSets (recoveredLine n (withoutSets l)) ≡ Option·map withoutSets (recoveredLine n l)
 unfolding recoveredLine
@@ -208,6 +203,32 @@ recovers-bare n l = (λ i. Option·map withoutSets (by (targets-bare l n i) (rec
     one true e = refl
     one false true = ap some (bare-twice (recovered n l))
     one false false = ended-bare n (recovered n l)
+
+-- Ask, Commit.
+answer-bare : (l : Line) (n : ℕ) → answerOf (withoutSets l) n ≡ answerOf l n
+unfolding answerOf
+answer-bare l n i =
+    record { low = lowOf l n; high = highOf l n; entries = map (λ (c : ℕ). restored-bare l n (channelAt (l .plan) c .sender) i) (entering (l .plan) n) ++ replicate (4 - length (entering (l .plan) n)) 0 }
+
+asked-bare : (n : ℕ) (l : Line) → askedLine n (withoutSets l) ≡ withoutSets (askedLine n l)
+unfolding askedLine asking
+asked-bare n l = (λ i. withNode n (asking (answer-bare l n i) (targets-bare l n i) (bare-node l n i)) (withoutSets l)) ∙ sym (bare-with l n (asking (answerOf l n) (targetsOf l n) (nodeAt l n)))
+
+asks-bare : (n : ℕ) (l : Line) (o p : Option Line) → Option·map withoutSets o ≡ Option·map withoutSets p → Option·map withoutSets (Option·map (λ (k : Line). askedLine n (withoutSets l)) o) ≡ Option·map withoutSets (Option·map (λ (k : Line). askedLine n l) p)
+asks-bare n l none none e = refl
+asks-bare n l none (some k) e = none-some e
+asks-bare n l (some j) none e = none-some (sym e)
+asks-bare n l (some j) (some k) e = ap some (ap withoutSets (asked-bare n l) ∙ bare-twice (askedLine n l))
+
+committed-bare : (n : ℕ) (l : Line) → committedLine n (withoutSets l) ≡ withoutSets (committedLine n l)
+unfolding committedLine committed
+committed-bare n l = ap (λ (o : Option Asked). committedBy n o (withoutSets l)) (ap (λ (x : Node). x .asked) (bare-node l n)) ∙ one (nodeAt l n .asked)
+  where
+    one : (o : Option Asked) → committedBy n o (withoutSets l) ≡ withoutSets (committedBy n o l)
+    one none = refl
+    one (some a) =
+        let entry = beside (entering (l .plan) n) (a .entries) in
+        (λ i. restoredTo (a .low) (bare-node l n i .targets) entry n (withoutSets l)) ∙ restored-to-bare (a .low) (nodeAt l n .targets) entry n l
 
 -- Trim.
 floor-bare : (l : Line) (n : ℕ) → floorTime (withoutSets l) n ≡ floorTime l n
@@ -282,6 +303,8 @@ effect-bare l (take b) = taken-bare b (laneAt l b .queue) l
 effect-bare l (crash n) = ap some (ap withoutSets (crashed-bare n l) ∙ bare-twice (crashedLine n l))
 effect-bare l (recover n) = recovers-bare n l
 effect-bare l (trim n) = ap some (ap withoutSets (trimmed-bare n l) ∙ bare-twice (trimmedLine n l))
+effect-bare l (ask n) = asks-bare n l (recoveredLine n (withoutSets l)) (recoveredLine n l) (recovers-bare n l)
+effect-bare l (commit n) = ap some (ap withoutSets (committed-bare n l) ∙ bare-twice (committedLine n l))
 
 placing-bare : (l : Line) (f : Frame) → noPlacing (withoutSets l) f ≡ noPlacing l f
 unfolding noPlacing
@@ -309,9 +332,9 @@ pub refusal-bare : (l : Line) (f : Frame) → lineRefusal (withoutSets l) f ≡ 
 unfolding lineRefusal rowComplete
 refusal-bare l f = same f
   where
-    refused : (f : Frame) (stopped status beside nothing row space placing : Bool) → ℕ
-    refused f stopped status beside nothing row space placing =
-        firstOf ((noSuch l f, 12) ∷ (stopped, 25) ∷ (wrongNode l f, 13) ∷ (status, 14) ∷ (beside, 15) ∷ (badRecord f, 16) ∷ (nothing, 17) ∷ (queueFull l f, 18) ∷ (row, 19) ∷ (space, 20) ∷ (placing, 23) ∷ []) 0
+    refused : (f : Frame) (stopped status beside without nothing row space placing : Bool) → ℕ
+    refused f stopped status beside without nothing row space placing =
+        firstOf ((noSuch l f, 12) ∷ (stopped, 25) ∷ (wrongNode l f, 13) ∷ (status, 14) ∷ (beside, 15) ∷ (without, 26) ∷ (badRecord f, 16) ∷ (nothing, 17) ∷ (queueFull l f, 18) ∷ (row, 19) ∷ (space, 20) ∷ (placing, 23) ∷ []) 0
 
     down-same : (n : ℕ) → nodeDown (withoutSets l) n ≡ nodeDown l n
     down-same n = ap (λ (x : Node). isDown (x .status)) (bare-node l n)
@@ -330,12 +353,14 @@ refusal-bare l f = same f
     beside-same n i = anyOf (λ (b : ℕ). bare-node l (senderOf l b) i .crashed) (entering (l .plan) n) || anyOf (λ (b : ℕ). bare-node l (receiverOf l b) i .crashed) (leaving (l .plan) n)
 
     same : (f : Frame) → lineRefusal (withoutSets l) f ≡ lineRefusal l f
-    same (feed n r) = λ i. refused (feed n r) false false false false false (leb logLimit (log-length l n i)) (placing-bare l (feed n r) i)
-    same (send b) = λ i. refused (send b) false (ends b i) false (none-there b i) false false (placing-bare l (send b) i)
-    same (take b) = λ i. refused (take b) false (ends b i) false (isEmpty (laneAt l b .queue)) (isReplay (bare-node l (receiverOf l b) i .status) && leb (rowGoal (bare-node l (receiverOf l b) i .targets) (channelAt (l .plan) b .sender)) (laneAt l b .taken)) (lacks-bare l b i) (placing-bare l (take b) i)
-    same (crash n) = λ i. refused (crash n) false (down-same n i) (beside-same n i) false false false (placing-bare l (crash n) i)
-    same (recover n) = λ i. refused (recover n) false (not (down-same n i)) false false false (ltb targetLimit (length (targets-bare l n i))) (placing-bare l (recover n) i)
-    same (trim n) = λ i. refused (trim n) (anyOf (λ (m : ℕ). not (isUp (bare-node l m i .status))) (nodeNumbers l)) false false false false false (placing-bare l (trim n) i)
+    same (feed n r) = λ i. refused (feed n r) false false false false false false (leb logLimit (log-length l n i)) (placing-bare l (feed n r) i)
+    same (send b) = λ i. refused (send b) false (ends b i) false false (none-there b i) false false (placing-bare l (send b) i)
+    same (take b) = λ i. refused (take b) false (ends b i) false false (isEmpty (laneAt l b .queue)) (isReplay (bare-node l (receiverOf l b) i .status) && leb (rowGoal (bare-node l (receiverOf l b) i .targets) (channelAt (l .plan) b .sender)) (laneAt l b .taken)) (lacks-bare l b i) (placing-bare l (take b) i)
+    same (crash n) = λ i. refused (crash n) false (down-same n i) (beside-same n i) false false false false (placing-bare l (crash n) i)
+    same (recover n) = λ i. refused (recover n) false (not (down-same n i)) false false false false (ltb targetLimit (length (targets-bare l n i))) (placing-bare l (recover n) i)
+    same (trim n) = λ i. refused (trim n) (anyOf (λ (m : ℕ). not (isUp (bare-node l m i .status))) (nodeNumbers l)) false false false false false false (placing-bare l (trim n) i)
+    same (ask n) = λ i. refused (ask n) false (not (down-same n i)) false false false false (ltb targetLimit (length (targets-bare l n i))) (placing-bare l (ask n) i)
+    same (commit n) = λ i. refused (commit n) false (not (down-same n i)) false (isNothing (bare-node l n i .asked)) false false false (placing-bare l (commit n) i)
 
 pub step-without-sets : StepWithoutSets
 unfolding answerWithoutSets step refusal noStepsLeft

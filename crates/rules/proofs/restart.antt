@@ -4,6 +4,7 @@ pub mod OldTimes
 pub mod TableFits
 pub mod ReplayEnds
 pub mod TargetsRise
+pub mod AskCommit
 pub mod RecoverGoes
 pub mod Frames
 pub mod Known
@@ -12,3 +13,4 @@ pub mod Answers
 pub mod RowsLeft
 pub mod Advance
 pub mod Bring
+pub mod BringAsked

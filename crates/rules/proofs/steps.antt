@@ -9,3 +9,4 @@ pub mod HoldInv
 pub mod CrashInv
 pub mod Floors
 pub mod TrimInv
+pub mod AskInv

@@ -3,4 +3,5 @@ pub mod Accepted
 pub mod StepInv
 pub mod SteadyKept
 pub mod Unmoved
+pub mod OwnNode
 pub mod QuietRest

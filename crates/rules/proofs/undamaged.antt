@@ -21,4 +21,6 @@ pub mod EndSound
 pub mod HoldSound
 pub mod RecoverSound
 pub mod TrimSound
+pub mod Committed
+pub mod AskSound
 pub mod StepSound

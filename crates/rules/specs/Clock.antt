@@ -19,6 +19,7 @@ logged set what origin before x =
       log = x .log ++ record { what = what; time = suc (x .time); origin = origin; before = before; set = set } ∷ [];
       held = x .held;
       targets = x .targets;
+      asked = x .asked;
     }
 
 -- A log entry as a message.

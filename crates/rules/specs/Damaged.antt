@@ -1,4 +1,4 @@
--- What makes a line damaged (document 01, "Damaged"; document 02, 2026-04 to 2026-06): conditions of the line, of a node n and of a channel b, each by itself. What a line cannot spell is the layout's matter: unused bytes, counts past their limits, status and crash mark bytes that no node has, and in the stored plan its length and rule bytes that no rule has.
+-- What makes a line damaged (document 01, "Damaged"; document 02, 2026-04 to 2026-07): conditions of the line, of a node n and of a channel b, each by itself. What a line cannot spell is the layout's matter: unused bytes, counts past their limits, status and crash mark bytes that no node has, and in the stored plan its length and rule bytes that no rule has.
 use Prim.Native.Nat.{ℕ, suc, _^_}
 use mathlib.Core.Bool.{Bool, true, false, not, _&&_, _||_}
 use mathlib.Core.List.{List, [], _∷_, _++_, map}
@@ -11,10 +11,10 @@ use Rattle.plan.specs.Plan.{Plan, nodeCount, channelCount, channelAt, entering,
 use Rattle.plan.specs.Check.{planFits}
 use Rattle.plan.specs.Mask.{setOf}
 use Rattle.rules.specs.Lists.{isEmpty, allOf, anyOf, joined}
-use Rattle.rules.specs.Line.{logLimit, queueLimit, heldLimit, targetLimit, stepLimit, consoleCount, Origin, fed, made, Message, Entry, Held, Target, Status, up, down, replay, Node, Lane, Line, nodeAt, laneAt, nodeNumbers, channelNumbersOf, senderOf, receiverOf, parents, isUp, isReplay, acceptedSteps}
-use Rattle.rules.specs.Recover.{sameTarget}
+use Rattle.rules.specs.Line.{logLimit, queueLimit, heldLimit, targetLimit, stepLimit, consoleCount, Origin, fed, made, Message, Entry, Held, Target, Status, up, down, replay, Asked, Node, Lane, Line, nodeAt, laneAt, nodeNumbers, channelNumbersOf, senderOf, receiverOf, parents, isUp, isReplay, acceptedSteps}
+use Rattle.rules.specs.Recover.{sameTarget, answerOf, targetsOf}
 use Rattle.rules.specs.Replay.{passedOn, heldEntry, heldByRow}
-use Rattle.rules.specs.Step.{endDown, nodeDown, replaying, recoverGives}
+use Rattle.rules.specs.Step.{isNothing, endDown, nodeDown, replaying, recoverGives}
 
 -- Something holds of a node, or of a channel.
 abbrev pub someNode : Line → (ℕ → Bool) → Bool
@@ -210,11 +210,30 @@ unfoldable pub replayWrong : Line → ℕ → Bool
 unfolding recoverGives
 replayWrong l n = replaying l n && not (replaysAs n (nodeAt l n) (recoverGives l n))
 
--- "a down node's belts or emptied parts, an up node's targets or held list, a replaying node's log or leaving belts hold anything": what stands at the node, and what on its channels. A down node's clock is on those that enter it.
+abbrev pub sameTimes : List ℕ → List ℕ → Bool
+sameTimes [] [] = true
+sameTimes [] (u ∷ us) = false
+sameTimes (t ∷ ts) [] = false
+sameTimes (t ∷ ts) (u ∷ us) = eqb t u && sameTimes ts us
+
+abbrev pub sameAnswer : Asked → Asked → Bool
+sameAnswer a b = eqb (a .low) (b .low) && eqb (a .high) (b .high) && sameTimes (a .entries) (b .entries)
+
+-- Whether a node's kept answer, if it has one, is what Recover of it gives.
+abbrev pub answersAs : Line → ℕ → Option Asked → Bool
+answersAs l n none = true
+answersAs l n (some a) = not (isNothing (recoverGives l n)) && sameAnswer a (answerOf l n) && sameTargets (nodeAt l n .targets) (targetsOf l n)
+
+-- 2026-07: a kept answer "that Recover would not give now is damaged". A kept time past the steps needs no test of its own: what Recover finds is never past them.
+unfoldable pub answerWrong : Line → ℕ → Bool
+unfolding recoverGives answerOf targetsOf
+answerWrong l n = not (answersAs l n (nodeAt l n .asked))
+
+-- "a down node's belts or emptied parts, an up node's targets or held list, a replaying node's log or leaving belts hold anything": what stands at the node, and what on its channels. A down node's clock is on those that enter it. 2026-07: a down node has targets only with a kept answer; a node that is not down keeps none.
 abbrev pub holdsByStatus : Status → Node → Bool
-holdsByStatus up x = not (isEmpty (x .held) && isEmpty (x .targets))
-holdsByStatus down x = not (eqb (x .time) 0 && isEmpty (x .log) && isEmpty (x .held) && isEmpty (x .targets))
-holdsByStatus replay x = not (isEmpty (x .log))
+holdsByStatus up x = not (isEmpty (x .held) && isEmpty (x .targets) && isNothing (x .asked))
+holdsByStatus down x = not (eqb (x .time) 0 && isEmpty (x .log) && isEmpty (x .held) && (isEmpty (x .targets) || not (isNothing (x .asked))))
+holdsByStatus replay x = not (isEmpty (x .log) && isNothing (x .asked))
 
 unfoldable pub nodeHolds : Node → Bool
 nodeHolds x = holdsByStatus (x .status) x
@@ -237,11 +256,11 @@ lowWrong s = lowPast (s .low) (s .taken ∷ s .heard)
 
 -- All the conditions of a node, and of a channel.
 unfoldable pub nodeDamaged : Line → ℕ → Bool
-unfolding nodePastLimits nodeWrongParent nodeTimePast nodeTimeZero nodeMakerWrong logWrong setWrong pastClock heldWrong heldNotPassed markMissing markOnEnd replayWrong nodeHolds
+unfolding nodePastLimits nodeWrongParent nodeTimePast nodeTimeZero nodeMakerWrong logWrong setWrong pastClock heldWrong heldNotPassed markMissing markOnEnd replayWrong answerWrong nodeHolds
 nodeDamaged l n =
     let x = nodeAt l n in
     nodePastLimits x || nodeWrongParent (l .plan) n x || nodeTimePast (acceptedSteps l) x || nodeTimeZero x || nodeMakerWrong (l .plan) n x || logWrong x || setWrong (l .plan) n x || pastClock l n
-    || heldWrong l n || heldNotPassed (l .plan) n x || markMissing x || markOnEnd (l .plan) n x || replayWrong l n || nodeHolds x
+    || heldWrong l n || heldNotPassed (l .plan) n x || markMissing x || markOnEnd (l .plan) n x || replayWrong l n || answerWrong l n || nodeHolds x
 
 unfoldable pub channelDamaged : Line → ℕ → Bool
 unfolding channelPastLimits channelWrongParent channelTimePast channelTimeZero channelMakerWrong queueWrong marksJoined channelHolds lowWrong

@@ -3,19 +3,20 @@ use Prim.Native.Nat.{ℕ, suc}
 use mathlib.Core.Path.{_≡_, refl}
 use mathlib.Core.Bool.{Bool, true, false, not}
 use mathlib.Core.List.{List, [], _∷_, _++_, map}
+use mathlib.Core.Option.{Option, none, some}
 use lib.ListN.{replicate}
 use Rattle.plan.specs.declared.Record.{Record}
 use Rattle.plan.specs.declared.Rule.the-variants.{Keep}
 use Rattle.plan.specs.declared.Channel.{Channel}
 use Rattle.plan.specs.Ticks.{tick}
-use Rattle.rules.specs.Line.{Origin, fed, made, Message, Entry, Held, Target, Status, replay, Node, Lane, Line, freshNode, noLane, nodeAt, laneAt, withNode, withLane, withSteps, initialLine, onlyCount, acceptedSteps}
+use Rattle.rules.specs.Line.{Origin, fed, made, Message, Entry, Held, Target, Asked, Status, replay, Node, Lane, Line, freshNode, noLane, nodeAt, laneAt, withNode, withLane, withSteps, initialLine, onlyCount, acceptedSteps}
 use Rattle.rules.specs.Lists.{isEmpty, joined, upTo}
 use Rattle.rules.specs.Claim.{Story, startOf, storyFrom, told}
 use Rattle.rules.specs.Marked.{channel, feedFrame, frame, moved as twoSteps, replayPlan, replayBegun, replayEnded}
 use Rattle.rules.specs.Examples.{chain}
-use Rattle.rules.specs.Damaged.{someNode, someChannel, planBroken, misshapen, stepsPast, nodePastLimits, nodeWrongParent, nodeTimePast, nodeTimeZero, nodeMakerWrong, logWrong, setWrong, pastClock, heldWrong, heldNotPassed, markMissing, markOnEnd, replayWrong, nodeHolds, channelPastLimits, channelWrongParent, channelTimePast, channelTimeZero, channelMakerWrong, queueWrong, marksJoined, channelHolds, lowWrong, damaged}
+use Rattle.rules.specs.Damaged.{someNode, someChannel, planBroken, misshapen, stepsPast, nodePastLimits, nodeWrongParent, nodeTimePast, nodeTimeZero, nodeMakerWrong, logWrong, setWrong, pastClock, heldWrong, heldNotPassed, markMissing, markOnEnd, replayWrong, answerWrong, nodeHolds, channelPastLimits, channelWrongParent, channelTimePast, channelTimeZero, channelMakerWrong, queueWrong, marksJoined, channelHolds, lowWrong, damaged}
 
--- The conditions in the order in which `damaged` has them, but 2026-06's set last; `met` gives the numbers, from 1, of those that hold.
+-- The conditions in the order in which `damaged` has them, but the sets of 2026-06 and the kept answers of 2026-07 last; `met` gives the numbers, from 1, of those that hold.
 abbrev numbersOf : ℕ → List Bool → List ℕ
 numbersOf k [] = []
 numbersOf k (true ∷ bs) = k ∷ numbersOf (suc k) bs
@@ -28,7 +29,7 @@ abbrev atChannel : Line → (ℕ → Lane → Bool) → Bool
 atChannel l f = someChannel l (λ (b : ℕ). f b (laneAt l b))
 
 unfoldable pub met : Line → List ℕ
-unfolding planBroken misshapen stepsPast nodePastLimits nodeWrongParent nodeTimePast nodeTimeZero nodeMakerWrong logWrong pastClock heldWrong heldNotPassed markMissing markOnEnd replayWrong nodeHolds channelPastLimits channelWrongParent channelTimePast channelTimeZero channelMakerWrong queueWrong marksJoined channelHolds lowWrong setWrong
+unfolding planBroken misshapen stepsPast nodePastLimits nodeWrongParent nodeTimePast nodeTimeZero nodeMakerWrong logWrong pastClock heldWrong heldNotPassed markMissing markOnEnd replayWrong nodeHolds channelPastLimits channelWrongParent channelTimePast channelTimeZero channelMakerWrong queueWrong marksJoined channelHolds lowWrong setWrong answerWrong
 met l =
     let p = l .plan in
     numbersOf 1 (
@@ -58,6 +59,7 @@ met l =
     ∷ someChannel l (channelHolds l)
     ∷ atChannel l (λ b s. lowWrong s)
     ∷ atNode l (setWrong p)
+    ∷ someNode l (answerWrong l)
     ∷ [])
 
 unfoldable pub begun : Line
@@ -72,6 +74,11 @@ ended = storyFrom replayEnded (frame 2 3 ∷ []) .line
 unfoldable pub fallen : Line
 unfolding replayEnded told
 fallen = storyFrom replayEnded (frame 4 2 ∷ []) .line
+
+-- the same, and asked
+unfoldable pub fallenAsked : Line
+unfolding replayEnded told
+fallenAsked = storyFrom replayEnded (frame 4 2 ∷ frame 7 2 ∷ []) .line
 
 -- the same plan, children 3 and 4 at times 2 and 1 of node 2, which has recovered: it replays from time 1
 unfoldable pub later : Line
@@ -109,20 +116,26 @@ piece k m = record { piece = k; material = m; mass = 0 }
 abbrev origins : Origin → Lane → Lane
 origins o s = record { mark = s .mark; taken = s .taken; heard = s .heard; queue = map (λ (m : Message). record { what = m .what; time = m .time; origin = o }) (s .queue); low = s .low }
 
+abbrev asks : ℕ → ℕ → List ℕ → Asked
+asks low high entries = record { low = low; high = high; entries = entries }
+
 abbrev logs : (Entry → Entry) → Node → Node
-logs f x = record { status = x .status; crashed = x .crashed; time = x .time; log = map f (x .log); held = x .held; targets = x .targets }
+logs f x = record { status = x .status; crashed = x .crashed; time = x .time; log = map f (x .log); held = x .held; targets = x .targets; asked = x .asked }
 
 abbrev timed : ℕ → Node → Node
-timed t x = record { status = x .status; crashed = x .crashed; time = t; log = x .log; held = x .held; targets = x .targets }
+timed t x = record { status = x .status; crashed = x .crashed; time = t; log = x .log; held = x .held; targets = x .targets; asked = x .asked }
 
 abbrev marked : Bool → Node → Node
-marked b x = record { status = x .status; crashed = b; time = x .time; log = x .log; held = x .held; targets = x .targets }
+marked b x = record { status = x .status; crashed = b; time = x .time; log = x .log; held = x .held; targets = x .targets; asked = x .asked }
 
 abbrev holds : List Held → Node → Node
-holds hs x = record { status = x .status; crashed = x .crashed; time = x .time; log = x .log; held = hs; targets = x .targets }
+holds hs x = record { status = x .status; crashed = x .crashed; time = x .time; log = x .log; held = hs; targets = x .targets; asked = x .asked }
 
 abbrev aims : List Target → Node → Node
-aims ts x = record { status = x .status; crashed = x .crashed; time = x .time; log = x .log; held = x .held; targets = ts }
+aims ts x = record { status = x .status; crashed = x .crashed; time = x .time; log = x .log; held = x .held; targets = ts; asked = x .asked }
+
+abbrev answers : (Asked → Option Asked) → Node → Node
+answers f x = record { status = x .status; crashed = x .crashed; time = x .time; log = x .log; held = x .held; targets = x .targets; asked = elim (x .asked) [ none ↦ f (asks 0 0 (replicate 4 0)) | some a ↦ f a ] }
 
 abbrev moved : ℕ → ℕ → Lane → Lane
 moved m t s = record { mark = m; taken = t; heard = s .heard; queue = s .queue; low = s .low }
@@ -146,10 +159,10 @@ abbrev of : Record → Entry → Entry
 of r e = record { what = r; time = e .time; origin = e .origin; before = e .before; set = e .set }
 
 abbrev withLog : List Entry → Node → Node
-withLog es x = record { status = x .status; crashed = x .crashed; time = x .time; log = es; held = x .held; targets = x .targets }
+withLog es x = record { status = x .status; crashed = x .crashed; time = x .time; log = es; held = x .held; targets = x .targets; asked = x .asked }
 
 abbrev standing : Status → Node → Node
-standing s x = record { status = s; crashed = x .crashed; time = x .time; log = x .log; held = x .held; targets = x .targets }
+standing s x = record { status = s; crashed = x .crashed; time = x .time; log = x .log; held = x .held; targets = x .targets; asked = x .asked }
 
 abbrev queued : List Message → Lane → Lane
 queued ms s = record { mark = s .mark; taken = s .taken; heard = s .heard; queue = ms; low = s .low }
@@ -214,7 +227,7 @@ abbrev lighter : Channel → Channel
 lighter c = record { sender = c .sender; receiver = c .receiver; mask = c .mask; modulus = c .modulus; remainder = c .remainder; least = c .least; greatest = 65_534 }
 
 unfoldable pub trials : List Trial
-unfolding replayPlan chain initialLine begun ended fallen withNode withLane
+unfolding replayPlan chain initialLine begun ended fallen fallenAsked withNode withLane
 trials =
     trial begun []
     ∷ trial ended []
@@ -272,6 +285,19 @@ trials =
     ∷ trial (node 0 (logs (leavingBy 0)) ended) (26 ∷ [])
     ∷ trial (node 0 (logs (leavingBy 3)) ended) (26 ∷ [])
     ∷ trial (node 3 (logs (leavingBy 1)) ended) (26 ∷ [])
+    -- a kept answer: right, and with another low, high or entry, with too few entries, with a number behind the parents', with other targets; none, with targets; of a node that is up, of one that replays, both right and wrong
+    ∷ trial fallenAsked []
+    ∷ trial (node 2 (answers (λ (a : Asked). some (asks 1 (a .high) (a .entries)))) fallenAsked) (27 ∷ [])
+    ∷ trial (node 2 (answers (λ (a : Asked). some (asks (a .low) 1 (a .entries)))) fallenAsked) (27 ∷ [])
+    ∷ trial (node 2 (answers (λ (a : Asked). some (asks (a .low) (a .high) (0 ∷ 1 ∷ 0 ∷ 0 ∷ [])))) fallenAsked) (27 ∷ [])
+    ∷ trial (node 2 (answers (λ (a : Asked). some (asks (a .low) (a .high) (0 ∷ 0 ∷ [])))) fallenAsked) (27 ∷ [])
+    ∷ trial (node 2 (answers (λ (a : Asked). some (asks (a .low) (a .high) (0 ∷ 0 ∷ 1 ∷ 0 ∷ [])))) fallenAsked) (27 ∷ [])
+    ∷ trial (node 2 (aims []) fallenAsked) (27 ∷ [])
+    ∷ trial (node 2 (answers (λ (a : Asked). none)) fallenAsked) (16 ∷ [])
+    ∷ trial (node 3 (answers (λ (a : Asked). some a)) fallenAsked) (16 ∷ [])
+    ∷ trial (node 3 (answers (λ (a : Asked). some (asks 1 1 (a .entries)))) fallenAsked) (16 ∷ 27 ∷ [])
+    ∷ trial (node 2 (answers (λ (a : Asked). some (asks 0 2 (a .entries)))) begun) (16 ∷ [])
+    ∷ trial (node 2 (answers (λ (a : Asked). some a)) begun) (16 ∷ 27 ∷ [])
     -- times of nodes and channels past the steps; a marked sink beside a marked node
     ∷ trial (steps 1 begun) (6 ∷ 19 ∷ [])
     ∷ trial (node 3 (marked true) begun) (14 ∷ 23 ∷ [])

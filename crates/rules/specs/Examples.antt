@@ -1,4 +1,4 @@
--- Document 01's own examples of the numbers 1 to 7, 9 to 19 and 21, and some of ours that tell readings apart, those of 2026-01, 2026-04 and 2026-05 among them, computed. Its examples of 22 to 24 are in the placing's `Marked`, that of 8 in the state's `Examples`; P9 shows that of 20.
+-- Document 01's own examples of the numbers 1 to 7, 9 to 19 and 21, and some of ours that tell readings apart, those of 2026-01, 2026-04, 2026-05 and 2026-07 among them, computed. Its examples of 22 to 24 are in the placing's `Marked`, that of 8 in the state's `Examples`; P9 shows that of 20.
 use Prim.Native.Nat.{ℕ}
 use mathlib.Core.Path.{_≡_, refl}
 use mathlib.Core.List.{List, [], _∷_, _++_, map}
@@ -93,8 +93,8 @@ exampleTable =
     ∷ record { given = answers 0 ((0 ∷ 6 ∷ 1 ∷ 2 ∷ 0 ∷ []) ∷ (0 ∷ 5 ∷ 1 ∷ 2 ∷ 0 ∷ 0 ∷ []) ∷ (0 ∷ 4 ∷ 1 ∷ 2 ∷ []) ∷ (0 ∷ 5 ∷ 0 ∷ 2 ∷ []) ∷ []); expected = replicate 4 9 }
     -- 10: version 3; 10 comes before 11
     ∷ record { given = answers 0 ((0 ∷ 5 ∷ 3 ∷ 2 ∷ 0 ∷ []) ∷ (0 ∷ 5 ∷ 0 ∷ 6 ∷ 0 ∷ []) ∷ []); expected = 10 ∷ 10 ∷ [] }
-    -- 11: kinds 0, 7 and 9, a Feed of 5 bytes; 11 comes before 12
-    ∷ record { given = answers 0 (frame 0 0 ∷ frame 7 0 ∷ frame 9 0 ∷ frame 1 0 ∷ []) ++ answers 1_000_000 (frame 9 0 ∷ []); expected = replicate 5 11 }
+    -- 11: kinds 0 and 9, a Feed of 5 bytes; 11 comes before 12
+    ∷ record { given = answers 0 (frame 0 0 ∷ frame 9 0 ∷ frame 1 0 ∷ []) ++ answers 1_000_000 (frame 9 0 ∷ []); expected = replicate 4 11 }
     -- 12: "one more Crash", before all that comes after it
     ∷ record { given = answers 1_000_000 (frame 4 1 ∷ frame 4 99 ∷ []); expected = 12 ∷ 12 ∷ [] }
     -- 13 to 18: "belt 24", "Crash 0", "Crash twice", "parent of a crashed node", "material 16", "empty belt"
@@ -105,6 +105,13 @@ exampleTable =
     ∷ record { given = answers 0 (frame 5 0 ∷ feedFrame 1 1 16 ∷ []); expected = 14 ∷ 14 ∷ [] }
     -- 15: "Recover of a node not down"; node 1 down: "Send, Take with an end down", the receiver and then the sender; a Feed above it is accepted
     ∷ record { given = answers 0 (frame 5 1 ∷ frame 4 1 ∷ frame 2 0 ∷ frame 3 0 ∷ frame 2 1 ∷ frame 3 1 ∷ feedFrame 0 1 1 ∷ []); expected = 15 ∷ 0 ∷ (replicate 4 15 ++ 0 ∷ []) }
+    -- 2026-07: Ask and Commit are refused as Recover is (13, 14, 15), a Commit of a down node that was not asked with 27. Ask may be repeated; a node that has come back is 15; crashed again it keeps no answer: 27.
+    ∷ record { given = answers 0 (frame 7 4 ∷ frame 8 4 ∷ frame 7 0 ∷ frame 8 0 ∷ frame 7 3 ∷ frame 8 3 ∷ frame 7 1 ∷ frame 8 1 ∷ frame 4 1 ∷ frame 8 1 ∷ frame 7 1 ∷ frame 7 1 ∷ frame 8 1 ∷ frame 8 1 ∷ []); expected = 13 ∷ 13 ∷ 14 ∷ 14 ∷ 14 ∷ 14 ∷ 15 ∷ 15 ∷ 0 ∷ 27 ∷ 0 ∷ 0 ∷ 0 ∷ 15 ∷ [] }
+    -- back by Recover, and by Commit
+    ∷ record { given = answers 0 (frame 4 1 ∷ frame 7 1 ∷ frame 5 1 ∷ frame 8 1 ∷ frame 4 1 ∷ frame 8 1 ∷ []); expected = 0 ∷ 0 ∷ 0 ∷ 15 ∷ 0 ∷ 27 ∷ [] }
+    ∷ record { given = answers 0 (frame 4 1 ∷ frame 7 1 ∷ frame 8 1 ∷ frame 4 1 ∷ frame 8 1 ∷ []); expected = 0 ∷ 0 ∷ 0 ∷ 0 ∷ 27 ∷ [] }
+    -- 26, of 2026-04: 13 before it; a Trim while a node is down, asked or not, whichever node it names; none is down
+    ∷ record { given = answers 0 (frame 6 4 ∷ frame 6 0 ∷ frame 4 1 ∷ frame 6 4 ∷ frame 6 0 ∷ frame 6 1 ∷ frame 7 1 ∷ frame 6 2 ∷ frame 8 1 ∷ frame 6 2 ∷ []); expected = 13 ∷ 0 ∷ 0 ∷ 13 ∷ 26 ∷ 26 ∷ 0 ∷ 26 ∷ 0 ∷ 0 ∷ [] }
     -- 18: a replaying node has nothing to send
     ∷ record { given = storyFrom (startOf (replayBegun .line)) (frame 2 2 ∷ frame 2 3 ∷ []) .numbers; expected = 18 ∷ 18 ∷ [] }
     -- 19: "ninth Send"; a full belt with nothing more to send is 18

@@ -17,6 +17,7 @@ pub mod Order
 pub mod Restart
 pub mod Console
 pub mod Sets
+pub mod Ask
 pub mod Versions
 pub mod Marked
 pub mod Examples

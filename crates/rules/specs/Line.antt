@@ -3,6 +3,7 @@ use Prim.Native.Nat.{ℕ, suc, _*_}
 use mathlib.Core.Path.{_≡_, refl}
 use mathlib.Core.Bool.{Bool, true, false}
 use mathlib.Core.List.{List, [], _∷_, map}
+use mathlib.Core.Option.{Option, none}
 use lib.ListN.{length, getD, set, replicate}
 use Rattle.plan.specs.declared.Record.{Record}
 use Rattle.plan.specs.declared.Channel.{Channel}
@@ -72,6 +73,12 @@ pub record Target : Type 0 where
 pub data Status : Type 0 where
   up down replay : Status
 
+-- 2026-07: what Ask keeps with a down node: low, high, and each parent's restored entry, in the order of the channels that enter it, four in all, 0 behind them. Its targets are the node's own list, which is empty while it is down and no answer is kept.
+pub record Asked : Type 0 where
+  pub low : ℕ
+  pub high : ℕ
+  pub entries : List ℕ
+
 pub record Node : Type 0 where
   pub status : Status
   pub crashed : Bool
@@ -79,6 +86,7 @@ pub record Node : Type 0 where
   pub log : List Entry
   pub held : List Held
   pub targets : List Target
+  pub asked : Option Asked
 
 -- A channel's state (document 01: a belt). The receiver's clock entry for the sender is `taken`, its entries for the sender's parents are `heard`, in the parents' order: a pair of nodes has at most one channel.
 -- 2026-04: what the receiver's low clock holds for the sender and then for the sender's parents is `low`.
@@ -110,7 +118,7 @@ acceptedSteps l = sumOf (l .steps)
 
 -- "A node has a time (0 at first)": a node that is up and has done nothing.
 abbrev pub freshNode : Node
-freshNode = record { status = up; crashed = false; time = 0; log = []; held = []; targets = [] }
+freshNode = record { status = up; crashed = false; time = 0; log = []; held = []; targets = []; asked = none }
 
 -- The parents of a node, rising.
 unfoldable pub parents : Plan → ℕ → List ℕ

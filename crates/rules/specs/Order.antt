@@ -4,6 +4,7 @@ use mathlib.Core.Path.{_≡_}
 use mathlib.Core.Bool.{true, false}
 use mathlib.Core.List.{List}
 use Rattle.plan.specs.Plan.{Plan, planOf}
+use Rattle.plan.specs.Lawful.{Each, Bytes}
 use Rattle.plan.specs.Check.{planRefusal}
 use Rattle.rules.specs.Line.{initialLine}
 use Rattle.rules.specs.Plain.{Act, plainRun, runFeeds, atRest}
@@ -19,6 +20,6 @@ pub record OneRun (p : Plan) (s : Story) : Type 0 where
   -- "If then no belt has anything to send or take and no node is down or replaying, that run is at rest too: nothing lost, doubled or swapped."
   pub rests : quiet (s .line) ≡ true → atRest (plainRun p acts .queues) ≡ true
 
--- "For every list of frames passed to Step after an accepted Load (Feed, Send, Take, Crash, Recover and whatever else is typed, refused ones included), each on the state that the last call left"
+-- "For every list of frames passed to Step after an accepted Load (Feed, Send, Take, Crash, Recover and whatever else is typed, refused ones included), each on the state that the last call left"; plan and frames of bytes, as all that can be lent is.
 abbrev pub InOrder : Type 0
-InOrder = (plan : List ℕ) (frames : List (List ℕ)) → planRefusal plan ≡ 0 → OneRun (planOf plan) (storyFrom (startOf (initialLine (planOf plan))) frames)
+InOrder = (plan : List ℕ) (frames : List (List ℕ)) → Bytes plan → Each Bytes frames → planRefusal plan ≡ 0 → OneRun (planOf plan) (storyFrom (startOf (initialLine (planOf plan))) frames)

@@ -1,12 +1,13 @@
--- What Recover finds of node B in its children's clocks, low clocks and logs (document 01, kind 5; document 02, 2026-04). Here b is the node B and c a channel.
-use Prim.Native.Nat.{ℕ}
+-- What Recover finds of node B in its children's clocks, low clocks and logs (document 01, kind 5; document 02, 2026-04), and what Ask keeps of it (2026-07). Here b is the node B and c a channel.
+use Prim.Native.Nat.{ℕ, _-_}
 use mathlib.Core.Bool.{Bool, true, false, cond, _&&_, _||_}
 use mathlib.Core.List.{List, [], _∷_, _++_, map}
-use lib.ListN.{drop}
+use lib.ListN.{drop, length, replicate}
+use mathlib.Core.Option.{none}
 use lib.Dec.{leb, ltb, eqb}
 use Rattle.plan.specs.Plan.{channelAt, entering, leaving}
 use Rattle.rules.specs.Lists.{keep, allOf, anyOf, joined, greatestOf, leastOf}
-use Rattle.rules.specs.Line.{Origin, fed, made, Entry, Target, Status, up, replay, Lane, Line, nodeAt, laneAt, withNode, withLane, withLanes, parents, freshLane}
+use Rattle.rules.specs.Line.{Origin, fed, made, Entry, Target, Status, up, replay, Lane, Asked, Line, nodeAt, laneAt, withNode, withLane, withLanes, parents, freshLane}
 use Rattle.rules.specs.Clock.{entryFor}
 
 -- The children's clock entries for B.
@@ -97,12 +98,33 @@ abbrev pub statusOf : List Target → Status
 statusOf [] = up
 statusOf (t ∷ ts) = replay
 
--- B restored: "B's time is low; each leaving belt's mark is the child's entry for B, each entering belt's mark the restored entry. No targets: B is up. Else it replays." Parents' parents get 0.
-unfoldable pub recovered : ℕ → Line → Line
-unfolding lowOf targetsOf restored entering leaving freshLane withNode withLane
-recovered b l =
+-- B with a time, its targets and what its clock has for the sender of each channel that enters it: "B's time is low; each leaving belt's mark is the child's entry for B, each entering belt's mark the restored entry. No targets: B is up. Else it replays." Parents' parents get 0.
+unfoldable pub restoredTo : ℕ → List Target → (ℕ → ℕ) → ℕ → Line → Line
+unfolding entering leaving freshLane withNode withLane
+restoredTo low targets entry b l =
     let marked : ℕ → Lane → Lane = λ c s. record { mark = s .taken; taken = s .taken; heard = s .heard; queue = s .queue; low = s .low } in
-    let entered : ℕ → Lane → Lane = λ c s. freshLane (l .plan) (channelAt (l .plan) c) (restored l b (channelAt (l .plan) c .sender)) in
+    let entered : ℕ → Lane → Lane = λ c s. freshLane (l .plan) (channelAt (l .plan) c) (entry c) in
     withLanes entered (entering (l .plan) b)
     (withLanes marked (leaving (l .plan) b)
-    (withNode b (record { status = statusOf (targetsOf l b); crashed = true; time = lowOf l b; log = []; held = []; targets = targetsOf l b }) l))
+    (withNode b (record { status = statusOf targets; crashed = true; time = low; log = []; held = []; targets = targets; asked = none }) l))
+
+-- B restored by what Recover finds.
+unfoldable pub recovered : ℕ → Line → Line
+unfolding lowOf targetsOf restored restoredTo
+recovered b l = restoredTo (lowOf l b) (targetsOf l b) (λ (c : ℕ). restored l b (channelAt (l .plan) c .sender)) b l
+
+-- 2026-07: "Ask, works out what Recover would": low, high, and the restored entry of each parent. The targets stand beside it.
+unfoldable pub answerOf : Line → ℕ → Asked
+unfolding lowOf highOf restored entering
+answerOf l b =
+    let rows = entering (l .plan) b in
+    record { low = lowOf l b; high = highOf l b; entries = map (λ (c : ℕ). restored l b (channelAt (l .plan) c .sender)) rows ++ replicate (4 - length rows) 0 }
+
+-- The number that stands at a channel's place: of the first list the channels, of the second the numbers.
+abbrev pub beside : List ℕ → List ℕ → ℕ → ℕ
+beside bs ts c = entryFor c bs ts
+
+-- B restored by a kept answer and the targets that stand with it.
+unfoldable pub committed : ℕ → Asked → Line → Line
+unfolding entering restoredTo
+committed b a l = restoredTo (a .low) (nodeAt l b .targets) (beside (entering (l .plan) b) (a .entries)) b l

@@ -23,7 +23,7 @@ passedOn p n r = not (isEmpty (taking p n r))
 
 -- One more held record.
 unfoldable pub holding : Held → Node → Node
-holding h x = record { status = x .status; crashed = x .crashed; time = x .time; log = x .log; held = x .held ++ h ∷ []; targets = x .targets }
+holding h x = record { status = x .status; crashed = x .crashed; time = x .time; log = x .log; held = x .held ++ h ∷ []; targets = x .targets; asked = x .asked }
 
 -- "A target is fixed at its B-time": the time of the target that a held record is, 0 if it is none.
 abbrev pub fixedAt : List Target → Held → ℕ
@@ -79,7 +79,7 @@ placing low high table = elim (tableFits low high table && not (unplaceable low 
 -- The node once its held records are placed: "B's time becomes high, and B is up, targets and held list emptied".
 unfoldable pub nodePlaced : Line → ℕ → List Held → List ℕ → Node
 unfolding highOf setOf
-nodePlaced l b hs columns = record { status = up; crashed = nodeAt l b .crashed; time = highOf l b; log = placedLog (setOf (l .plan) b) hs columns; held = []; targets = [] }
+nodePlaced l b hs columns = record { status = up; crashed = nodeAt l b .crashed; time = highOf l b; log = placedLog (setOf (l .plan) b) hs columns; held = []; targets = []; asked = none }
 
 -- The replay's end: nothing where a target is not held or no placing exists.
 unfoldable pub replayEnd : ℕ → Line → Option Line

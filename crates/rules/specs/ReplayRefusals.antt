@@ -2,6 +2,7 @@
 use Prim.Native.Nat.{ℕ, zero, suc, _+_}
 use mathlib.Core.Path.{_≡_, refl}
 use mathlib.Core.Bool.{Bool, true, false}
+use mathlib.Core.Option as option
 use mathlib.Core.List.{List, [], _∷_, _++_, map}
 use Rattle.plan.specs.declared.Rule.{Rule}
 use Rattle.plan.specs.declared.Rule.the-variants.{Keep, Relabel}
@@ -12,7 +13,11 @@ use Rattle.rules.specs.Recover.{sortTargets}
 use Rattle.rules.specs.Step.{step}
 use Rattle.rules.specs.Damaged.{damaged}
 use Rattle.rules.specs.Claim.{Story, startOf, storyFrom, told}
-use Rattle.rules.specs.Marked.{channel, feedFrame, frame, moved, logNumbers}
+use Rattle.rules.specs.Marked.{channel, feedFrame, frame, moved, logNumbers, replayPlan}
+use Rattle.rules.specs.Sheet.{keptText, decimal}
+use Rattle.rules.specs.Line.{parents}
+use mathlib.Core.List.{zipWith}
+use lib.ListN.{replicate}
 use Rattle.rules.specs.DamagedLines.{piece, target, met, deepBegun}
 
 -- 0 and 1 to 2, which has a rule; 2 sends material 1 to 3, materials 1 and 2 to 4, material 2 to 5
@@ -23,13 +28,13 @@ abbrev lane : ℕ → ℕ → List ℕ → List Message → Lane
 lane m t h q = record { mark = m; taken = t; heard = h; queue = q; low = map (λ (k : ℕ). 0) (0 ∷ h) }
 
 abbrev upNode : ℕ → List Entry → Node
-upNode t es = record { status = up; crashed = false; time = t; log = es; held = []; targets = [] }
+upNode t es = record { status = up; crashed = false; time = t; log = es; held = []; targets = []; asked = option.none }
 
 abbrev downNode : Node
-downNode = record { status = down; crashed = true; time = 0; log = []; held = []; targets = [] }
+downNode = record { status = down; crashed = true; time = 0; log = []; held = []; targets = []; asked = option.none }
 
 abbrev replays : ℕ → List Held → List Target → Node
-replays t hs ts = record { status = replay; crashed = true; time = t; log = []; held = hs; targets = ts }
+replays t hs ts = record { status = replay; crashed = true; time = t; log = []; held = hs; targets = ts; asked = option.none }
 
 -- an entry of a child of 2
 abbrev entry : ℕ → ℕ → ℕ → ℕ → Entry
@@ -190,3 +195,22 @@ again =
 replaying-node-crashes : again ≡ 0 ∷ 0 ∷ 1 ∷ 0 ∷ 0 ∷ 0 ∷ 0 ∷ 10 ∷ 70 ∷ 66 ∷ []
 unfolding again
 replaying-node-crashes = refl
+
+-- P9's line with node 2 down and asked: what the sheet prints of it behind its clock. Low 0, high 2, both parents restored at 0, the target (2, 0, 1).
+unfoldable pub askedStory : Story
+unfolding replayPlan initialLine told
+askedStory = storyFrom (startOf (initialLine replayPlan)) (feedFrame 0 1 1 ∷ feedFrame 0 2 2 ∷ feedFrame 1 3 2 ∷ (joined (map moved (1 ∷ 0 ∷ 0 ∷ 2 ∷ [])) ++ frame 4 2 ∷ frame 7 2 ∷ []))
+
+asked-answers : askedStory .numbers ≡ replicate 13 0
+unfolding askedStory
+asked-answers = refl
+
+-- "Q 0 2 0:0 1:0 2[0:1]"
+asked-text : keptText (parents replayPlan 2) (nodeAt (askedStory .line) 2 .targets) (nodeAt (askedStory .line) 2 .asked) ≡ 81 ∷ 32 ∷ 48 ∷ 32 ∷ 50 ∷ 32 ∷ 48 ∷ 58 ∷ 48 ∷ 32 ∷ 49 ∷ 58 ∷ 48 ∷ 32 ∷ 50 ∷ 91 ∷ 48 ∷ 58 ∷ 49 ∷ 93 ∷ 10 ∷ []
+unfolding askedStory decimal parents replayPlan zipWith
+asked-text = refl
+
+-- Asked again it is accepted; committed it replays, and is neither asked nor committed again: 15. Crashed while it replays it keeps no answer: 27.
+after-asked : storyFrom (startOf (askedStory .line)) (frame 7 2 ∷ frame 8 2 ∷ frame 7 2 ∷ frame 8 2 ∷ frame 4 2 ∷ frame 8 2 ∷ []) .numbers ≡ 0 ∷ 0 ∷ 15 ∷ 15 ∷ 0 ∷ 27 ∷ []
+unfolding askedStory
+after-asked = refl

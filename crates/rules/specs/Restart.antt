@@ -9,6 +9,7 @@ use lib.Dec.{ltb}
 use Rattle.plan.specs.Layout.{sumOf}
 use Rattle.plan.specs.Channel.{takes}
 use Rattle.plan.specs.Plan.{Plan, planOf, channelAt, entering}
+use Rattle.plan.specs.Lawful.{Each, Bytes}
 use Rattle.plan.specs.Check.{planRefusal}
 use Rattle.rules.specs.Lists.{keep, isEmpty}
 use Rattle.rules.specs.Line.{stepLimit, consoleCount, Entry, Status, up, down, replay, Line, initialLine, nodeAt, laneAt, stepsFrom, senderOf, receiverOf}
@@ -26,6 +27,13 @@ takeFrame w b = frameFrom w 3 b
 
 abbrev pub recoverFrame : Caller → ℕ → List ℕ
 recoverFrame w n = frameFrom w 5 n
+
+-- 2026-07: an Ask and a Commit of node n.
+abbrev pub askFrame : Caller → ℕ → List ℕ
+askFrame w n = frameFrom w 7 n
+
+abbrev pub commitFrame : Caller → ℕ → List ℕ
+commitFrame w n = frameFrom w 8 n
 
 -- The answer of a frame that nothing but the caller's step limit refuses.
 unfoldable pub unlessUsedUp : Line → Caller → ℕ
@@ -73,6 +81,14 @@ pub record ComesBack (l : Line) (w : Caller) (n : ℕ) : Type 0 where
   pub accepted : storyFrom (startOf l) frames .numbers ≡ replicate (length frames) 0
   pub back : nodeAt (storyFrom (startOf l) frames .line) n .status ≡ up
 
+-- The same of a node that is down by Ask and Commit in the place of Recover: the Ask is a step more.
+pub record ComesBackAsked (l : Line) (w : Caller) (n : ℕ) : Type 0 where
+  pub rest : List (List ℕ)
+  pub few : length rest ≤ replaySteps (recovered n l) n
+  pub shape : OnEntering (l .plan) w n rest
+  pub accepted : storyFrom (startOf l) (askFrame w n ∷ commitFrame w n ∷ rest) .numbers ≡ replicate (2 + length rest) 0
+  pub back : nodeAt (storyFrom (startOf l) (askFrame w n ∷ commitFrame w n ∷ rest) .line) n .status ≡ up
+
 -- Of what one caller asks.
 pub record NeverStuckFor (l : Line) (w : Caller) : Type 0 where
   -- Recover of a node that is down (and so no source and no sink) is accepted unless the caller's steps are used up: there are never over 64 targets.
@@ -81,6 +97,8 @@ pub record NeverStuckFor (l : Line) (w : Caller) : Type 0 where
   pub replays : (b : ℕ) → nodeAt l (receiverOf l b) .status ≡ replay → rowComplete l (receiverOf l b) b ≡ false → isEmpty (laneAt l b .queue) ≡ false → refusal l (takeFrame w b) ≡ unlessUsedUp l w
   -- So the node comes back, whatever its status is, if the caller has steps left for it.
   pub comes-back : (n : ℕ) → stepsFrom l (consoleOf w) + restartSteps l n (nodeAt l n .status) ≤ stepLimit → ComesBack l w n
+  -- A node that is down comes back by Ask and Commit too.
+  pub comes-back-asked : (n : ℕ) → nodeAt l n .status ≡ down → stepsFrom l (consoleOf w) + suc (restartSteps l n down) ≤ stepLimit → ComesBackAsked l w n
 
 pub record NeverStuck (l : Line) : Type 0 where
   -- No frame is answered 24.
@@ -90,6 +108,6 @@ pub record NeverStuck (l : Line) : Type 0 where
   -- Whoever asks, in version 1 or from one of the consoles.
   pub asked : (w : Caller) → consoleOf w < consoleCount → NeverStuckFor l w
 
--- For every accepted plan and every list of frames, of the line that the list leaves.
+-- For every accepted plan and every list of frames, of the line that the list leaves. Plan and frames are of bytes, as all that can be lent is.
 abbrev pub AlwaysBack : Type 0
-AlwaysBack = (plan : List ℕ) (frames : List (List ℕ)) → planRefusal plan ≡ 0 → NeverStuck (storyFrom (startOf (initialLine (planOf plan))) frames .line)
+AlwaysBack = (plan : List ℕ) (frames : List (List ℕ)) → Bytes plan → Each Bytes frames → planRefusal plan ≡ 0 → NeverStuck (storyFrom (startOf (initialLine (planOf plan))) frames .line)

@@ -10,7 +10,7 @@ abbrev pub withoutSet : Entry → Entry
 withoutSet e = record { what = e .what; time = e .time; origin = e .origin; before = e .before; set = 0 }
 
 abbrev pub nodeWithoutSets : Node → Node
-nodeWithoutSets x = record { status = x .status; crashed = x .crashed; time = x .time; log = map withoutSet (x .log); held = x .held; targets = x .targets }
+nodeWithoutSets x = record { status = x .status; crashed = x .crashed; time = x .time; log = map withoutSet (x .log); held = x .held; targets = x .targets; asked = x .asked }
 
 abbrev pub withoutSets : Line → Line
 withoutSets l = record { plan = l .plan; steps = l .steps; nodes = map nodeWithoutSets (l .nodes); lanes = l .lanes }

@@ -2,13 +2,14 @@
 use Prim.Native.Nat.{ℕ, zero, suc, _+_, _/_, _%_}
 use mathlib.Core.Bool.{Bool, true, false, _||_}
 use mathlib.Core.List.{List, [], _∷_, _++_, map, zipWith}
+use mathlib.Core.Option.{Option, none, some}
 use lib.ListN.{length, take, drop}
 use lib.Dec.{ltb, eqb}
 use Rattle.plan.specs.Layout.{spelled}
 use Rattle.plan.specs.Plan.{planOf, entering}
 use Rattle.plan.specs.Check.{planRefusal}
 use Rattle.rules.specs.Lists.{joined}
-use Rattle.rules.specs.Line.{Origin, fed, made, Entry, Status, up, down, replay, Line, nodeAt, laneAt, nodeNumbers, senderOf, initialLine}
+use Rattle.rules.specs.Line.{Origin, fed, made, Entry, Target, Status, up, down, replay, Asked, Line, nodeAt, laneAt, nodeNumbers, senderOf, parents, initialLine}
 use Rattle.rules.specs.Step.{step}
 
 -- "The sheet opens with the fixed line LINE 1."
@@ -72,12 +73,21 @@ listed l (suc layers) n t ts = nodeAndTime n t ++ bracketed (zipWith (λ b u. li
 unfoldable pub clockText : Line → ℕ → List ℕ
 clockText l n = listed l 2 n (nodeAt l n .time) (map (λ (b : ℕ). laneAt l b .taken) (entering (l .plan) n))
 
+-- 2026-07: "After a node's `T` the sheet prints a kept answer: `Q`, low, high, each parent's restored entry as `parent:time`, each target as `time[parent:time]`, parents and times rising."
+abbrev pub targetWord : Target → List ℕ
+targetWord u = decimal (u .time) ++ bracketed (nodeAndTime (u .parent) (u .parentTime) ∷ [])
+
+abbrev pub keptText : List ℕ → List Target → Option Asked → List ℕ
+keptText ps ts none = []
+keptText ps ts (some a) = textLine ((81 ∷ []) ∷ decimal (a .low) ∷ decimal (a .high) ∷ (zipWith nodeAndTime ps (a .entries) ++ map targetWord ts))
+
 -- "per node: `N` node, up, down or replay, time; a line `L` per log entry", "`T` and the clock"
 unfoldable pub nodeText : Line → ℕ → List ℕ
 nodeText l n =
     textLine ((78 ∷ []) ∷ decimal n ∷ statusWord (nodeAt l n .status) ∷ decimal (nodeAt l n .time) ∷ [])
     ++ joined (map (entryLine n) (nodeAt l n .log))
     ++ textLine ((84 ∷ []) ∷ clockText l n ∷ [])
+    ++ keptText (parents (l .plan) n) (nodeAt l n .targets) (nodeAt l n .asked)
 
 unfoldable pub lineText : Line → List ℕ
 lineText l = joined (map (nodeText l) (nodeNumbers l))
@@ -109,7 +119,7 @@ planText refused plan frames = elim (eqb refused 0) [ true ↦ framesText (lengt
 
 -- "The plan is as long as its length field says, or all there is."
 unfoldable pub sheet : List ℕ → List ℕ
-unfolding planRefusal planOf initialLine step entering zipWith decimal answerLine entryLine clockText nodeText lineText
+unfolding planRefusal planOf initialLine step entering parents zipWith decimal answerLine entryLine clockText nodeText lineText
 sheet input =
     let n = lengthField input in
     opening ++ planText (planRefusal (take n input)) (take n input) (drop n input)

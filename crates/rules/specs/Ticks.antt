@@ -7,9 +7,10 @@ use lib.Dec.{eqb}
 use Rattle.plan.specs.Record.{recordLayout, isTick}
 use Rattle.plan.specs.Plan.{Plan, planOf, nodeCount, leaving, isSource}
 use Rattle.plan.specs.Check.{planRefusal}
+use Rattle.plan.specs.Lawful.{Each, Bytes}
 use Rattle.rules.specs.Lists.{keepOne, keep, allOf, anyOf, greatestOf, upTo}
 use Rattle.rules.specs.Line.{Origin, fed, made, Message, Line, initialLine, replay, nodeAt, laneAt, senderOf, receiverOf, isUp}
-use Rattle.rules.specs.Frame.{Frame, feed, send, take, crash, recover, trim, frameOf}
+use Rattle.rules.specs.Frame.{Frame, feed, send, take, crash, recover, trim, ask, commit, frameOf}
 use Rattle.rules.specs.Trim.{floorTime}
 use Rattle.rules.specs.Step.{step}
 use Rattle.rules.specs.Claim.{crashOf, ifZero, startOf, storyFrom}
@@ -22,6 +23,8 @@ feedsTick (take b) = false
 feedsTick (crash n) = false
 feedsTick (recover n) = false
 feedsTick (trim n) = false
+feedsTick (ask n) = false
+feedsTick (commit n) = false
 
 -- "such message": one of "these ticks", or a message made from one of them, "at once or in turn". Its node, its time there, and what it was made from.
 pub record FollowedMessage : Type 0 where
@@ -69,6 +72,8 @@ newFollowed follow l ms (take b) = madeOf l b ms (laneAt l b .queue)
 newFollowed follow l ms (crash n) = []
 newFollowed follow l ms (recover n) = []
 newFollowed follow l ms (trim n) = []
+newFollowed follow l ms (ask n) = []
+newFollowed follow l ms (commit n) = []
 
 -- "has been taken": each Take answered 0 takes the first message on the channel in the state passed.
 abbrev pub tookFirst : Line → ℕ → List FollowedMessage → List Message → List FollowedTake
@@ -82,6 +87,8 @@ newTook l ms (take b) = tookFirst l b ms (laneAt l b .queue)
 newTook l ms (crash n) = []
 newTook l ms (recover n) = []
 newTook l ms (trim n) = []
+newTook l ms (ask n) = []
+newTook l ms (commit n) = []
 
 -- One frame more, by its answer and the line that it left.
 abbrev pub onward : Trace → Bool × List ℕ → ℕ → Line → Trace
@@ -127,10 +134,10 @@ FloorsReached p t =
     t .crashes ≡ [] → fromEachSource p t ≡ true → takenByAll p t ≡ true
     → (n : ℕ) → n < nodeCount p → (someFollowed t n ≡ true) × (lastFollowed t n ≤ floorTime (t .line) n)
 
--- Of every accepted plan: after any frames, crashes among them, and then any frames some of which are followed.
+-- Of every accepted plan: after any frames, crashes among them, and then any frames some of which are followed. Plan and frames are of bytes, as all that can be lent is.
 abbrev pub FloorsRise : Type 0
 FloorsRise =
-    (plan : List ℕ) (before : List (List ℕ)) (frames : FollowedFrames) → planRefusal plan ≡ 0
+    (plan : List ℕ) (before : List (List ℕ)) (frames : FollowedFrames) → Bytes plan → Each Bytes before → Each Bytes (framesOf frames) → planRefusal plan ≡ 0
     → FloorsReached (planOf plan) (traceFrom (noTrace (storyFrom (startOf (initialLine (planOf plan))) before .line)) frames)
 
 -- A frame that is a replaying node's Take takes none of them.
@@ -140,5 +147,5 @@ NoneTaken t f = (b : ℕ) → f ≡ take b → nodeAt (t .line) (receiverOf (t .
 -- So a trace misses nothing that the end of a replay makes: of the next accepted frame, whatever it is.
 abbrev pub NoneInReplay : Type 0
 NoneInReplay =
-    (plan : List ℕ) (before : List (List ℕ)) (frames : FollowedFrames) → planRefusal plan ≡ 0
+    (plan : List ℕ) (before : List (List ℕ)) (frames : FollowedFrames) → Bytes plan → Each Bytes before → Each Bytes (framesOf frames) → planRefusal plan ≡ 0
     → (let t = traceFrom (noTrace (storyFrom (startOf (initialLine (planOf plan))) before .line)) frames in t .crashes ≡ [] → (f : List ℕ) → step (t .line) f .number ≡ 0 → NoneTaken t (frameOf f))

@@ -55,7 +55,7 @@ unfoldable pub lowRaised : List ℕ → ℕ → List Entry → Lane → Lane
 lowRaised ps s es x = withLow (lowAfter ps s es (x .low)) x
 
 abbrev pub withLog : List Entry → Node → Node
-withLog log x = record { status = x .status; crashed = x .crashed; time = x .time; log = log; held = x .held; targets = x .targets }
+withLog log x = record { status = x .status; crashed = x .crashed; time = x .time; log = log; held = x .held; targets = x .targets; asked = x .asked }
 
 -- Trim: the run is dropped from the node's log, and its low clock raised by it. "The freed entries are used by later steps."
 unfoldable pub trimmedLine : ℕ → Line → Line

@@ -8,8 +8,9 @@ use lib.ListN.{length, replicate}
 use lib.Dec.{eqb}
 use Rattle.plan.specs.Plan.{planOf}
 use Rattle.plan.specs.Check.{planRefusal}
+use Rattle.plan.specs.Lawful.{Each, Bytes}
 use Rattle.rules.specs.Line.{logLimit, up, Line, initialLine, nodeAt, receiverOf}
-use Rattle.rules.specs.Frame.{Frame, feed, send, take, crash, recover, trim, frameOf}
+use Rattle.rules.specs.Frame.{Frame, feed, send, take, crash, recover, trim, ask, commit, frameOf}
 use Rattle.rules.specs.Trim.{droppable, leading}
 use Rattle.rules.specs.Step.{step}
 use Rattle.rules.specs.Claim.{startOf, storyFrom}
@@ -21,6 +22,8 @@ isTrim (take b) = false
 isTrim (crash n) = false
 isTrim (recover n) = false
 isTrim (trim n) = true
+isTrim (ask n) = false
+isTrim (commit n) = false
 
 -- A list of frames, and the same with Trims put in at any moments.
 pub data WithTrims : List (List ℕ) → List (List ℕ) → Type 0 where
@@ -32,10 +35,10 @@ pub data WithTrims : List (List ℕ) → List (List ℕ) → Type 0 where
 abbrev pub AllAccepted : Line → List (List ℕ) → Type 0
 AllAccepted l fs = storyFrom (startOf l) fs .numbers ≡ replicate (length fs) 0
 
--- Of every accepted plan, after any frames (refused ones and Trims among them): what is received, by whom, from whom and in which order, crashed nodes included.
+-- Of every accepted plan, after any frames (refused ones and Trims among them): what is received, by whom, from whom and in which order, crashed nodes included. Plan and frames are of bytes, as all that can be lent is.
 abbrev pub TrimsChangeNothing : Type 0
 TrimsChangeNothing =
-    (plan : List ℕ) (before with without : List (List ℕ)) → planRefusal plan ≡ 0 → WithTrims with without
+    (plan : List ℕ) (before with without : List (List ℕ)) → Bytes plan → Each Bytes before → Each Bytes without → planRefusal plan ≡ 0 → WithTrims with without
     → (let l = storyFrom (startOf (initialLine (planOf plan))) before .line in AllAccepted l with → AllAccepted l without → storyFrom (startOf l) with .receipts ≡ storyFrom (startOf l) without .receipts)
 
 -- Whether a frame would log at node n: a Feed of the node, or a Take by it.
@@ -46,6 +49,8 @@ logsAt l n (take b) = eqb (receiverOf l b) n
 logsAt l n (crash m) = false
 logsAt l n (recover m) = false
 logsAt l n (trim m) = false
+logsAt l n (ask m) = false
+logsAt l n (commit m) = false
 
 -- "The freed entries are used by later steps." A Trim that is accepted makes the log shorter by the run that it drops.
 abbrev pub TrimFrees : Type 0

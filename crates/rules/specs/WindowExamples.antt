@@ -2,6 +2,7 @@
 use Prim.Native.Nat.{ℕ, _/_, _%_}
 use mathlib.Core.Path.{_≡_, refl}
 use mathlib.Core.Bool.{true, false}
+use mathlib.Core.Option.{none}
 use mathlib.Core.List.{List, [], _∷_, _++_, map}
 use lib.ListN.{replicate}
 use Rattle.plan.specs.declared.Record.{Record}
@@ -75,6 +76,6 @@ plain-by-mass = refl
 abbrev holdsMass : ℕ → Held
 holdsMass mass = record { what = piece 1 mass; sender = 0; time = 1; before = fed }
 
-damaged-by-mass : map (λ (m : ℕ). heldNotPassed massPlan 2 (record { status = freshNode .status; crashed = true; time = 0; log = []; held = holdsMass m ∷ []; targets = [] })) (40 ∷ 41 ∷ 59 ∷ 60 ∷ 120 ∷ []) ≡ false ∷ true ∷ true ∷ false ∷ false ∷ []
+damaged-by-mass : map (λ (m : ℕ). heldNotPassed massPlan 2 (record { status = freshNode .status; crashed = true; time = 0; log = []; held = holdsMass m ∷ []; targets = []; asked = none })) (40 ∷ 41 ∷ 59 ∷ 60 ∷ 120 ∷ []) ≡ false ∷ true ∷ true ∷ false ∷ false ∷ []
 unfolding heldNotPassed massPlan
 damaged-by-mass = refl

@@ -1,21 +1,22 @@
 -- The layouts of a node's page and of a channel's block are sound.
-use Prim.Native.Nat.{ℕ, _<_}
-use mathlib.Core.Path.{_≡_, refl}
+use Prim.Native.Nat.{ℕ, _≤_, _<_}
+use mathlib.Core.Path.{_≡_, refl, sym, subst}
 use mathlib.Core.Bool.{Bool, true, false}
 use mathlib.Core.List.{List, [], _∷_}
+use mathlib.Core.Option.{Option, none, some}
 use native.Mathlib.Omega.{arith}
 use lib.Dec.{lit<}
 use lib.ListN.{length, getD, drop}
 use Rattle.plan.specs.Layout.{via}
 use Rattle.plan.specs.Lawful.{Each, FieldsFit, UpToFit}
-use Rattle.rules.specs.Line.{logLimit, queueLimit, heldLimit, targetLimit, Status, up, down, replay, Node}
+use Rattle.rules.specs.Line.{logLimit, queueLimit, heldLimit, targetLimit, Status, up, down, replay, Asked, Node}
 use Rattle.state.specs.Sound.{Sound}
 use Rattle.state.specs.Sizes.{countSize, parentLimit, lowLimit, nodeRest, laneRest}
-use Rattle.state.specs.Node.{statusNumber, statusOf, crashNumber, crashOf, nodeWidths, nodeHeadNumbers, nodeSeen, nodeFrom, logLayout, heldListLayout, targetsLayout, NodeParts, nodeParts, nodeLayout}
+use Rattle.state.specs.Node.{statusNumber, statusOf, crashNumber, crashOf, nodeWidths, nodeHeadNumbers, nodeSeen, nodeFrom, logLayout, heldListLayout, targetsLayout, keptList, firstKept, keptLayout, NodeParts, nodeParts, nodeLayout}
 use Rattle.state.specs.Lane.{heardWidths, laneWidths, lowWidths, lowFields, laneSeen, laneFrom, queueLayout, laneParts, laneLayout}
-use Rattle.state.specs.Fits.{TimeFits, MessageFits, EntryFits, HeldFits, TargetFits, NodeFits, PaddedFits}
+use Rattle.state.specs.Fits.{TimeFits, MessageFits, EntryFits, HeldFits, TargetFits, AskedFits, NodeFits, PaddedFits}
 use Rattle.state.proofs.SoundLaws.{fields-sound, pair-sound, via-sound, padded-sound, upTo-sound}
-use Rattle.state.proofs.PieceLaws.{message-sound, entry-sound, held-sound, target-sound}
+use Rattle.state.proofs.PieceLaws.{message-sound, entry-sound, held-sound, target-sound, asked-sound}
 
 -- ---- a node's page
 
@@ -30,6 +31,25 @@ held-list-sound = upTo-sound held-sound countSize heldLimit (lit< tt)
 pub targets-sound : Sound targetsLayout (UpToFit targetLimit TargetFits)
 unfolding targetsLayout
 targets-sound = upTo-sound target-sound countSize targetLimit (lit< tt)
+
+-- An answer read as a list of at most one, and a list of at most one read as an answer.
+kept-seen : (o : Option Asked) → firstKept (keptList o) ≡ o
+kept-seen none = refl
+kept-seen (some a) = refl
+
+pub kept-list : (xs : List Asked) → length xs ≤ 1 → keptList (firstKept xs) ≡ xs
+kept-list [] h = refl
+kept-list (a ∷ []) h = refl
+kept-list (a ∷ b ∷ xs) h = let no : ⊥ = omega arith in absurd no
+
+abbrev pub KeptFits : Option Asked → Type 0
+KeptFits o = UpToFit 1 AskedFits (keptList o)
+
+pub kept-sound : Sound keptLayout KeptFits
+unfolding keptLayout
+kept-sound =
+    via-sound (upTo-sound asked-sound countSize 1 (lit< tt)) keptList firstKept (λ o h. h) (λ o h. kept-seen o)
+    (λ xs h. subst (UpToFit 1 AskedFits) (sym (kept-list xs (h .0))) h)
 
 status-fits : (x : Status) → statusNumber x < 256
 status-fits up = lit< tt
@@ -53,7 +73,7 @@ node-numbers-fit : (x : Node) → TimeFits (x .time) → FieldsFit nodeWidths (n
 node-numbers-fit x h = (status-fits (x .status), (crash-fits (x .crashed), (lit< tt, (h, tt))))
 
 node-known : (x : Node) → nodeFrom (nodeSeen x) ≡ x
-node-known x = λ i. record { status = status-known (x .status) i; crashed = crash-known (x .crashed) i; time = x .time; log = x .log; held = x .held; targets = x .targets }
+node-known x = λ i. record { status = status-known (x .status) i; crashed = crash-known (x .crashed) i; time = x .time; log = x .log; held = x .held; targets = x .targets; asked = x .asked }
 
 node-time : (ns : List ℕ) → FieldsFit nodeWidths ns → TimeFits (getD ns 3 0)
 node-time [] h = absurd h
@@ -63,19 +83,19 @@ node-time (a ∷ b ∷ c ∷ []) h = absurd (h .1 .1 .1)
 node-time (a ∷ b ∷ c ∷ d ∷ ns) h = h .1 .1 .1 .0
 
 abbrev pub NodePartsFit : NodeParts → Type 0
-NodePartsFit p = FieldsFit nodeWidths (p .0) × (UpToFit logLimit EntryFits (p .1 .0) × (UpToFit heldLimit HeldFits (p .1 .1 .0) × UpToFit targetLimit TargetFits (p .1 .1 .1)))
+NodePartsFit p = FieldsFit nodeWidths (p .0) × (UpToFit logLimit EntryFits (p .1 .0) × (UpToFit heldLimit HeldFits (p .1 .1 .0) × (UpToFit targetLimit TargetFits (p .1 .1 .1 .0) × KeptFits (p .1 .1 .1 .1))))
 
 pub node-parts-sound : Sound nodeParts NodePartsFit
 unfolding nodeParts
-node-parts-sound = pair-sound (fields-sound nodeWidths) (pair-sound log-sound (pair-sound held-list-sound targets-sound))
+node-parts-sound = pair-sound (fields-sound nodeWidths) (pair-sound log-sound (pair-sound held-list-sound (pair-sound targets-sound kept-sound)))
 
 pub node-seen-fits : (x : Node) → NodeFits x → NodePartsFit (nodeSeen x)
-node-seen-fits x h = (node-numbers-fit x (h .time), (h .log, (h .held, h .targets)))
+node-seen-fits x h = (node-numbers-fit x (h .time), (h .log, (h .held, (h .targets, h .asked))))
 
 pub node-body-sound : Sound (via nodeParts nodeSeen nodeFrom) NodeFits
 node-body-sound =
     via-sound node-parts-sound nodeSeen nodeFrom node-seen-fits (λ x h. node-known x)
-    (λ p h. record { time = node-time (p .0) (h .0); log = h .1 .0; held = h .1 .1 .0; targets = h .1 .1 .1 })
+    (λ p h. record { time = node-time (p .0) (h .0); log = h .1 .0; held = h .1 .1 .0; targets = h .1 .1 .1 .0; asked = h .1 .1 .1 .1 })
 
 pub node-sound : Sound nodeLayout NodeFits
 unfolding nodeLayout

@@ -7,19 +7,19 @@ use native.Mathlib.Omega.{arith}
 use lib.Dec.{lit<, lit≤}
 use lib.ListN.{length, getD, take, drop, replicate}
 use lib.Seq.{drop-drop, take-take}
-use Rattle.plan.specs.Layout.{Layout, spelled, pair, via}
+use Rattle.plan.specs.Layout.{Layout, spelled, pair, via, upToSlots}
 use Rattle.plan.specs.Lawful.{Bytes, Zeros}
 use Rattle.plan.proofs.BytesLaws.{each-take}
 use Rattle.rules.specs.Line.{logLimit, queueLimit, heldLimit, targetLimit, Lane}
-use Rattle.state.specs.Sizes.{countSize, pageSize, blockSize, nodeRest, laneRest, nodeRestAt, laneRestAt, statusAt, crashedAt, entrySize, heldAt, heldSize, targetsAt, targetSize, queueAt, messageSize, parentLimit, lowLimit, heardAt, lowAt}
-use Rattle.state.specs.Pieces.{messageLayout, entryLayout, heldLayout, targetLayout}
-use Rattle.state.specs.Node.{statusNumber, statusOf, crashNumber, crashOf, nodeWidths, NodeParts, nodeSeen, nodeFrom, logLayout, heldListLayout, targetsLayout, nodeParts, nodeLayout}
+use Rattle.state.specs.Sizes.{countSize, pageSize, blockSize, nodeRest, laneRest, nodeRestAt, laneRestAt, statusAt, crashedAt, entrySize, heldAt, heldSize, targetsAt, targetSize, keptAt, keptSize, queueAt, messageSize, parentLimit, lowLimit, heardAt, lowAt}
+use Rattle.state.specs.Pieces.{messageLayout, entryLayout, heldLayout, targetLayout, askedLayout}
+use Rattle.state.specs.Node.{statusNumber, statusOf, crashNumber, crashOf, nodeWidths, NodeParts, nodeSeen, nodeFrom, logLayout, heldListLayout, targetsLayout, keptList, firstKept, keptLayout, nodeParts, nodeLayout}
 use Rattle.rules.specs.Trim.{withLow}
 use Rattle.state.specs.Lane.{laneWidths, lowWidths, lowFields, queueLayout, laneLayout, withHeard, padLane, cutLane}
-use Rattle.state.specs.Right.{ZerosAt, wordAt, ListRight, MessageRight, EntryRight, HeldRight, TargetRight, NodeRight, LaneRight}
-use Rattle.state.proofs.SoundLaws.{fields-sound}
-use Rattle.state.proofs.PieceLaws.{message-sound, entry-sound, held-sound, target-sound}
-use Rattle.state.proofs.BlockLaws.{queue-sound, log-sound, held-list-sound, node-parts-sound, node-seen-fits, node-body-sound, lane-body-sound, lane-sound}
+use Rattle.state.specs.Right.{ZerosAt, wordAt, ListRight, MessageRight, EntryRight, HeldRight, TargetRight, AskedRight, NodeRight, LaneRight}
+use Rattle.state.proofs.SoundLaws.{fields-sound, upTo-sound}
+use Rattle.state.proofs.PieceLaws.{message-sound, entry-sound, held-sound, target-sound, asked-sound}
+use Rattle.state.proofs.BlockLaws.{queue-sound, log-sound, held-list-sound, targets-sound, kept-list, kept-sound, node-parts-sound, node-seen-fits, node-body-sound, lane-body-sound, lane-sound}
 use Rattle.state.specs.Fits.{TimeFits, LaneFits}
 use Rattle.state.proofs.ListLaws.{IsZero, each-known, each-at, take-replicate}
 use Rattle.state.proofs.HeardLaws.{pad-fits}
@@ -27,7 +27,7 @@ use Rattle.state.proofs.ReadLaws.{part-part}
 use Rattle.state.proofs.FieldLaws.{heard-at, low-at}
 use Rattle.state.proofs.RightLaws.{zeros-same}
 use Rattle.state.proofs.RightAt.{RightAt, part-bytes, fields-at, pair-at, padded-at, via-at, list-at, list-slots}
-use Rattle.state.proofs.PieceRight.{byte-in, message-at, entry-at, held-at, target-at}
+use Rattle.state.proofs.PieceRight.{byte-in, message-at, entry-at, held-at, target-at, asked-at}
 
 -- Bytes spell 0 where they are all 0.
 spelled-none : (n : ℕ) (s : List ℕ) → spelled n s ≡ 0 → (n ≡ 0) × Zeros s
@@ -60,6 +60,17 @@ module _ (s : List ℕ) (k : Bytes s) (a : ℕ) where
   unfolding targetsLayout
   targets-right h =
       Iff·trans (list-at target-sound targetLimit a s (lit< tt) h k) (list-slots (RightAt targetLayout) TargetRight targetLimit targetSize a s (λ i l. target-at s k (a + countSize + targetSize * i) (omega arith)))
+
+  kept-right : a + 28 ≤ length s → RightAt keptLayout a s ↔ ListRight AskedRight 1 keptSize a s
+  unfolding keptLayout
+  kept-right h =
+      let t = take 28 (drop a s) in
+      let up = upTo-sound asked-sound countSize 1 (lit< tt) in
+      let whole : keptList (firstKept (upToSlots countSize 1 askedLayout .read t)) ≡ upToSlots countSize 1 askedLayout .read t = kept-list (upToSlots countSize 1 askedLayout .read t) (up .fits t (part-bytes a 28 s k) .0) in
+      let split = via-at up a s keptList firstKept (kept-sound .fits t (part-bytes a 28 s k)) in
+      let slots = Iff·trans (list-at asked-sound 1 a s (lit< tt) h k)
+      (list-slots (RightAt askedLayout) AskedRight 1 keptSize a s (λ i l. (λ r. tt, λ r. asked-at s k (a + countSize + keptSize * i) (omega arith)))) in
+      Iff·trans split (λ r. slots .0 (r .0), λ r. (slots .1 r, whole))
 
   queue-right : a + 164 ≤ length s → RightAt queueLayout a s ↔ ListRight MessageRight queueLimit messageSize a s
   unfolding queueLayout
@@ -115,30 +126,34 @@ module _ (s : List ℕ) (k : Bytes s) (a : ℕ) (h : a + pageSize ≤ length s) 
       let whole = padded-at node-body-sound a s nodeRest h in
       let t = take nodeRestAt (drop a s) in
       let split = via-at node-parts-sound a s nodeSeen nodeFrom (node-seen-fits (nodeFrom (nodeParts .read t)) (node-body-sound .fits t (part-bytes a nodeRestAt s k))) in
-      let first = pair-at (fields-sound nodeWidths) a s (pair logLayout (pair heldListLayout targetsLayout)) in
-      let second = pair-at log-sound (a + 8) s (pair heldListLayout targetsLayout) in
-      let third = pair-at held-list-sound (a + 8 + 1540) s targetsLayout in
+      let first = pair-at (fields-sound nodeWidths) a s (pair logLayout (pair heldListLayout (pair targetsLayout keptLayout))) in
+      let second = pair-at log-sound (a + 8) s (pair heldListLayout (pair targetsLayout keptLayout)) in
+      let third = pair-at held-list-sound (a + 8 + 1540) s (pair targetsLayout keptLayout) in
+      let fourth = pair-at targets-sound (a + 8 + 1540 + 1284) s keptLayout in
       let log = log-right s k (a + 8) (omega arith) in
       let held = Iff·trans (at-same heldListLayout s (a + 8 + 1540) (a + heldAt) (omega arith)) (held-list-right s k (a + heldAt) (omega arith)) in
-      let targets = Iff·trans (at-same targetsLayout s (a + 8 + 1540 + 1284) (a + targetsAt) (omega arith)) (targets-right s k (a + targetsAt) (omega arith)) in (
+      let targets = Iff·trans (at-same targetsLayout s (a + 8 + 1540 + 1284) (a + targetsAt) (omega arith)) (targets-right s k (a + targetsAt) (omega arith)) in
+      let kept = Iff·trans (at-same keptLayout s (a + 8 + 1540 + 1284 + 772) (a + keptAt) (omega arith)) (kept-right s k (a + keptAt) (omega arith)) in (
         λ r.
             let v = split .0 (whole .0 r .0) in
             let head = head-right .0 (v .1) in
             let x = second .0 (first .0 (v .0) .1) in
             let y = third .0 (x .1) in
+            let z = fourth .0 (y .1) in
             record {
               status = head .0;
               crashed = head .1 .0;
               unused = head .1 .1;
               log = log .0 (x .0);
               held = held .0 (y .0);
-              targets = targets .0 (y .1);
+              targets = targets .0 (z .0);
+              kept = kept .0 (z .1);
               rest = whole .0 r .1;
             },
         λ r.
             whole .1 (
               split .1 (
-                first .1 (fields-at nodeWidths a s (omega arith) k, second .1 (log .1 (r .log), third .1 (held .1 (r .held), targets .1 (r .targets)))),
+                first .1 (fields-at nodeWidths a s (omega arith) k, second .1 (log .1 (r .log), third .1 (held .1 (r .held), fourth .1 (targets .1 (r .targets), kept .1 (r .kept))))),
                 head-right .1 (r .status, (r .crashed, r .unused)),
               ),
               r .rest,

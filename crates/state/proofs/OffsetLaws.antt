@@ -1,21 +1,22 @@
 -- The line's fields by their offsets in the whole state.
 use Prim.Native.Nat.{ℕ, suc, _+_, _*_, min, _≤_, _<_}
-use mathlib.Core.Path.{_≡_, ap, _∙_}
+use mathlib.Core.Path.{_≡_, sym, ap, _∙_}
 use mathlib.Core.List.{List}
+use mathlib.Core.Option.{none, some}
 use native.Mathlib.Omega.{arith}
 use lib.Dec.{lit≤, lit<}
 use lib.ListN.{length, getD, take, drop}
 use lib.Seq.{getD-take}
 use Rattle.plan.specs.Layout.{Layout, spelled}
 use Rattle.plan.specs.Plan.{planOf, planNodes, planChannels, channelAt}
-use Rattle.rules.specs.Line.{logLimit, queueLimit, heldLimit, targetLimit, Message, Entry, Held, Target, Node, Lane, nodeAt, laneAt}
-use Rattle.state.specs.Sizes.{pageSize, blockSize, countSize, pageAt, blockAt, lowAt, lowLimit, statusAt, crashedAt, timeAt, logAt, entrySize, heldAt, heldSize, targetsAt, targetSize, markAt, takenAt, heardAt, parentLimit, queueAt, messageSize}
-use Rattle.state.specs.Pieces.{messageLayout, entryLayout, heldLayout, targetLayout}
+use Rattle.rules.specs.Line.{logLimit, queueLimit, heldLimit, targetLimit, Message, Entry, Held, Target, Asked, Node, Lane, nodeAt, laneAt}
+use Rattle.state.specs.Sizes.{pageSize, blockSize, countSize, pageAt, blockAt, lowAt, lowLimit, statusAt, crashedAt, timeAt, logAt, entrySize, heldAt, heldSize, targetsAt, targetSize, keptAt, keptSize, markAt, takenAt, heardAt, parentLimit, queueAt, messageSize}
+use Rattle.state.specs.Pieces.{messageLayout, entryLayout, heldLayout, targetLayout, askedNumbers, askedLayout}
 use Rattle.state.specs.Node.{statusOf, crashOf, nodeLayout}
 use Rattle.state.specs.Lane.{laneLayout, cutLane, heardCount}
 use Rattle.state.specs.State.{lineOf}
 use Rattle.state.proofs.ReadLaws.{part-part, byte-part}
-use Rattle.state.proofs.FieldLaws.{low-at, countAt, status-at, crashed-at, time-at, log-count, log-at, held-count, held-at, targets-count, target-at, mark-at, taken-at, heard-at, queue-count, queue-at}
+use Rattle.state.proofs.FieldLaws.{low-at, countAt, status-at, crashed-at, time-at, log-count, log-at, held-count, held-at, targets-count, target-at, kept-none, kept-some, kept-number, mark-at, taken-at, heard-at, queue-count, queue-at}
 use Rattle.state.proofs.InPlace.{Counted, pageOf, blockOf, node-in, lane-in}
 
 -- ---- a node's fields
@@ -66,6 +67,15 @@ module _ (s : List ℕ) (few : Counted s) (k : ℕ) (h : k < planNodes s) where
   line-target-at i d c l =
       page (λ x. getD (x .targets) i d) ∙ target-at (pageOf k s) i d (rw (page-number targetsAt (lit≤ tt)) c) l
       ∙ page-slot targetLayout targetSize (targetsAt + countSize + targetSize * i) (omega arith)
+
+  pub line-kept-none : countAt (pageAt k + keptAt) s ≡ 0 → at .asked ≡ none
+  line-kept-none e = page (λ x. x .asked) ∙ kept-none (pageOf k s) (page-number keptAt (lit≤ tt) ∙ e)
+
+  pub line-kept-some : 0 < countAt (pageAt k + keptAt) s → at .asked ≡ some (askedLayout .read (take keptSize (drop (pageAt k + (keptAt + countSize)) s)))
+  line-kept-some h = page (λ x. x .asked) ∙ kept-some (pageOf k s) (rw (page-number keptAt (lit≤ tt)) h) ∙ ap some (page-slot askedLayout keptSize (keptAt + countSize) (lit≤ tt))
+
+  pub line-kept-number : (a : Asked) → at .asked ≡ some a → (i : ℕ) → i < 6 → getD (askedNumbers a) i 0 ≡ spelled 0 (take 4 (drop (pageAt k + (keptAt + countSize + 4 * i)) s))
+  line-kept-number a e i h = kept-number (pageOf k s) a (sym (page (λ x. x .asked)) ∙ e) i h ∙ page-number (keptAt + countSize + 4 * i) (omega arith)
 
 -- ---- a lane's fields
 

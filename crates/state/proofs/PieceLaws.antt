@@ -1,6 +1,6 @@
 -- The pieces' layouts are sound.
 use Prim.Native.Nat.{ℕ, zero, suc, _/_, _%_, _<_}
-use mathlib.Core.Path.{_≡_, refl, sym, ap, _∙_}
+use mathlib.Core.Path.{_≡_, refl, sym, ap, subst, _∙_}
 use mathlib.Core.List.{List, [], _∷_, _++_, append-assoc}
 use native.Mathlib.Omega.{arith}
 use lib.ListN.{length, set, length-append}
@@ -15,8 +15,8 @@ use Rattle.plan.proofs.ValueLaws.{record-lawful}
 use Rattle.rules.specs.Line.{Origin, fed, made, Entry}
 use Rattle.rules.specs.Sets.{withoutSet}
 use Rattle.state.specs.Sound.{Sound}
-use Rattle.state.specs.Pieces.{originNumbers, originFrom, originOf, originWidths, originLayout, messageSeen, messageFrom, messageParts, messageLayout, entrySeen, entryFrom, entryParts, entryLayout, heldSeen, heldFrom, heldParts, heldLayout, targetWidths, targetNumbers, targetOf, targetFields, targetLayout}
-use Rattle.state.specs.Fits.{TimeFits, OriginFits, MessageFits, EntryFits, HeldFits, TargetFits}
+use Rattle.state.specs.Pieces.{originNumbers, originFrom, originOf, originWidths, originLayout, messageSeen, messageFrom, messageParts, messageLayout, entrySeen, entryFrom, entryParts, entryLayout, heldSeen, heldFrom, heldParts, heldLayout, targetWidths, targetNumbers, targetOf, askedWidths, askedNumbers, askedOf, askedFields, askedLayout, targetFields, targetLayout}
+use Rattle.state.specs.Fits.{TimeFits, OriginFits, MessageFits, EntryFits, HeldFits, TargetFits, AskedFits}
 use Rattle.state.proofs.SoundLaws.{sound, number-sound, fields-sound, pair-sound, via-sound, padded-sound}
 
 pub record-sound : Sound recordLayout RecordFits
@@ -89,6 +89,15 @@ target-body-sound = via-sound (fields-sound targetWidths) targetNumbers targetOf
 pub target-sound : Sound targetLayout TargetFits
 unfolding targetLayout
 target-sound = padded-sound target-body-sound 3
+
+pub asked-known : (ns : List ℕ) → FieldsFit askedWidths ns → askedNumbers (askedOf ns) ≡ ns
+asked-known [] h = absurd h
+asked-known (a ∷ []) h = absurd (h .1)
+asked-known (a ∷ b ∷ ns) h = refl
+
+pub asked-sound : Sound askedLayout AskedFits
+unfolding askedLayout askedFields
+asked-sound = via-sound (fields-sound askedWidths) askedNumbers askedOf (λ a h. h) (λ a h. refl) (λ ns h. subst (FieldsFit askedWidths) (sym (asked-known ns h)) h)
 
 -- ---- a set is one byte of its slot
 

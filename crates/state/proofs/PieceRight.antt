@@ -7,14 +7,14 @@ use native.Mathlib.Omega.{arith}
 use lib.Dec.{lit<, lit≤}
 use lib.ListN.{length, getD, take, drop}
 use lib.Seq.{drop-drop}
-use Rattle.plan.specs.Layout.{spelled, number, pair}
+use Rattle.plan.specs.Layout.{spelled, number, pair, fields}
 use Rattle.plan.specs.Lawful.{Bytes}
 use Rattle.plan.specs.Record.{recordWidths, recordNumbers, recordOf, recordLayout}
 use Rattle.plan.proofs.ReadLaws.{byte-field}
-use Rattle.state.specs.Pieces.{originWidths, originNumbers, originOf, originFrom, originLayout, messageLayout, entryLayout, heldLayout, targetWidths, targetLayout}
+use Rattle.state.specs.Pieces.{originWidths, originNumbers, originOf, originFrom, originLayout, messageLayout, entryLayout, heldLayout, targetWidths, targetLayout, askedWidths, askedNumbers, askedOf, askedFields, askedLayout}
 use Rattle.state.specs.Right.{wordAt, RecordRight, OriginRight, MessageRight, EntryRight, HeldRight, TargetRight}
 use Rattle.state.proofs.SoundLaws.{number-sound, fields-sound}
-use Rattle.state.proofs.PieceLaws.{record-sound, origin-sound, message-body-sound, entry-body-sound, held-body-sound, target-body-sound}
+use Rattle.state.proofs.PieceLaws.{record-sound, origin-sound, message-body-sound, entry-body-sound, held-body-sound, target-body-sound, asked-known, asked-sound}
 use Rattle.state.proofs.ReadLaws.{part-part, byte-part}
 use Rattle.state.proofs.RightAt.{RightAt, part-bytes, number-at, fields-at, pair-at, padded-at, via-at}
 
@@ -113,3 +113,11 @@ module _ (s : List ℕ) (k : Bytes s) where
   target-at a h =
       let whole = padded-at target-body-sound a s 3 h in
       (λ r. whole .0 r .1, λ r. whole .1 (fields-at targetWidths a s (omega arith) k, r))
+
+  -- All bytes of a kept answer are used.
+  pub asked-at : (a : ℕ) → a + 24 ≤ length s → RightAt askedLayout a s
+  unfolding askedLayout askedFields
+  asked-at a h =
+      let t = take 24 (drop a s) in
+      let numbers = fields askedWidths .read t in
+      via-at (fields-sound askedWidths) a s askedNumbers askedOf (asked-sound .fits t (part-bytes a 24 s k)) .1 (fields-at askedWidths a s h k, asked-known numbers (fields-sound askedWidths .fits t (part-bytes a 24 s k)))

@@ -13,13 +13,13 @@ use Rattle.plan.proofs.LayoutLaws.{length-readSlots, slot-at, fields-front}
 use Rattle.plan.proofs.ReadLaws.{byte-field}
 use Rattle.plan.specs.Record.{recordLayout}
 use Rattle.state.specs.Sound.{Sound}
-use Rattle.state.specs.Sizes.{countSize, crashedAt, statusAt, timeAt, logAt, heldAt, targetsAt, markAt, takenAt, heardAt, queueAt, lowAt}
+use Rattle.state.specs.Sizes.{countSize, crashedAt, statusAt, timeAt, logAt, heldAt, targetsAt, keptAt, markAt, takenAt, heardAt, queueAt, lowAt}
 use Rattle.state.specs.Pieces.{originFrom, originLayout, messageFrom, messageLayout, entryFrom, entryLayout, heldFrom, heldLayout, targetWidths, targetOf, targetLayout}
-use Rattle.state.specs.Node.{statusOf, crashOf, nodeWidths, nodeFrom, logLayout, heldListLayout, targetsLayout, nodeLayout}
+use Rattle.state.specs.Node.{statusOf, crashOf, nodeWidths, nodeFrom, logLayout, heldListLayout, targetsLayout, keptLayout, nodeLayout}
 use Rattle.state.specs.Lane.{heardWidths, laneWidths, lowWidths, lowFields, laneFrom, queueLayout, laneLayout}
 use Rattle.state.proofs.SoundLaws.{number-sound, pair-sound}
 use Rattle.state.proofs.PieceLaws.{record-sound, origin-sound}
-use Rattle.state.proofs.BlockLaws.{queue-sound, log-sound, held-list-sound, node-parts-sound, lane-parts-sound}
+use Rattle.state.proofs.BlockLaws.{queue-sound, log-sound, held-list-sound, targets-sound, node-parts-sound, lane-parts-sound}
 
 -- ---- parts of parts
 
@@ -116,6 +116,10 @@ target-read b =
 
 -- ---- a node's page
 
+-- Behind the log and the held records.
+lists-behind : (b : List ℕ) → drop 1284 (drop 1540 (drop 8 b)) ≡ drop targetsAt b
+lists-behind b = ap (drop 1284) (drop-drop 1540 8 b) ∙ drop-drop 1284 1548 b
+
 pub node-read : (b : List ℕ)
     → nodeLayout .read b ≡ record {
       status = statusOf (getD b statusAt 0);
@@ -124,18 +128,20 @@ pub node-read : (b : List ℕ)
       log = logLayout .read (drop logAt b);
       held = heldListLayout .read (drop heldAt b);
       targets = targetsLayout .read (drop targetsAt b);
+      asked = keptLayout .read (drop keptAt b);
     }
 unfolding nodeLayout
 node-read b =
     ap nodeFrom (node-parts-sound .front b)
-    ∙ ap (λ ns. nodeFrom (ns, (logLayout .read (take 1540 (drop 8 b)), (heldListLayout .read (take 1284 (drop 1540 (drop 8 b))), targetsLayout .read (drop 1284 (drop 1540 (drop 8 b))))))) (fields-front nodeWidths b)
+    ∙ ap (λ ns. nodeFrom (ns, (logLayout .read (take 1540 (drop 8 b)), (heldListLayout .read (take 1284 (drop 1540 (drop 8 b))), (targetsLayout .read (take 772 (drop 1284 (drop 1540 (drop 8 b)))), keptLayout .read (drop 772 (drop 1284 (drop 1540 (drop 8 b))))))))) (fields-front nodeWidths b)
     ∙ (λ i. record {
       status = statusOf (byte-field 0 b i);
       crashed = crashOf (byte-field 1 b i);
       time = spelled 0 (take 4 ((ap (drop 2) (drop-drop 1 1 b) ∙ drop-drop 2 2 b) i));
       log = log-sound .front (drop 8 b) i;
       held = (held-list-sound .front (drop 1540 (drop 8 b)) ∙ ap (heldListLayout .read) (drop-drop 1540 8 b)) i;
-      targets = targetsLayout .read ((ap (drop 1284) (drop-drop 1540 8 b) ∙ drop-drop 1284 1548 b) i);
+      targets = (targets-sound .front (drop 1284 (drop 1540 (drop 8 b))) ∙ ap (targetsLayout .read) (lists-behind b)) i;
+      asked = keptLayout .read ((ap (drop 772) (lists-behind b) ∙ drop-drop 772 2832 b) i);
     })
 
 pub lane-read : (b : List ℕ)

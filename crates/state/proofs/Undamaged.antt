@@ -1,17 +1,18 @@
 -- A line that is not damaged fits the layout.
-use Prim.Native.Nat.{ℕ, suc, _+_, _^_, _≤_, _<_}
-use mathlib.Core.Path.{_≡_, refl, sym, ap, _∙_}
+use Prim.Native.Nat.{ℕ, suc, _+_, _-_, _^_, _≤_, _<_}
+use mathlib.Core.Path.{_≡_, refl, sym, ap, subst, _∙_}
 use mathlib.Core.Bool.{Bool, true, false, not, _&&_, _||_, true≢false}
 use mathlib.Core.List.{List, [], _∷_, _++_, map}
+use mathlib.Core.Option.{Option, none, some}
 use native.Mathlib.Nat.{zero-add}
 use native.Mathlib.Omega.{arith}
 use borrow.Author.Tests.{ltb-true, ltb-false, eqb-true, not-false}
-use lib.Dec.{lit<, ltb, eqb}
-use lib.ListN.{length}
+use lib.Dec.{lit<, lit≤, ltb, eqb}
+use lib.ListN.{length, getD, replicate, length-append, length-map, length-replicate, List·getD-map}
 use Rattle.basics.specs.Bools.{both-true, neither-true}
 use Rattle.plan.specs.declared.Record.{Record}
 use Rattle.plan.specs.declared.Channel.{Channel}
-use Rattle.plan.specs.Lawful.{Each, FieldsFit}
+use Rattle.plan.specs.Lawful.{Each, FieldsFit, UpToFit}
 use Rattle.plan.specs.Record.{knownRecord}
 use Rattle.plan.proofs.TickLaws.{known-byte}
 use Rattle.plan.specs.Plan.{Plan, nodeCount, channelCount, channelAt, entering, leaving, numbersFrom, keepIf}
@@ -22,13 +23,20 @@ use Rattle.plan.proofs.AcceptedLaws.{four-at}
 use Rattle.plan.proofs.SetLaws.{set-small}
 use Rattle.plan.proofs.FitsLaws.{fitting}
 use Rattle.rules.specs.Lists.{anyOf, joined, upTo}
-use Rattle.rules.specs.Line.{logLimit, queueLimit, heldLimit, targetLimit, consoleCount, acceptedSteps, Origin, fed, made, Message, Entry, Held, Target, Node, Lane, Line, nodeAt, laneAt, senderOf, parents, timeLimit}
+use Rattle.rules.specs.Line.{logLimit, queueLimit, heldLimit, targetLimit, consoleCount, acceptedSteps, Origin, fed, made, Message, Entry, Held, Target, Asked, Node, Lane, Line, nodeAt, laneAt, senderOf, parents, timeLimit}
+use Rattle.rules.specs.Recover.{lowOf, highOf, restored, answerOf}
 use Rattle.rules.specs.Replay.{heldEntry}
-use Rattle.rules.specs.Damaged.{someNode, someChannel, planBroken, misshapen, stepsPast, workedOn, recordPastLimits, nodePastLimits, channelPastLimits, isParent, notParent, beforeNotParent, nodeWrongParent, channelWrongParent, originTimes, nodeNamedTimes, nodeOtherTimes, channelNamedTimes, channelOtherTimes, nodeTimePast, channelTimePast, nodeTimeZero, channelTimeZero, originWrong, beforeWrong, nodeMakerWrong, channelMakerWrong, logWrong, setWrong, pastClock, heldWrong, heldNotPassed, queueWrong, markMissing, markOnEnd, marksJoined, replayWrong, nodeHolds, channelHolds, lowPast, lowWrong, nodeDamaged, channelDamaged, damaged}
+use Rattle.rules.specs.Damaged.{someNode, someChannel, planBroken, misshapen, stepsPast, workedOn, recordPastLimits, nodePastLimits, channelPastLimits, isParent, notParent, beforeNotParent, nodeWrongParent, channelWrongParent, originTimes, nodeNamedTimes, nodeOtherTimes, channelNamedTimes, channelOtherTimes, nodeTimePast, channelTimePast, nodeTimeZero, channelTimeZero, originWrong, beforeWrong, nodeMakerWrong, channelMakerWrong, logWrong, setWrong, pastClock, heldWrong, heldNotPassed, queueWrong, markMissing, markOnEnd, marksJoined, replayWrong, answerWrong, nodeHolds, channelHolds, lowPast, lowWrong, nodeDamaged, channelDamaged, damaged}
 use Rattle.rules.proofs.steps.PlanOrder.{ordered-channels}
-use Rattle.state.specs.Lane.{heardCount}
-use Rattle.state.specs.Fits.{TimeFits, OriginFits, MessageFits, EntryFits, HeldFits, TargetFits, NodeFits, LaneFits, LineFits}
-use Rattle.state.proofs.ListLaws.{each-map, each-imply, each-split, each-joined, each-unmap, each-both, found-each, none-each, none-numbered, each-known}
+use Rattle.rules.proofs.ending.Targets.{low-high}
+use Rattle.rules.proofs.undamaged.Standing.{Answers}
+use Rattle.rules.proofs.undamaged.EndSound.{high-within}
+use Rattle.rules.proofs.undamaged.RecoverSound.{restored-within}
+use Rattle.rules.proofs.undamaged.StepSound.{answered-whole}
+use Rattle.state.specs.Node.{keptList}
+use Rattle.state.specs.Lane.{heardCount, heardWidths}
+use Rattle.state.specs.Fits.{TimeFits, OriginFits, MessageFits, EntryFits, HeldFits, TargetFits, AskedFits, NodeFits, LaneFits, LineFits}
+use Rattle.state.proofs.ListLaws.{each-map, each-imply, each-split, each-joined, each-unmap, each-both, each-append, each-replicate, found-each, none-each, none-numbered, each-known}
 use Rattle.rules.proofs.line.Consoles.{CountsFit, counts-most}
 use Rattle.rules.proofs.undamaged.Undamaged.{undamaged-sound}
 use Rattle.state.specs.Sizes.{stepsWidths}
@@ -140,9 +148,9 @@ module _ (p : Plan) (e : planFits p ≡ true) where
           (λ t q h. record { time = time-fits (t .time) (h .0); parent = omega (arith, parent-few n (t .parent) (not-false (isParent p n (t .parent)) q)); parentTime = time-fits (t .parentTime) (h .1 .0) })
           (x .targets) (none-each (λ (t : Target). not (isParent p n (t .parent))) (x .targets) a) (each-joined Within (λ (t : Target). t .time ∷ t .parentTime ∷ []) (x .targets) d)
 
-      node-fits : nodePastLimits x ≡ false → nodeWrongParent p n x ≡ false → nodeTimePast steps x ≡ false → nodeMakerWrong p n x ≡ false → setWrong p n x ≡ false → length (leaving p n) ≤ 4 → NodeFits x
+      node-fits : nodePastLimits x ≡ false → nodeWrongParent p n x ≡ false → nodeTimePast steps x ≡ false → nodeMakerWrong p n x ≡ false → setWrong p n x ≡ false → length (leaving p n) ≤ 4 → UpToFit 1 AskedFits (keptList (x .asked)) → NodeFits x
       unfolding nodePastLimits nodeWrongParent nodeTimePast nodeMakerWrong setWrong
-      node-fits limits wrong past made-wrong sets few =
+      node-fits limits wrong past made-wrong sets few kept =
           let long : Bool = ltb logLimit (length (x .log)) in
           let full : Bool = ltb heldLimit (length (x .held)) in
           let many : Bool = ltb targetLimit (length (x .targets)) in
@@ -166,6 +174,7 @@ module _ (p : Plan) (e : planFits p ≡ true) where
               each-imply (λ (h : Held). WorkFits (heldEntry h)) HeldFits (λ h f. record { what = f .0; sender = omega (arith, f .1 .0 .0); time = f .1 .0 .1 .0; before = f .1 .1 }) (x .held) (each-unmap WorkFits heldEntry (x .held) (work .1)),
             );
             targets = (ltb-false targetLimit (length (x .targets)) (b .1), target-fits (w .1) (all .1 .1));
+            asked = kept;
           }
 
     -- ---- a lane
@@ -200,15 +209,15 @@ module _ (p : Plan) (e : planFits p ≡ true) where
 -- ---- the line
 
 -- The first of a node's conditions and that of its sets, and the first of a channel's.
-first-seven : (a b c d e f s g h i j k m n : Bool) → (a || b || c || d || e || f || s || g || h || i || j || k || m || n) ≡ false → (a ≡ false) × ((b ≡ false) × ((c ≡ false) × ((e ≡ false) × (s ≡ false))))
-first-seven true b c d e f s g h i j k m n q = absurd (true≢false q)
-first-seven false true c d e f s g h i j k m n q = absurd (true≢false q)
-first-seven false false true d e f s g h i j k m n q = absurd (true≢false q)
-first-seven false false false true e f s g h i j k m n q = absurd (true≢false q)
-first-seven false false false false true f s g h i j k m n q = absurd (true≢false q)
-first-seven false false false false false true s g h i j k m n q = absurd (true≢false q)
-first-seven false false false false false false true g h i j k m n q = absurd (true≢false q)
-first-seven false false false false false false false g h i j k m n q = (refl, (refl, (refl, (refl, refl))))
+first-seven : (a b c d e f s g h i j k m o n : Bool) → (a || b || c || d || e || f || s || g || h || i || j || k || m || o || n) ≡ false → (a ≡ false) × ((b ≡ false) × ((c ≡ false) × ((e ≡ false) × (s ≡ false))))
+first-seven true b c d e f s g h i j k m o n q = absurd (true≢false q)
+first-seven false true c d e f s g h i j k m o n q = absurd (true≢false q)
+first-seven false false true d e f s g h i j k m o n q = absurd (true≢false q)
+first-seven false false false true e f s g h i j k m o n q = absurd (true≢false q)
+first-seven false false false false true f s g h i j k m o n q = absurd (true≢false q)
+first-seven false false false false false true s g h i j k m o n q = absurd (true≢false q)
+first-seven false false false false false false true g h i j k m o n q = absurd (true≢false q)
+first-seven false false false false false false false g h i j k m o n q = (refl, (refl, (refl, (refl, refl))))
 
 first-three : (a b c d e f g h i : Bool) → (a || b || c || d || e || f || g || h || i) ≡ false → (a ≡ false) × ((b ≡ false) × (c ≡ false))
 first-three true b c d e f g h i q = absurd (true≢false q)
@@ -222,7 +231,7 @@ unfolding nodeDamaged
 node-conditions l n q =
     let x = nodeAt l n in
     first-seven (nodePastLimits x) (nodeWrongParent (l .plan) n x) (nodeTimePast (acceptedSteps l) x) (nodeTimeZero x) (nodeMakerWrong (l .plan) n x) (logWrong x) (setWrong (l .plan) n x) (pastClock l n)
-    (heldWrong l n) (heldNotPassed (l .plan) n x) (markMissing x) (markOnEnd (l .plan) n x) (replayWrong l n) (nodeHolds x) q
+    (heldWrong l n) (heldNotPassed (l .plan) n x) (markMissing x) (markOnEnd (l .plan) n x) (replayWrong l n) (answerWrong l n) (nodeHolds x) q
 
 channel-conditions : (l : Line) (b : ℕ) → channelDamaged l b ≡ false
     → (channelPastLimits (laneAt l b) ≡ false) × ((channelWrongParent (l .plan) b (laneAt l b) ≡ false) × (channelTimePast (acceptedSteps l) (laneAt l b) ≡ false))
@@ -289,6 +298,35 @@ shaped l q =
       ),
     )
 
+-- A kept answer is what Recover gives, and no time in that is past the steps.
+module _ (l : Line) (q : damaged l ≡ false) (n : ℕ) (h : n < nodeCount (l .plan)) where
+  abbrev rows : List ℕ
+  rows = entering (l .plan) n
+
+  within-fits : (t : ℕ) → t ≤ acceptedSteps l → TimeFits t
+  within-fits t k = omega (arith, counts-most (undamaged-sound l q .standing .counts))
+
+  entries-fit : FieldsFit heardWidths (map (λ (c : ℕ). restored l n (channelAt (l .plan) c .sender)) rows ++ replicate (4 - length rows) 0)
+  entries-fit =
+      let found : ℕ → ℕ = λ c. restored l n (channelAt (l .plan) c .sender) in
+      let none-there : List ℕ = replicate (4 - length rows) 0 in
+      let few = four-at (l .plan) (nodeCount (l .plan)) n (fitting (l .plan) (plan-whole l (whole l q .plan)) .degrees) h .0 in
+      four-words-fit (map found rows ++ none-there) (length-append (map found rows) none-there ∙ omega (arith, few, length-map rows found, length-replicate {A = ℕ} (4 - length rows) 0))
+      (each-append TimeFits (map found rows) none-there
+      (each-known TimeFits (map found rows) (found 0) (λ i k. subst TimeFits (sym (List·getD-map found rows i 0)) (within-fits (found (getD rows i 0)) (restored-within l (undamaged-sound l q .standing) n (channelAt (l .plan) (getD rows i 0) .sender)))))
+      (each-replicate TimeFits (4 - length rows) 0 (lit< tt)))
+
+  kept-fits : UpToFit 1 AskedFits (keptList (nodeAt l n .asked))
+  unfolding answerOf
+  kept-fits =
+      let s = undamaged-sound l q .standing in
+      let high = high-within l s n in
+      one (within-fits (lowOf l n) (omega (arith, low-high l n, high)), (within-fits (highOf l n) high, entries-fit)) (nodeAt l n .asked) (answered-whole l q n)
+    where
+      one : AskedFits (answerOf l n) → (o : Option Asked) → ((a : Asked) → o ≡ some a → Answers l n a) → UpToFit 1 AskedFits (keptList o)
+      one found none right = (lit≤ tt, tt)
+      one found (some a) right = (lit≤ tt, (subst AskedFits (sym (right a refl .is)) found, tt))
+
 pub undamaged-fits : (l : Line) → damaged l ≡ false → LineFits l
 undamaged-fits l q =
     let w = whole l q in
@@ -301,7 +339,7 @@ undamaged-fits l q =
       steps = steps-fit counts;
       nodes = shape .0;
       lanes = shape .1 .0;
-      node = λ n h. let c = node-conditions l n (w .node n h) in node-fits (l .plan) fits (acceptedSteps l) few n (nodeAt l n) (c .0) (c .1 .0) (c .1 .1 .0) (c .1 .1 .1 .0) (c .1 .1 .1 .1) (four-at (l .plan) (nodeCount (l .plan)) n (fitting (l .plan) fits .degrees) h .1);
+      node = λ n h. let c = node-conditions l n (w .node n h) in node-fits (l .plan) fits (acceptedSteps l) few n (nodeAt l n) (c .0) (c .1 .0) (c .1 .1 .0) (c .1 .1 .1 .0) (c .1 .1 .1 .1) (four-at (l .plan) (nodeCount (l .plan)) n (fitting (l .plan) fits .degrees) h .1) (kept-fits l q n h);
       lane = λ b h. let c = channel-conditions l b (w .channel b h) in (let s = undamaged-sound l q .standing .channels b h .fits in lane-fits (l .plan) fits (acceptedSteps l) few b (laneAt l b) (s .low-long ∙ ap suc (sym (s .heard-long))) (s .low-below) (c .0) (c .1 .0) (c .1 .1));
       heard = λ b h. shape .1 .1 b h .0;
       low = λ b h. shape .1 .1 b h .1;

@@ -3,6 +3,7 @@ use Prim.Native.Nat.{ℕ, zero, suc, _+_, _*_, _-_, _^_, _≤_, _<_}
 use mathlib.Core.Path.{_≡_, refl, sym, ap, _∙_}
 use mathlib.Core.Bool.{Bool}
 use mathlib.Core.List.{List, [], _∷_, _++_, map}
+use mathlib.Core.Option.{Option}
 use native.Mathlib.Omega.{arith}
 use lib.Dec.{lit<}
 use lib.ListN.{length, getD, take, set, replicate, length-append, length-take, length-set, length-map, List·getD-map, List·getD-append, replicate-append-replicate}
@@ -11,16 +12,16 @@ use Rattle.plan.specs.Layout.{bytesOf, writeFields, fields, sumOf}
 use Rattle.plan.specs.Plan.{nodeCount, channelCount, channelAt, headNumbers}
 use Rattle.plan.proofs.NumberLaws.{length-bytesOf}
 use Rattle.plan.proofs.FitsLaws.{fitting}
-use Rattle.rules.specs.Line.{Entry, Held, Target, Message, Status, Node, Lane, Line, nodeAt, laneAt, freshNode, noLane, withNode, withLane, consoleCount, stepsFrom, withSteps}
-use Rattle.state.specs.Sizes.{stepsAt, stepsRest, pageSize, pageAt, nodePages, blockSize, lowAt, lowLimit, blockAt, laneBlocks, tailSize, statusAt, crashedAt, timeAt, logAt, heldAt, targetsAt, nodeRest, markAt, takenAt, heardAt, parentLimit, queueAt, laneRest, stepsWidths, stepsOfAt, countSize}
-use Rattle.state.specs.Node.{statusNumber, crashNumber, nodeWidths, nodeHeadNumbers, logLayout, heldListLayout, targetsLayout, nodeLayout}
+use Rattle.rules.specs.Line.{Entry, Held, Target, Asked, Message, Status, Node, Lane, Line, nodeAt, laneAt, freshNode, noLane, withNode, withLane, consoleCount, stepsFrom, withSteps}
+use Rattle.state.specs.Sizes.{stepsAt, stepsRest, pageSize, pageAt, nodePages, blockSize, lowAt, lowLimit, blockAt, laneBlocks, tailSize, statusAt, crashedAt, timeAt, logAt, heldAt, targetsAt, keptAt, nodeRest, markAt, takenAt, heardAt, parentLimit, queueAt, laneRest, stepsWidths, stepsOfAt, countSize}
+use Rattle.state.specs.Node.{statusNumber, crashNumber, nodeWidths, nodeHeadNumbers, logLayout, heldListLayout, targetsLayout, keptLayout, nodeLayout}
 use Rattle.rules.specs.Trim.{withLow, withLog}
 use Rattle.state.specs.Lane.{heardWidths, laneWidths, lowWidths, lowFields, withHeard, padLane, queueLayout, laneLayout, heardCount}
 use Rattle.state.specs.State.{planPart, stepsPart, nodesPart, lanesPart, lineBytes}
 use Rattle.state.specs.Fits.{TimeFits, NodeFits, LaneFits, LineFits}
-use Rattle.state.specs.Changes.{withStatus, withCrashed, withTime, withHeld, withTargets, withMark, withTaken, withQueue, nothingHeard, nothingLow}
+use Rattle.state.specs.Changes.{withStatus, withCrashed, withTime, withHeld, withTargets, withAsked, withMark, withTaken, withQueue, nothingHeard, nothingLow}
 use Rattle.state.proofs.SoundLaws.{fields-sound}
-use Rattle.state.proofs.BlockLaws.{queue-sound, log-sound, held-list-sound, node-sound, lane-sound, four-words-known}
+use Rattle.state.proofs.BlockLaws.{queue-sound, log-sound, held-list-sound, targets-sound, node-sound, lane-sound, four-words-known}
 use Rattle.state.proofs.LineLaws.{plan-part-sound, steps-part-sound, nodes-part-sound}
 use Rattle.state.proofs.ListLaws.{take-replicate}
 use Rattle.state.proofs.InPlace.{plan-long, nodes-long}
@@ -34,7 +35,7 @@ module _ (x : Node) where
   heads y = writeFields nodeWidths (nodeHeadNumbers y)
 
   abbrev lists : List ℕ
-  lists = logLayout .write (x .log) ++ (heldListLayout .write (x .held) ++ targetsLayout .write (x .targets))
+  lists = logLayout .write (x .log) ++ (heldListLayout .write (x .held) ++ (targetsLayout .write (x .targets) ++ keptLayout .write (x .asked)))
 
   head-swap : {o : ℕ} {old new : List ℕ} (hs : List ℕ) → Swapped o old new (heads x) hs → Swapped o old new (nodeLayout .write x) (hs ++ lists ++ replicate nodeRest 0)
   unfolding nodeLayout
@@ -63,7 +64,7 @@ module _ (x : Node) where
   pub node-log : (v : List Entry) → Swapped logAt (logLayout .write (x .log)) (logLayout .write v) (nodeLayout .write x) (nodeLayout .write (withLog v x))
   unfolding nodeLayout
   node-log v =
-      swap-front (swap-behind (swap-front (swap-whole (logLayout .write (x .log)) (logLayout .write v)) (heldListLayout .write (x .held) ++ targetsLayout .write (x .targets))) (heads x) logAt heads-long)
+      swap-front (swap-behind (swap-front (swap-whole (logLayout .write (x .log)) (logLayout .write v)) (heldListLayout .write (x .held) ++ (targetsLayout .write (x .targets) ++ keptLayout .write (x .asked)))) (heads x) logAt heads-long)
       rest
 
   pub node-held : (v : List Held) → Swapped heldAt (heldListLayout .write (x .held)) (heldListLayout .write v) (nodeLayout .write x) (nodeLayout .write (withHeld v x))
@@ -71,7 +72,7 @@ module _ (x : Node) where
   node-held v =
       swap-front
       (swap-behind
-      (swap-behind (swap-front (swap-whole (heldListLayout .write (x .held)) (heldListLayout .write v)) (targetsLayout .write (x .targets))) (logLayout .write (x .log)) (logLayout .size) (log-sound .sized (x .log)))
+      (swap-behind (swap-front (swap-whole (heldListLayout .write (x .held)) (heldListLayout .write v)) (targetsLayout .write (x .targets) ++ keptLayout .write (x .asked))) (logLayout .write (x .log)) (logLayout .size) (log-sound .sized (x .log)))
       (heads x) logAt heads-long)
       rest
 
@@ -81,7 +82,20 @@ module _ (x : Node) where
       swap-front
       (swap-behind
       (swap-behind
-      (swap-behind (swap-whole (targetsLayout .write (x .targets)) (targetsLayout .write v)) (heldListLayout .write (x .held)) (heldListLayout .size) (held-list-sound .sized (x .held)))
+      (swap-behind (swap-front (swap-whole (targetsLayout .write (x .targets)) (targetsLayout .write v)) (keptLayout .write (x .asked))) (heldListLayout .write (x .held)) (heldListLayout .size) (held-list-sound .sized (x .held)))
+      (logLayout .write (x .log)) (logLayout .size) (log-sound .sized (x .log)))
+      (heads x) logAt heads-long)
+      rest
+
+  pub node-kept : (v : Option Asked) → Swapped keptAt (keptLayout .write (x .asked)) (keptLayout .write v) (nodeLayout .write x) (nodeLayout .write (withAsked v x))
+  unfolding nodeLayout
+  node-kept v =
+      swap-front
+      (swap-behind
+      (swap-behind
+      (swap-behind
+      (swap-behind (swap-whole (keptLayout .write (x .asked)) (keptLayout .write v)) (targetsLayout .write (x .targets)) (targetsLayout .size) (targets-sound .sized (x .targets)))
+      (heldListLayout .write (x .held)) (heldListLayout .size) (held-list-sound .sized (x .held)))
       (logLayout .write (x .log)) (logLayout .size) (log-sound .sized (x .log)))
       (heads x) logAt heads-long)
       rest

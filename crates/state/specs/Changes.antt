@@ -2,27 +2,31 @@
 use Prim.Native.Nat.{ℕ}
 use mathlib.Core.Bool.{Bool}
 use mathlib.Core.List.{List, [], _∷_, _++_}
+use mathlib.Core.Option.{Option}
 use lib.ListN.{length, drop, replicate}
-use Rattle.rules.specs.Line.{Message, Entry, Held, Target, Status, Node, Lane}
+use Rattle.rules.specs.Line.{Message, Entry, Held, Target, Asked, Status, Node, Lane}
 use Rattle.rules.specs.Trim.{withLow, withLog}
 use Rattle.state.specs.Lane.{withHeard}
 
 -- ---- a node
 
 abbrev pub withStatus : Status → Node → Node
-withStatus v x = record { status = v; crashed = x .crashed; time = x .time; log = x .log; held = x .held; targets = x .targets }
+withStatus v x = record { status = v; crashed = x .crashed; time = x .time; log = x .log; held = x .held; targets = x .targets; asked = x .asked }
 
 abbrev pub withCrashed : Bool → Node → Node
-withCrashed v x = record { status = x .status; crashed = v; time = x .time; log = x .log; held = x .held; targets = x .targets }
+withCrashed v x = record { status = x .status; crashed = v; time = x .time; log = x .log; held = x .held; targets = x .targets; asked = x .asked }
 
 abbrev pub withTime : ℕ → Node → Node
-withTime v x = record { status = x .status; crashed = x .crashed; time = v; log = x .log; held = x .held; targets = x .targets }
+withTime v x = record { status = x .status; crashed = x .crashed; time = v; log = x .log; held = x .held; targets = x .targets; asked = x .asked }
 
 abbrev pub withHeld : List Held → Node → Node
-withHeld v x = record { status = x .status; crashed = x .crashed; time = x .time; log = x .log; held = v; targets = x .targets }
+withHeld v x = record { status = x .status; crashed = x .crashed; time = x .time; log = x .log; held = v; targets = x .targets; asked = x .asked }
 
 abbrev pub withTargets : List Target → Node → Node
-withTargets v x = record { status = x .status; crashed = x .crashed; time = x .time; log = x .log; held = x .held; targets = v }
+withTargets v x = record { status = x .status; crashed = x .crashed; time = x .time; log = x .log; held = x .held; targets = v; asked = x .asked }
+
+abbrev pub withAsked : Option Asked → Node → Node
+withAsked v x = record { status = x .status; crashed = x .crashed; time = x .time; log = x .log; held = x .held; targets = x .targets; asked = v }
 
 abbrev pub moreLogged : Entry → Node → Node
 moreLogged e x = withLog (x .log ++ e ∷ []) x

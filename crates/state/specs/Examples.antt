@@ -3,12 +3,14 @@ use Prim.Native.Nat.{ℕ, _+_, _*_}
 use mathlib.Core.Bool.{true, false}
 use mathlib.Core.Path.{_≡_, refl}
 use mathlib.Core.List.{List, [], _∷_, _++_, map}
+use mathlib.Core.Option.{none, some}
 use lib.ListN.{take, drop, set, replicate}
 use Rattle.plan.specs.declared.Rule.the-variants.{Keep}
 use Rattle.plan.specs.declared.Record.{Record}
 use Rattle.rules.specs.Line.{fed, made, Entry, up, down, replay, Node, Line, freshNode, initialLine, onlyCount}
 use Rattle.rules.specs.Step.{step}
 use Rattle.rules.specs.Marked.{channel}
+use Rattle.rules.specs.DamagedLines.{fallenAsked}
 use Rattle.state.specs.Node.{nodeLayout}
 use Rattle.state.specs.State.{lineBytes, lineOf, stateAnswer}
 
@@ -80,7 +82,7 @@ unfolding twoNodes
 sent = record {
   plan = twoNodes .plan;
   steps = onlyCount 2;
-  nodes = record { status = up; crashed = false; time = 1; log = record { what = piece; time = 1; origin = fed; before = fed; set = 1 } ∷ []; held = []; targets = [] } ∷ freshNode ∷ [];
+  nodes = record { status = up; crashed = false; time = 1; log = record { what = piece; time = 1; origin = fed; before = fed; set = 1 } ∷ []; held = []; targets = []; asked = none } ∷ freshNode ∷ [];
   lanes = record { mark = 1; taken = 0; heard = []; queue = record { what = piece; time = 1; origin = fed } ∷ []; low = 0 ∷ [] } ∷ [];
 }
 
@@ -98,6 +100,7 @@ replaying = record {
         log = record { what = piece; time = 1; origin = made 0 5; before = made 1 6; set = 10 } ∷ [];
         held = record { what = piece; sender = 0; time = 4; before = made 0 8 } ∷ [];
         targets = record { time = 5; parent = 0; parentTime = 6 } ∷ [];
+        asked = some (record { low = 3; high = 9; entries = 258 ∷ 7 ∷ 0 ∷ 11 ∷ [] });
       }
       ∷ [];
   lanes = record { mark = 1; taken = 2; heard = []; queue = record { what = piece; time = 7; origin = made 2 9 } ∷ []; low = 0 ∷ [] } ∷ [];
@@ -115,7 +118,7 @@ pub replaying-read : lineOf (lineBytes replaying) ≡ replaying
 unfolding lineBytes lineOf replaying
 replaying-read = refl
 
--- The bytes of the last one where docs/LAYOUT.md has them: its second node's page with one log entry, one held record and one target, and the channel's block with one message.
+-- The bytes of the last one where docs/LAYOUT.md has them: its second node's page with one log entry, one held record, one target and a kept answer, and the channel's block with one message.
 pub replaying-page : take 36 (drop 8_192 (lineBytes replaying)) ≡ 2 ∷ 1 ∷ 0 ∷ 0 ∷ 0 ∷ 0 ∷ 0 ∷ 3 ∷ 0 ∷ 0 ∷ 0 ∷ 1 ∷ 0 ∷ 0 ∷ 0 ∷ 7 ∷ 1 ∷ 0 ∷ 0 ∷ 250 ∷ 0 ∷ 0 ∷ 0 ∷ 1 ∷ 1 ∷ 0 ∷ 0 ∷ 0 ∷ 5 ∷ 2 ∷ 0 ∷ 0 ∷ 0 ∷ 6 ∷ 10 ∷ 0 ∷ []
 unfolding lineBytes replaying
 replaying-page = refl
@@ -133,6 +136,10 @@ pub replaying-targets : take 16 (drop 11_024 (lineBytes replaying)) ≡ 0 ∷ 0 
 unfolding lineBytes replaying
 replaying-targets = refl
 
+pub replaying-kept : take 32 (drop 11_796 (lineBytes replaying)) ≡ 0 ∷ 0 ∷ 0 ∷ 1 ∷ 0 ∷ 0 ∷ 0 ∷ 3 ∷ 0 ∷ 0 ∷ 0 ∷ 9 ∷ 0 ∷ 0 ∷ 1 ∷ 2 ∷ 0 ∷ 0 ∷ 0 ∷ 7 ∷ 0 ∷ 0 ∷ 0 ∷ 0 ∷ 0 ∷ 0 ∷ 0 ∷ 11 ∷ 0 ∷ 0 ∷ 0 ∷ 0 ∷ []
+unfolding lineBytes replaying
+replaying-kept = refl
+
 pub replaying-block : take 48 (drop 53_248 (lineBytes replaying)) ≡ 0 ∷ 0 ∷ 0 ∷ 1 ∷ 0 ∷ 0 ∷ 0 ∷ 2 ∷ 0 ∷ 0 ∷ 0 ∷ 0 ∷ 0 ∷ 0 ∷ 0 ∷ 0 ∷ 0 ∷ 0 ∷ 0 ∷ 0 ∷ 0 ∷ 0 ∷ 0 ∷ 0 ∷ 0 ∷ 0 ∷ 0 ∷ 1 ∷ 0 ∷ 0 ∷ 0 ∷ 7 ∷ 1 ∷ 0 ∷ 0 ∷ 250 ∷ 0 ∷ 0 ∷ 0 ∷ 7 ∷ 3 ∷ 0 ∷ 0 ∷ 0 ∷ 9 ∷ 0 ∷ 0 ∷ 0 ∷ []
 unfolding lineBytes replaying
 replaying-block = refl
@@ -140,7 +147,7 @@ replaying-block = refl
 -- A low clock (2026-04): on 0 to 1 to 2 a piece has gone all the way, and node 2 has dropped it.
 unfoldable pub dropped : Line
 dropped =
-    let logs : List Entry → Node = λ es. record { status = up; crashed = false; time = 1; log = es; held = []; targets = [] } in
+    let logs : List Entry → Node = λ es. record { status = up; crashed = false; time = 1; log = es; held = []; targets = []; asked = none } in
     record {
       plan = record { version = 1; rules = Keep ∷ Keep ∷ Keep ∷ []; channels = channel 0 1 65535 ∷ channel 1 2 65535 ∷ [] };
       steps = onlyCount 6;
@@ -178,7 +185,17 @@ pub sorted-answers : map (λ (change : ℕ × ℕ). stateAnswer (set (lineBytes 
 unfolding lineBytes stateAnswer sorted
 sorted-answers = refl
 
+-- A kept answer (2026-07): of node 2, down, with two parents and one target.
+pub asking-kept : take 32 (drop 15_892 (lineBytes fallenAsked)) ≡ 0 ∷ 0 ∷ 0 ∷ 1 ∷ 0 ∷ 0 ∷ 0 ∷ 0 ∷ 0 ∷ 0 ∷ 0 ∷ 2 ∷ replicate 20 0
+unfolding lineBytes fallenAsked
+asking-kept = refl
+
+-- As it is; with another count; with an entry for a third parent, which it has not; with an unused byte.
+pub asking-answers : map (λ (change : ℕ × ℕ). stateAnswer (set (lineBytes fallenAsked) (change .0) (change .1))) ((15_895, 1) ∷ (15_895, 2) ∷ (15_915, 1) ∷ (15_920, 1) ∷ []) ≡ 0 ∷ 8 ∷ 8 ∷ 8 ∷ []
+unfolding lineBytes stateAnswer fallenAsked
+asking-answers = refl
+
 -- A node that is down: its status and its crash mark.
-pub down-page : nodeLayout .write (record { status = down; crashed = true; time = 0; log = []; held = []; targets = [] }) ≡ 1 ∷ 1 ∷ replicate 4_094 0
+pub down-page : nodeLayout .write (record { status = down; crashed = true; time = 0; log = []; held = []; targets = []; asked = none }) ≡ 1 ∷ 1 ∷ replicate 4_094 0
 unfolding nodeLayout
 down-page = refl

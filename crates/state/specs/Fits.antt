@@ -7,9 +7,10 @@ use Rattle.plan.specs.Lawful.{Each, FieldsFit, UpToFit}
 use Rattle.plan.specs.Plan.{nodeCount, channelCount, channelAt}
 use Rattle.plan.specs.Check.{planFits}
 use Rattle.plan.specs.Fits.{RecordFits}
-use Rattle.rules.specs.Line.{logLimit, queueLimit, heldLimit, targetLimit, Origin, Message, Entry, Held, Target, Node, Lane, Line, nodeAt, laneAt}
+use Rattle.rules.specs.Line.{logLimit, queueLimit, heldLimit, targetLimit, Origin, Message, Entry, Held, Target, Asked, Node, Lane, Line, nodeAt, laneAt}
 use Rattle.state.specs.Sizes.{stepsWidths, parentLimit, lowLimit}
-use Rattle.state.specs.Pieces.{originWidths, originNumbers}
+use Rattle.state.specs.Pieces.{originWidths, originNumbers, askedWidths, askedNumbers}
+use Rattle.state.specs.Node.{keptList}
 use Rattle.state.specs.Lane.{heardCount}
 
 -- A time, and the number of a node.
@@ -45,11 +46,15 @@ pub record TargetFits (t : Target) : Type 0 where
   pub parent : ByteFits (t .parent)
   pub parentTime : TimeFits (t .parentTime)
 
+abbrev pub AskedFits : Asked → Type 0
+AskedFits a = FieldsFit askedWidths (askedNumbers a)
+
 pub record NodeFits (x : Node) : Type 0 where
   pub time : TimeFits (x .time)
   pub log : UpToFit logLimit EntryFits (x .log)
   pub held : UpToFit heldLimit HeldFits (x .held)
   pub targets : UpToFit targetLimit TargetFits (x .targets)
+  pub asked : UpToFit 1 AskedFits (keptList (x .asked))
 
 pub record LaneFits (x : Lane) : Type 0 where
   pub mark : TimeFits (x .mark)

@@ -1,13 +1,13 @@
--- What stands in the slots: origins, messages, log entries, held records and targets.
+-- What stands in the slots: origins, messages, log entries, held records, targets and kept answers.
 use Prim.Native.Nat.{ℕ, zero, suc}
 use mathlib.Core.List.{List, [], _∷_}
 use mathlib.Core.Path.{_≡_, refl}
-use lib.ListN.{getD}
+use lib.ListN.{getD, drop}
 use Rattle.plan.specs.declared.Record.{Record}
 use Rattle.plan.specs.Layout.{Layout, number, fields, via, pair, padded}
 use Rattle.plan.specs.Record.{recordLayout}
-use Rattle.rules.specs.Line.{Origin, fed, made, Message, Entry, Held, Target}
-use Rattle.state.specs.Sizes.{entrySize, heldSize, targetSize, messageSize}
+use Rattle.rules.specs.Line.{Origin, fed, made, Message, Entry, Held, Target, Asked}
+use Rattle.state.specs.Sizes.{entrySize, heldSize, targetSize, messageSize, keptSize}
 
 -- An origin, in five bytes: 0 for none, else the sender and 1; then the time, 0 for none.
 abbrev pub originNumbers : Origin → List ℕ
@@ -104,6 +104,24 @@ unfoldable pub targetLayout : Layout Target
 unfolding targetFields via padded
 targetLayout = padded 3 (via targetFields targetNumbers targetOf)
 
+-- A kept answer: low, high and four restored entries.
+abbrev pub askedNumbers : Asked → List ℕ
+askedNumbers a = a .low ∷ a .high ∷ a .entries
+
+abbrev pub askedOf : List ℕ → Asked
+askedOf ns = record { low = getD ns 0 0; high = getD ns 1 0; entries = drop 2 ns }
+
+abbrev pub askedWidths : List ℕ
+askedWidths = 4 ∷ 4 ∷ 4 ∷ 4 ∷ 4 ∷ 4 ∷ []
+
+unfoldable pub askedFields : Layout (List ℕ)
+unfolding fields
+askedFields = fields askedWidths
+
+unfoldable pub askedLayout : Layout Asked
+unfolding askedFields via
+askedLayout = via askedFields askedNumbers askedOf
+
 -- They are as long as they should be.
 pub message-size : messageLayout .size ≡ messageSize
 unfolding messageLayout
@@ -120,3 +138,7 @@ held-size = refl
 pub target-size : targetLayout .size ≡ targetSize
 unfolding targetLayout
 target-size = refl
+
+pub asked-size : askedLayout .size ≡ keptSize
+unfolding askedLayout
+asked-size = refl

@@ -7,7 +7,7 @@ use Rattle.plan.specs.Layout.{spelled}
 use Rattle.plan.specs.Lawful.{Zeros}
 use Rattle.plan.specs.Plan.{planOf, planBytes, sizeByHead, planNodes, planChannels, channelAt}
 use Rattle.rules.specs.Line.{logLimit, queueLimit, heldLimit, targetLimit}
-use Rattle.state.specs.Sizes.{pageSize, planArea, stepsAt, countSize, stepsSize, stepsRest, nodePages, pageAt, laneBlocks, blockSize, blockAt, tailAt, tailSize, statusAt, crashedAt, logAt, entrySize, heldAt, heldSize, targetsAt, targetSize, nodeRestAt, nodeRest, heardAt, parentLimit, queueAt, messageSize, lowAt, lowLimit, laneRestAt, laneRest}
+use Rattle.state.specs.Sizes.{pageSize, planArea, stepsAt, countSize, stepsSize, stepsRest, nodePages, pageAt, laneBlocks, blockSize, blockAt, tailAt, tailSize, statusAt, crashedAt, logAt, entrySize, heldAt, heldSize, targetsAt, targetSize, keptAt, keptSize, nodeRestAt, nodeRest, heardAt, parentLimit, queueAt, messageSize, lowAt, lowLimit, laneRestAt, laneRest}
 use Rattle.state.specs.Lane.{heardCount}
 
 -- So many bytes at an offset are 0.
@@ -45,6 +45,10 @@ pub record HeldRight (a : ℕ) (s : List ℕ) : Type 0 where
 abbrev pub TargetRight : ℕ → List ℕ → Type 0
 TargetRight a s = ZerosAt (a + 9) 3 s
 
+-- A kept answer has no unused bytes.
+abbrev pub AskedRight : ℕ → List ℕ → Type 0
+AskedRight a s = Unit {0}
+
 -- A list: its count is within the limit, the slots used are right, and the bytes of the others are 0.
 pub record ListRight (SlotRight : ℕ → List ℕ → Type 0) (limit size a : ℕ) (s : List ℕ) : Type 0 where
   pub few : wordAt a s ≤ limit
@@ -58,6 +62,7 @@ pub record NodeRight (a : ℕ) (s : List ℕ) : Type 0 where
   pub log : ListRight EntryRight logLimit entrySize (a + logAt) s
   pub held : ListRight HeldRight heldLimit heldSize (a + heldAt) s
   pub targets : ListRight TargetRight targetLimit targetSize (a + targetsAt) s
+  pub kept : ListRight AskedRight 1 keptSize (a + keptAt) s
   pub rest : ZerosAt (a + nodeRestAt) nodeRest s
 
 -- A channel on which so many are heard.

@@ -88,11 +88,18 @@ targetsAt = 2832
 abbrev pub targetSize : ℕ
 targetSize = 12
 
+-- 2026-07: a kept answer, as a list of at most one: its count, low, high and four restored entries.
+abbrev pub keptAt : ℕ
+keptAt = 3604
+
+abbrev pub keptSize : ℕ
+keptSize = 24
+
 abbrev pub nodeRestAt : ℕ
-nodeRestAt = 3604
+nodeRestAt = 3632
 
 abbrev pub nodeRest : ℕ
-nodeRest = 492
+nodeRest = 464
 
 -- In a channel's block: mark, taken, four heard, and the queue's count with its slots behind it.
 abbrev pub markAt : ℕ

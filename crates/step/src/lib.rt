@@ -45,6 +45,8 @@ fn asked(s: &mut [u8], f: Frame) -> u32
         Frame::Crash(n) => restart::crash(s, n),
         Frame::Recover(n) => restart::recover(s, n),
         Frame::Trim(n) => trim::trim(s, n),
+        Frame::Ask(n) => restart::ask(s, n),
+        Frame::Commit(n) => restart::commit(s, n),
     }
 }
 
@@ -57,7 +59,7 @@ fn count_step(s: &mut [u8], console: usize)
     bytes::put32(s, layout::STEPS + layout::COUNT * console, steps + 1);
 }
 
-// A frame passed to such a state: 9 to 21, 24 to 26 or 0.
+// A frame passed to such a state: 9 to 21, 24 to 27 or 0.
 pub fn step(s: &mut [u8], frame: &[u8]) -> u32
     requires { ⌜ Undamaged (now s) ⌝ }
     ensures { λ r. ⌜ Stepped (now (s .entry)) (now (frame .entry)) (now (s .exit)) r ⌝ }

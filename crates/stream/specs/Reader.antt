@@ -20,7 +20,7 @@ abbrev pub windowSize : ℕ
 windowSize = 65536
 
 abbrev pub outSize : ℕ
-outSize = 524288
+outSize = 540672
 
 -- A frame's number stays below this, so it never wraps.
 abbrev pub countMost : ℕ

@@ -7,7 +7,7 @@ use lib.ListN.{length, take, drop}
 use lib.Dec.{leb, ltb, eqb}
 use Rattle.plan.specs.Plan.{planOf, entering}
 use Rattle.plan.specs.Check.{planRefusal}
-use Rattle.rules.specs.Line.{Line, initialLine}
+use Rattle.rules.specs.Line.{Line, initialLine, parents}
 use Rattle.rules.specs.Step.{step}
 use Rattle.rules.specs.Sheet.{decimal, answerLine, entryLine, clockText, nodeText, lineText, lengthField, framesText, planText}
 
@@ -69,7 +69,7 @@ planTold s =
 
 -- A block, behind what was kept.
 unfoldable pub taken : Reading → List ℕ → Told
-unfolding planRefusal planOf initialLine step entering zipWith decimal answerLine entryLine clockText nodeText lineText
+unfolding planRefusal planOf initialLine step entering parents zipWith decimal answerLine entryLine clockText nodeText lineText
 taken (planning s) block = planTold (s ++ block)
 taken (framing s k l) block = framesTold (length (s ++ block)) k l (s ++ block)
 taken ended block = record { text = []; next = ended; line = none }
@@ -82,7 +82,7 @@ planAll s =
 
 -- The end of the input: what was kept is all there is.
 unfoldable pub closed : Reading → List ℕ
-unfolding planRefusal planOf initialLine step entering zipWith decimal answerLine entryLine clockText nodeText lineText
+unfolding planRefusal planOf initialLine step entering parents zipWith decimal answerLine entryLine clockText nodeText lineText
 closed (planning s) = planAll s
 closed (framing s k l) = framesText (length s) k l s
 closed ended = []

@@ -1,5 +1,5 @@
-//! Document 01, the paragraph "Damaged", and requests 2026-04 and 2026-06, as far as
-//! they speak of more than bytes: their number and the unused ones have no place in the
+//! Document 01, the paragraph "Damaged", and requests 2026-04, 2026-06 and 2026-07, as far
+//! as they speak of more than bytes: their number and the unused ones have no place in the
 //! structs.
 
 use super::{restart, Entry, Line, Node, Origin, Queue, Status};
@@ -20,7 +20,8 @@ pub fn damaged(line: &Line) -> bool {
         && are_queues_sound(line)
         && are_crash_marks_sound(line)
         && is_emptied_where_it_must_be(line)
-        && are_replays_as_recovered(line))
+        && are_replays_as_recovered(line)
+        && are_kept_as_recovered(line))
 }
 
 /// Not: "the plan would be refused".
@@ -304,6 +305,15 @@ fn are_replays_as_recovered(line: &Line) -> bool {
                 && node.time() == restart.low
                 && node.targets == restart.targets
         })
+}
+
+/// Not: a kept answer "that Recover would not give now", also where it would be refused, so
+/// wherever the node is not down. Its times are then reached and its parents right.
+fn are_kept_as_recovered(line: &Line) -> bool {
+    line.nodes.iter().enumerate().all(|(number, node)| {
+        let kept = node.kept.as_ref();
+        kept.is_none_or(|kept| line.recovers(number) && *kept == restart(line, number))
+    })
 }
 
 fn rises_strictly_from_above(start: u32, times: impl Iterator<Item = u32>) -> bool {

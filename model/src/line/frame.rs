@@ -1,5 +1,5 @@
-//! Document 01, "Clocks and steps", and requests 2026-01 and 2026-04: a frame, who
-//! sends it, and its bytes.
+//! Document 01, "Clocks and steps", and requests 2026-01, 2026-04 and 2026-07: a frame,
+//! who sends it, and its bytes.
 
 use std::fmt;
 
@@ -29,6 +29,12 @@ pub enum Frame {
         node: u8,
     },
     Trim {
+        node: u8,
+    },
+    Ask {
+        node: u8,
+    },
+    Commit {
         node: u8,
     },
 }
@@ -98,6 +104,8 @@ impl Frame {
             (4, &[node]) => Frame::Crash { node },
             (5, &[node]) => Frame::Recover { node },
             (6, &[node]) => Frame::Trim { node },
+            (7, &[node]) => Frame::Ask { node },
+            (8, &[node]) => Frame::Commit { node },
             _ => return Err(FRAME_KIND),
         };
         if caller.console() >= Line::CONSOLES {
@@ -120,6 +128,8 @@ impl Frame {
             Frame::Crash { node } => (4, node),
             Frame::Recover { node } => (5, node),
             Frame::Trim { node } => (6, node),
+            Frame::Ask { node } => (7, node),
+            Frame::Commit { node } => (8, node),
         };
         let mut bytes = match caller {
             Caller::Unnamed => vec![0, 0, 1, kind, place],

@@ -27,8 +27,8 @@ const DRAWS: usize = 8;
 /// What is done on a line, and how often.
 pub struct Practice {
     /// Shares of the frames: feeds, sends, takes, crashes, recoveries, sends
-    /// and takes for nodes that replay, trims.
-    shares: [usize; 7],
+    /// and takes for nodes that replay, trims, asks, commits.
+    shares: [usize; 9],
     /// A bit for each channel that is sent and taken on seldom: so children part
     /// ways.
     lazy: u32,
@@ -47,9 +47,11 @@ impl Practice {
                 random.pick(&[20, 40, 80]),
                 random.pick(&[8, 20, 40]),
                 random.pick(&[1, 2, 4]),
-                random.pick(&[2, 4, 16]),
+                random.pick(&[1, 2, 4, 16]),
                 random.pick(&[4, 8, 16]),
                 random.pick(&[1, 4, 8]),
+                random.pick(&[1, 4, 8]),
+                random.pick(&[1, 4, 16]),
             ],
             lazy: (random.draw() & random.draw()) as u32,
             strays: random.pick(&[8, 32, 128]),
@@ -108,6 +110,8 @@ impl Practice {
             }
             4 => Frame::Recover { node: node as u8 },
             6 => Frame::Trim { node: node as u8 },
+            7 => Frame::Ask { node: node as u8 },
+            8 => Frame::Commit { node: node as u8 },
             _ => {
                 let replaying = line.plan.channels.iter().map(|channel| channel.receiver);
                 let replaying = replaying

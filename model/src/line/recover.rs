@@ -110,23 +110,43 @@ impl Restart {
 
 impl Line {
     pub(super) fn recover(&self, node: usize) -> Result<Line, u32> {
+        self.check_down(node)?;
+        let restart = restart(self, node);
+        restart.check_targets()?;
+        let mut next = self.restarted(node, &restart);
+        if next.nodes[node].status == Status::Replaying {
+            next.end_replay_if_complete(node)?;
+        }
+        Ok(next)
+    }
+
+    /// Whether Recover of the node is accepted, the counts of steps aside.
+    pub fn recovers(&self, node: usize) -> bool {
+        self.recover(node).is_ok()
+    }
+
+    /// 13 to 15 of a node that is to restart.
+    pub(super) fn check_down(&self, node: usize) -> Result<(), u32> {
         self.check_router(node)?;
         if !self.is_down(node) {
             return Err(WRONG_STATUS);
         }
-        let restart = restart(self, node);
-        restart.check_targets()?;
+        Ok(())
+    }
+
+    /// The line with the node as it is restarted. "No targets: B is up. Else it replays."
+    /// No answer is kept.
+    pub(super) fn restarted(&self, node: usize, restart: &Restart) -> Line {
         let mut next = self.clone();
-        next.restore(node, &restart);
-        // "No targets: B is up. Else it replays."
-        if restart.targets.is_empty() {
-            next.nodes[node].status = Status::Up;
-        } else {
-            next.nodes[node].status = Status::Replaying;
-            next.nodes[node].targets = restart.targets;
-            next.end_replay_if_complete(node)?;
-        }
-        Ok(next)
+        next.restore(node, restart);
+        let restarted = &mut next.nodes[node];
+        restarted.status = match restart.targets.is_empty() {
+            true => Status::Up,
+            false => Status::Replaying,
+        };
+        restarted.targets = restart.targets.clone();
+        restarted.kept = None;
+        next
     }
 
     /// "Parents' parents get 0. B's time is low; each leaving belt's mark is the

@@ -1,6 +1,6 @@
 //! Document 01, "Clocks and steps": the step and its kinds Feed, Send, Take
 //! and Crash. Recover stands in `recover`, what Take does to a replay in
-//! `replay`, Trim in `trim`.
+//! `replay`, Trim in `trim`, Ask and Commit in `ask`.
 
 use super::{Entry, Frame, Line, Message, Node, Origin, Queue, Status};
 use crate::answer::{
@@ -20,8 +20,8 @@ pub fn step(line: &mut Line, frame: &[u8]) -> u32 {
     }
 }
 
-/// The line after the step, or the refusal. Checks 9 to 11, 25, 12, 13, 26, 14 to 21
-/// and then 24; 8 is seen to before: the line is undamaged.
+/// The line after the step, or the refusal. Checks 9 to 11, 25, 12, 13, 26, 14 to 16, 27,
+/// 17 to 21 and then 24; 8 is seen to before: the line is undamaged.
 pub fn stepped(line: &Line, frame: &[u8]) -> Result<Line, u32> {
     let (caller, frame) = Frame::read(frame)?;
     // "Refusal 12 looks only at the caller's."
@@ -35,6 +35,8 @@ pub fn stepped(line: &Line, frame: &[u8]) -> Result<Line, u32> {
         Frame::Crash { node } => line.crash(node.into()),
         Frame::Recover { node } => line.recover(node.into()),
         Frame::Trim { node } => line.trim(node.into()),
+        Frame::Ask { node } => line.ask(node.into()),
+        Frame::Commit { node } => line.commit(node.into()),
     }?;
     next.steps[caller.console()] += 1;
     Ok(next)

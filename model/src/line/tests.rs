@@ -1,5 +1,6 @@
 //! Lines and frames that the tests are made of, and P9.
 
+mod asks;
 mod damage;
 mod handmade;
 mod practised;
@@ -42,6 +43,14 @@ fn crash(node: u8) -> Vec<u8> {
 
 fn recover(node: u8) -> Vec<u8> {
     Frame::Recover { node }.write()
+}
+
+fn ask(node: u8) -> Vec<u8> {
+    Frame::Ask { node }.write()
+}
+
+fn commit(node: u8) -> Vec<u8> {
+    Frame::Commit { node }.write()
 }
 
 fn trim(node: u8) -> Vec<u8> {

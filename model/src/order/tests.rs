@@ -1,3 +1,4 @@
+mod asks;
 mod ticks;
 mod trims;
 
@@ -19,13 +20,17 @@ fn pass(line: &mut Line, order: &mut Order, frame: &[u8]) -> u32 {
     answer
 }
 
-/// Recovers, sends and takes until nothing more is accepted, from any console.
+/// Restarts, by Recover or by Ask and Commit, sends and takes until nothing more is accepted,
+/// from any console.
 fn drain(random: &mut Random, line: &mut Line, order: &mut Order) {
     loop {
         let nodes = 0..line.nodes.len() as u8;
         let channels = 0..line.queues.len() as u8;
         let frames: Vec<Frame> = nodes
-            .map(|node| Frame::Recover { node })
+            .flat_map(|node| match random.one_in(2) {
+                true => vec![Frame::Recover { node }],
+                false => vec![Frame::Ask { node }, Frame::Commit { node }],
+            })
             .chain(channels.clone().map(|channel| Frame::Send { channel }))
             .chain(channels.map(|channel| Frame::Take { channel }))
             .collect();
@@ -49,6 +54,7 @@ fn order_of_received_records() {
     let mut crashes_while_replaying = [0; 2];
     let mut trims_that_drop = [0; 2];
     let mut ticks_taken = [0; 2];
+    let mut commits = [0; 2];
     for _ in 0..700 {
         let mut line = Line::of(any_plan(&mut random));
         let version = usize::from(line.plan.version == Version::Second);
@@ -71,9 +77,13 @@ fn order_of_received_records() {
             if answer == ACCEPTED && trimmed(&before, &frame, &line) > 0 {
                 trims_that_drop[version] += 1;
             }
-            if let (ACCEPTED, Ok((_, Frame::Take { channel }))) = (answer, Frame::read(&frame)) {
-                let taken = before.queues[usize::from(channel)].messages[0];
-                ticks_taken[version] += usize::from(taken.record.is_tick());
+            match (answer, Frame::read(&frame)) {
+                (ACCEPTED, Ok((_, Frame::Take { channel }))) => {
+                    let taken = before.queues[usize::from(channel)].messages[0];
+                    ticks_taken[version] += usize::from(taken.record.is_tick());
+                }
+                (ACCEPTED, Ok((_, Frame::Commit { .. }))) => commits[version] += 1,
+                _ => {}
             }
             if random.one_in(8) {
                 assert!(order.holds(&line), "{:?}", line.plan);
@@ -86,7 +96,7 @@ fn order_of_received_records() {
         quiet_ends[version] += usize::from(is_quiet(&line));
     }
     println!("{quiet_ends:?} quiet, {ended_replays:?} ended, {crashes_while_replaying:?} crashed");
-    println!("{trims_that_drop:?} trims, {ticks_taken:?} ticks");
+    println!("{trims_that_drop:?} trims, {ticks_taken:?} ticks, {commits:?} commits");
     for version in 0..2 {
         assert!(quiet_ends[version] > 100, "{quiet_ends:?}");
         assert!(ended_replays[version] > 100, "{ended_replays:?}");
@@ -94,6 +104,7 @@ fn order_of_received_records() {
         assert!(crashes > 25, "{crashes_while_replaying:?}");
         assert!(trims_that_drop[version] > 50, "{trims_that_drop:?}");
         assert!(ticks_taken[version] > 200, "{ticks_taken:?}");
+        assert!(commits[version] > 100, "{commits:?}");
     }
 }
 

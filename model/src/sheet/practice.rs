@@ -13,7 +13,7 @@ use crate::state::practice::{play, play_to_the_end, replay_on, staged, Played};
 const MANY_FRAMES: usize = 70_000;
 /// The bytes of a frame of each kind in each version: so far apart, the same bytes
 /// come again, records and consoles aside.
-pub const SHIFTS: usize = 82;
+pub const SHIFTS: usize = 104;
 
 /// A sheet, and the line that it leads to.
 pub struct Typed {
@@ -108,13 +108,16 @@ pub fn raw(random: &mut Random) -> Vec<u8> {
 }
 
 /// Full logs and channels, as many targets and held records as there can be, a
-/// node down; each frame; then the replays to their end, and each frame again.
+/// node down, answers kept; each frame; then the replays to their end, and each frame
+/// again.
 pub fn at_the_limits(random: &mut Random) -> Vec<u8> {
-    let mut typed: Typed = match random.index(4) {
+    let mut typed: Typed = match random.index(6) {
         0 => staged::full(),
         1 => staged::replaying(),
         2 => staged::holding(random.index(Line::MOST_BUFFERED)),
-        _ => staged::down(),
+        3 => staged::down(),
+        4 => staged::asked(),
+        _ => staged::all_asked(),
     };
     typed.every_frame(random);
     while replay_on(random, &mut typed).is_some() {}
@@ -170,7 +173,7 @@ pub fn many(random: &mut Random, shift: usize) -> Vec<u8> {
     let mut first = vec![0; Frame::LEAST_LENGTH + shift];
     first[1] = first.len() as u8;
     typed.step(&first);
-    let length = typed.bytes.len() + MANY_FRAMES / 12 * SHIFTS;
+    let length = typed.bytes.len() + MANY_FRAMES / 16 * SHIFTS;
     while typed.bytes.len() < length {
         typed.every_frame(random);
     }

@@ -103,12 +103,35 @@ fn clock_of_three_layers() {
     assert_eq!(text, b"4:0[3:0[1:0 2:0]]");
 }
 
+/// P9's node 2, down and asked.
+#[test]
+fn kept_answer() {
+    let channels = [(0, 2, 15), (1, 2, 15), (2, 3, 2), (2, 4, 6)];
+    let channels = channels.map(|(sender, receiver, mask)| Channel {
+        mask,
+        ..Channel::between(sender, receiver)
+    });
+    let mut input = keeping(5, channels).write();
+    for (node, piece, material) in [(0, 1, 1), (0, 2, 2), (1, 3, 2)] {
+        input.extend([0, 13, 1, 1, node, 0, 0, 0, piece, material, 0, 0, 250]);
+    }
+    for channel in [1, 0, 0, 2] {
+        input.extend([0, 5, 1, 2, channel, 0, 5, 1, 3, channel]);
+    }
+    let down = written(&[&input, &[0, 5, 1, 4, 2]]);
+    let asked = written(&[&input, &[0, 5, 1, 4, 2], &[0, 5, 1, 7, 2]]);
+    let clock = "T 2:0[0:0 1:0]\n";
+    let kept = format!("{clock}Q 0 2 0:0 1:0 2[0:1]\n");
+    let expected = down.replace("A 12 0\n", "A 12 0\nA 13 0\n");
+    assert_eq!(asked, expected.replace(clock, &kept));
+}
+
 #[test]
 fn kept_sheets() {
     let folder = Path::new(env!("CARGO_MANIFEST_DIR")).join("vectors/sheets");
     let checked = vectors::check_folder(&folder).unwrap();
     assert!(checked.wrong.is_empty(), "{:?}", checked.wrong);
-    assert_eq!(checked.sheets(), 222);
+    assert_eq!(checked.sheets(), 258);
 }
 
 /// Twelve nodes, 500 frames: well under 50 ms.

@@ -7,7 +7,7 @@
 
 mod channels;
 mod nodes;
-mod replay;
+mod recovered;
 mod sets;
 mod shape;
 mod step;
@@ -48,6 +48,7 @@ fn is_undamaged(state: &[u8; LENGTH]) -> bool {
         steps: counts.iter().sum(),
         down: 0,
         replaying: 0,
+        keeping: 0,
         marked: 0,
     };
     view.read_statuses()
@@ -55,7 +56,7 @@ fn is_undamaged(state: &[u8; LENGTH]) -> bool {
         && is_zero(&state[node(view.shape.node_count)..node(Plan::MOST_NODES)])
         && (0..view.shape.channel_count).all(|number| view.is_channel_sound(number))
         && is_zero(&state[channel(view.shape.channel_count)..])
-        && view.are_replays_as_recovered()
+        && view.are_as_recovered()
 }
 
 struct View<'a> {
@@ -66,6 +67,8 @@ struct View<'a> {
     /// A bit for each node.
     down: u32,
     replaying: u32,
+    /// Down with a kept answer.
+    keeping: u32,
     marked: u32,
 }
 
@@ -91,7 +94,10 @@ impl View<'_> {
             if status > REPLAYING || mark > 1 || zero | other_zero != 0 {
                 return false;
             }
-            self.down |= u32::from(status == DOWN) << number;
+            let is_down = status == DOWN;
+            let keeps = is_down && number_at(self.node(number), KEPT.count) == 1;
+            self.down |= u32::from(is_down) << number;
+            self.keeping |= u32::from(keeps) << number;
             self.replaying |= u32::from(status == REPLAYING) << number;
             self.marked |= u32::from(mark) << number;
         }

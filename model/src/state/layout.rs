@@ -78,6 +78,13 @@ pub const TARGETS: Slots = Slots {
     length: 12,
     most: Line::MOST_TARGETS,
 };
+/// One answer or none: low, high and the restored entries, parents rising. Its targets
+/// stand in the node's slots for them.
+pub const KEPT: Slots = Slots {
+    count: TARGETS.end(),
+    length: KEPT_RESTORED + NUMBER * Plan::MOST_AT_A_NODE,
+    most: 1,
+};
 
 /// Values of a node's status.
 pub const UP: u8 = 0;
@@ -130,6 +137,15 @@ pub const TARGET_TIME: usize = 0;
 pub const TARGET_PARENT_TIME: usize = 4;
 pub const TARGET_PARENT: usize = 8;
 pub const TARGET_USED: usize = 9;
+
+/// Places within a kept answer.
+pub const KEPT_LOW: usize = 0;
+pub const KEPT_HIGH: usize = NUMBER;
+pub const KEPT_RESTORED: usize = 2 * NUMBER;
+
+pub const fn kept_restored(row: usize) -> usize {
+    KEPT_RESTORED + NUMBER * row
+}
 
 /// Places within a record.
 pub const PIECE: usize = 0;

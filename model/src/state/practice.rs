@@ -7,6 +7,7 @@ pub mod conditions;
 mod features;
 mod fields;
 mod harmless;
+mod kept;
 mod pick;
 mod places;
 mod runs;
@@ -19,8 +20,11 @@ pub use change::Change;
 pub use conditions::CLAUSES;
 pub use features::FEATURES;
 pub use harmless::HARMLESS;
+pub use kept::{kept_bytes, kept_places};
 pub use places::{places, Place};
-pub use runs::{any_record, call, lines, play, play_to_the_end, replay_on, trim_all, Played};
+pub use runs::{
+    any_record, call, lines, play, play_to_the_end, replay_on, restart, trim_all, Played,
+};
 pub use scrambles::SCRAMBLES;
 pub use sets::{other_sets, AFTER_A_SET, OTHER_SETS};
 pub use slots::SHUFFLES;
@@ -50,6 +54,8 @@ pub enum Kind {
     Scrambled,
     /// The set of one log entry changed.
     Set,
+    /// One byte of a node that keeps an answer changed.
+    Kept,
     /// One unused byte set.
     Unused,
     Length,
@@ -83,7 +89,7 @@ pub fn damaged(random: &mut Random, lines: &[Line], visit: Visit) {
 }
 
 /// The staged lines and what is made of them; every field by one more and one
-/// less, for the smaller ones also set to its edges.
+/// less, those of kept answers and of the smaller lines also set to their edges.
 pub fn staged(random: &mut Random, visit: Visit) {
     let small = [staged::fresh(), staged::mixed()].map(|line| (line, true));
     let longest = staged::by_mass(staged::full());
@@ -93,6 +99,8 @@ pub fn staged(random: &mut Random, visit: Visit) {
         staged::by_piece(staged::full()),
         staged::replaying(),
         staged::trimmed(),
+        staged::asked(),
+        staged::all_asked(),
     ];
     let large = large.map(|line| (line, false));
     for (line, is_small) in small.into_iter().chain(large) {
@@ -101,7 +109,7 @@ pub fn staged(random: &mut Random, visit: Visit) {
         let mut state = line_bytes(&line);
         for place in places(&line).into_iter().filter(|place| place.is_used) {
             fields::neighbours(&mut state, place, visit);
-            if is_small {
+            if is_small || place.name.starts_with("kept") {
                 fields::all_edges(&mut state, place, line.accepted_steps(), visit);
             }
         }

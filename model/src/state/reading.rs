@@ -1,11 +1,12 @@
 //! The line that the bytes of a state are those of.
 
 use std::array::from_fn;
+use std::mem::take;
 
 use super::layout::*;
 use super::writing::line_bytes;
 use crate::clock::Clock;
-use crate::line::{Buffered, Entry, Line, Message, Node, Origin, Queue, Status, Target};
+use crate::line::{Buffered, Entry, Line, Message, Node, Origin, Queue, Restart, Status, Target};
 use crate::plan::{length_field, Plan};
 use crate::record::Record;
 
@@ -39,6 +40,11 @@ fn named_parts(state: &[u8]) -> Option<Line> {
 
 fn read_node(state: &[u8], plan: &Plan, number: usize) -> Option<Node> {
     let block = &state[node(number)..][..NODE_LENGTH];
+    let mut targets = read_slots(block, TARGETS, read_target)?;
+    let mut kept = read_slots(block, KEPT, |slot| read_kept(slot, plan, number))?.pop();
+    if let Some(kept) = &mut kept {
+        kept.targets = take(&mut targets);
+    }
     Some(Node {
         status: match block[STATUS] {
             UP => Status::Up,
@@ -58,7 +64,8 @@ fn read_node(state: &[u8], plan: &Plan, number: usize) -> Option<Node> {
         low_clock: read_parts(state, plan, number, LOW),
         log: read_slots(block, LOG, read_entry)?,
         buffered: read_slots(block, BUFFERED, read_buffered)?,
-        targets: read_slots(block, TARGETS, read_target)?,
+        targets,
+        kept,
     })
 }
 
@@ -82,7 +89,7 @@ fn read_queue(block: &[u8]) -> Option<Queue> {
     })
 }
 
-fn read_slots<T>(block: &[u8], slots: Slots, read: fn(&[u8]) -> T) -> Option<Vec<T>> {
+fn read_slots<T>(block: &[u8], slots: Slots, read: impl Fn(&[u8]) -> T) -> Option<Vec<T>> {
     let count = number_at(block, slots.count) as usize;
     if count > slots.most {
         return None;
@@ -123,6 +130,22 @@ fn read_target(slot: &[u8]) -> Target {
         time: number_at(slot, TARGET_TIME),
         parent: usize::from(slot[TARGET_PARENT]),
         parent_time: number_at(slot, TARGET_PARENT_TIME),
+    }
+}
+
+/// Without its targets.
+fn read_kept(slot: &[u8], plan: &Plan, number: usize) -> Restart {
+    let restored = plan.parents(number).enumerate();
+    Restart {
+        low: number_at(slot, KEPT_LOW),
+        high: number_at(slot, KEPT_HIGH),
+        restored: restored
+            .map(|(row, sender)| Origin {
+                sender,
+                time: number_at(slot, kept_restored(row)),
+            })
+            .collect(),
+        targets: Vec::new(),
     }
 }
 

@@ -11,7 +11,7 @@ use super::practice::{lines, play_to_the_end, staged};
 use crate::line::Line;
 use crate::random::Random;
 
-const RUNS: u64 = 300;
+const RUNS: u64 = 360;
 const LAST_RUNS: u64 = 40;
 
 /// The lines of each run, made once for all tests.

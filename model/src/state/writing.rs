@@ -1,7 +1,7 @@
 //! A line written to the bytes of a state.
 
 use super::layout::*;
-use crate::line::{Buffered, Entry, Line, Message, Node, Origin, Status, Target};
+use crate::line::{Buffered, Entry, Line, Message, Node, Origin, Restart, Status, Target};
 
 /// The line has no more of anything than there are slots.
 pub fn line_bytes(line: &Line) -> Vec<u8> {
@@ -38,7 +38,18 @@ fn write_node(block: &mut [u8], node: &Node) {
     put_number(block, TIME, node.time());
     write_slots(block, LOG, &node.log, write_entry);
     write_slots(block, BUFFERED, &node.buffered, write_buffered);
-    write_slots(block, TARGETS, &node.targets, write_target);
+    let targets = match &node.kept {
+        None => &node.targets,
+        Some(kept) => {
+            assert!(
+                node.targets.is_empty(),
+                "the kept ones stand in their place"
+            );
+            &kept.targets
+        }
+    };
+    write_slots(block, TARGETS, targets, write_target);
+    write_slots(block, KEPT, node.kept.as_slice(), write_kept);
 }
 
 fn write_slots<T>(block: &mut [u8], slots: Slots, parts: &[T], write: fn(&mut [u8], &T)) {
@@ -72,6 +83,14 @@ fn write_target(slot: &mut [u8], target: &Target) {
     put_number(slot, TARGET_TIME, target.time);
     put_number(slot, TARGET_PARENT_TIME, target.parent_time);
     slot[TARGET_PARENT] = byte(target.parent);
+}
+
+fn write_kept(slot: &mut [u8], kept: &Restart) {
+    put_number(slot, KEPT_LOW, kept.low);
+    put_number(slot, KEPT_HIGH, kept.high);
+    for (row, entry) in kept.restored.iter().enumerate() {
+        put_number(slot, kept_restored(row), entry.time);
+    }
 }
 
 fn write_origin(slot: &mut [u8], at: usize, origin: Option<Origin>) {

@@ -7,11 +7,11 @@ use Rattle.frame.proofs.frame_of.Tie as tie
 returns : tie.Need-returns
 returns c = rw (c .before .match .keys1, ← c .before .before .number-of .ensures .0) (c .feed-of .ensures)
 
-last-kind : tie.Need-returns-6
+last-kind : tie.Need-returns-8
 last-kind c =
     let k = c .before .before .before .args .kind in
     let other = c .match .rest in
-    rw (ne-eqb k 1 (other .0 .0 .0 .0 .1), ne-eqb k 2 (other .0 .0 .0 .1), ne-eqb k 3 (other .0 .0 .1), ne-eqb k 4 (other .0 .1), ne-eqb k 5 (other .1), c .before .number-of .ensures .0)
+    rw (ne-eqb k 1 (other .0 .0 .0 .0 .0 .0 .1), ne-eqb k 2 (other .0 .0 .0 .0 .0 .1), ne-eqb k 3 (other .0 .0 .0 .0 .1), ne-eqb k 4 (other .0 .0 .0 .1), ne-eqb k 5 (other .0 .0 .1), ne-eqb k 6 (other .0 .1), ne-eqb k 7 (other .1), c .before .number-of .ensures .0)
 
 pub frame-of-spec : {M : Type 1} → statement M
 frame-of-spec =
@@ -25,4 +25,6 @@ frame-of-spec =
     (λ c. rw (c .match .keys3, c .before .number-of .ensures .0))
     (λ c. rw (c .match .keys4, c .before .number-of .ensures .0))
     (λ c. rw (c .match .keys5, c .before .number-of .ensures .0))
+    (λ c. rw (c .match .keys6, c .before .number-of .ensures .0))
+    (λ c. rw (c .match .keys7, c .before .number-of .ensures .0))
     last-kind)

@@ -1,10 +1,9 @@
-use Prim.Native.Nat.{ℕ, _+_, _*_, _-_}
-use mathlib.Core.Path.{_≡_, sym, _∙_}
+use Prim.Native.Nat.{ℕ, _+_, _*_}
+use mathlib.Core.Path.{_≡_, ap, _∙_}
 use native.Mathlib.Omega.{arith}
 use borrow.Author.Needs.{needs}
-use Rattle.state.specs.Sizes.{pageAt, nodeRestAt, nodeRest}
-use Rattle.node_check.specs.NodeCheck.{PageOf}
-use Rattle.node_check.proofs.PieceBytes.{zero-part}
+use Rattle.state.specs.Sizes.{pageAt}
+use Rattle.node_check.specs.NodeCheck.{PageOf, pageEndExact}
 use Rattle.node_check.proofs.NodeLaws.{head-node, node-tested}
 use Rattle.node_check.proofs.node_ok.Statement.{statement}
 use Rattle.node_check.proofs.node_ok.Tie as tie
@@ -24,10 +23,8 @@ targets-ok-requires c κs =
     let k = start .pre in
     (record { ready = k .0; within = k .2; start = omega arith }, record { ready = k .0; tabled = k .1; same = k .3 })
 
-all-zero-requires : tie.Need-all-zero-requires
-all-zero-requires c κs =
-    let k = c .before .before .before .before .before .pre in
-    (omega arith, omega (arith, k .0 .long, k .0 .nodes, k .2))
+rest-ok-requires : tie.Need-rest-ok-requires
+rest-ok-requires c κs = let k = c .before .before .before .before .before .pre in omega (arith, k .0 .long, k .0 .nodes, k .2)
 
 status-ok-requires : tie.Need-status-ok-requires
 status-ok-requires c κs = let k = c .before .before .before .before .before .before .pre in (record { ready = k .0; within = k .2; start = omega arith }, k .1)
@@ -44,12 +41,10 @@ returns c =
     let s = a .s .now in
     let at : ℕ = 4096 + 4096 * a .n in
     let same : at ≡ pageAt (a .n) = omega arith in
-    let from : at + 3604 ≡ pageAt (a .n) + nodeRestAt = omega arith in
-    let wide : at + 4096 - (at + 3604) ≡ nodeRest = omega arith in
     let page : PageOf s (a .n) at = record { ready = start .pre .0; within = start .pre .2; start = same } in
     let steps = start .pre .3 in
-    node-tested s (a .n) at page (head .head-ok .result) (log .log-ok .result) (held .held-ok .result) (targets .targets-ok .result) (rest .all-zero .result) (c .status-ok .result) (head .head-ok .ensures ∙ head-node s (a .n) at page (a .steps) steps) (log .log-ok .ensures) (held .held-ok .ensures) (targets .targets-ok .ensures)
-    (rest .all-zero .ensures ∙ zero-part (at + 3604) (at + 4096) (pageAt (a .n) + nodeRestAt) nodeRest s from wide)
+    node-tested s (a .n) at page (head .head-ok .result) (log .log-ok .result) (held .held-ok .result) (targets .targets-ok .result) (rest .rest-ok .result) (c .status-ok .result) (head .head-ok .ensures ∙ head-node s (a .n) at page (a .steps) steps) (log .log-ok .ensures) (held .held-ok .ensures) (targets .targets-ok .ensures)
+    (rest .rest-ok .ensures ∙ ap (λ (p : ℕ). pageEndExact p s) same)
     (c .status-ok .ensures)
 
 pub node-ok-spec : {M : Type 1} → statement M
@@ -62,8 +57,6 @@ node-ok-spec =
     log-ok-requires
     held-ok-requires
     targets-ok-requires
-    (λ c. search needs)
-    (λ c. search needs)
-    all-zero-requires
+    rest-ok-requires
     status-ok-requires
     returns)

@@ -36,7 +36,7 @@ returns c =
     let a = start .args in
     let now = taken .take-first .ensures (drop 1 (laneAt (lineOf (a .s .now)) (a .b) .queue)) (start .pre .1) in
     end-now {s = a .s .now} {t = taken .take-first .last .0} (start .pre .0) (messageIs (a .m)) now (heldIs (a .last)) (a .out .now) (a .count) (taken .before .before .high-of .result) (logged .log-placed .ensures)
-    (held .clear-held .ensures) (targets .clear-targets .ensures) (timed .set-time .ensures) (status .set-status .ensures) (taken .before .before .high-of .ensures)
+    (held .clear-held .ensures) (targets .clear-targets .ensures) (timed .set-time .ensures) (status .set-status .ensures) (taken .before .before .high-of .ensures) (start .pre .2 .unasked)
 
 pub end-spec : {M : Type 1} → statement M
 end-spec =

@@ -8,6 +8,7 @@ use Rattle.rules.specs.Lists.{joined}
 use Rattle.rules.specs.Line.{nodeNumbers}
 use Rattle.rules.specs.Sheet.{nodeText, lineText}
 use Rattle.state.specs.State.{lineOf}
+use Rattle.report.specs.Most.{nodeMost, textMost}
 use Rattle.report.proofs.NodesLaws.{numbers-long, number-at}
 use Rattle.report.proofs.WroteLaws.{Writing, wrote-most, writing-start, joined-turn, joined-end}
 use Rattle.report.proofs.line_text.Statement.{statement}
@@ -16,7 +17,7 @@ use Rattle.report.proofs.line_text.Tie as tie
 abbrev Inv-loop : tie.InvT-loop
 Inv-loop s out₀ at count to₀ n₀ out to n =
     let numbers = nodeNumbers (lineOf s) in
-    (n ≤ length numbers) × Writing (joined (map (nodeText (lineOf s)) numbers)) out₀ at (n * 5556) out to (joined (map (nodeText (lineOf s)) (drop n numbers)))
+    (n ≤ length numbers) × Writing (joined (map (nodeText (lineOf s)) numbers)) out₀ at (n * nodeMost) out to (joined (map (nodeText (lineOf s)) (drop n numbers)))
 
 abbrev μ-loop : tie.MeasureT-loop
 μ-loop s out₀ at count to₀ n₀ out to n = count - n
@@ -43,7 +44,7 @@ loop-again c =
     let long = numbers-long (a .s .now) (start .pre .0) in
     let here = c .before .before .before .before .loop-test .taken in
     let count = c .before .before .before .before .before .before .node-count .ensures .0 in
-    (omega (arith, here, count, long), joined-turn (nodeText l) 0 (nodeNumbers l) (v .n) 5556 (omega (arith, here, count, long)) (v .inv .1) (rw (number-at (a .s .now) (start .pre .0) (v .n) (omega (arith, here, count))) (c .before .before .node-text .ensures)))
+    (omega (arith, here, count, long), joined-turn (nodeText l) 0 (nodeNumbers l) (v .n) nodeMost (omega (arith, here, count, long)) (v .inv .1) (rw (number-at (a .s .now) (start .pre .0) (v .n) (omega (arith, here, count))) (c .before .before .node-text .ensures)))
 
 same-length : tie.Need-same-length Inv-loop μ-loop
 same-length c = c .before .loop .inv .1 .wrote .same
@@ -57,8 +58,8 @@ returns c =
     let l = lineOf (a .s .now) in
     let long = numbers-long (a .s .now) (start .pre .0) in
     let count = c .before .before .node-count .ensures in
-    let all = joined-end (nodeText l) 0 (nodeNumbers l) (v .n) 5556 (omega (arith, c .loop-test .left, count .0, long)) (v .inv .1) in
-    wrote-most 66672 (omega (arith, all .short, v .inv .0, long, count .0, count .1)) all
+    let all = joined-end (nodeText l) 0 (nodeNumbers l) (v .n) nodeMost (omega (arith, c .loop-test .left, count .0, long)) (v .inv .1) in
+    wrote-most textMost (omega (arith, all .short, v .inv .0, long, count .0, count .1)) all
 
 pub line-text-spec : {M : Type 1} → statement M
 line-text-spec =

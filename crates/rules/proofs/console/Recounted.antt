@@ -10,12 +10,12 @@ use Rattle.plan.specs.Plan.{entering, leaving}
 use Rattle.plan.specs.Mask.{setOf}
 use Rattle.placing.specs.Item.{Item}
 use Rattle.rules.specs.Lists.{allOf, joined, isEmpty}
-use Rattle.rules.specs.Line.{Origin, fed, made, Message, Entry, Held, Lane, Line, nodeAt, laneAt, senderOf, receiverOf, parents, withNode, withLane, withLanes}
-use Rattle.rules.specs.Frame.{Frame, feed, send, take, crash, recover, trim}
-use Rattle.rules.specs.Recover.{targetsOf, conflict, rowsComplete, highOf, recovered}
+use Rattle.rules.specs.Line.{Origin, fed, made, Message, Entry, Held, Target, Asked, Lane, Line, nodeAt, laneAt, senderOf, receiverOf, parents, withNode, withLane, withLanes}
+use Rattle.rules.specs.Frame.{Frame, feed, send, take, crash, recover, trim, ask, commit}
+use Rattle.rules.specs.Recover.{lowOf, highOf, restored, targetsOf, conflict, rowsComplete, restoredTo, recovered, beside, committed}
 use Rattle.rules.specs.Replay.{passedOn, isHeld, heldByRow, itemOf, itemsByRow, placing, nodePlaced, replayEnd, endedIfComplete}
 use Rattle.rules.specs.Trim.{floorTime, senderBelow, droppable, leading, behind, lowRaised, withLog, trimmedLine}
-use Rattle.rules.specs.Step.{someStopped, isNothing, noSuch, wrongNode, wrongStatus, besideCrashed, badRecord, sendable, nothingThere, queueFull, rowDone, firstRecord, toHold, takeLacks, noSpace, replaying, madeBy, sentLine, takenUp, takenReplaying, takenLane, takenFirst, crashedLine, recoveredLine, effect, noPlacing, lineRefusal}
+use Rattle.rules.specs.Step.{someStopped, isNothing, noSuch, wrongNode, wrongStatus, besideCrashed, noAnswer, badRecord, sendable, nothingThere, queueFull, rowDone, firstRecord, toHold, takeLacks, noSpace, replaying, madeBy, sentLine, takenUp, takenReplaying, takenLane, takenFirst, crashedLine, recoveredLine, askedLine, committedBy, committedLine, effect, noPlacing, lineRefusal}
 use Rattle.rules.proofs.theorem.Accepted.{firstOf}
 
 -- A choice between two things, taken before a function is applied or after.
@@ -84,9 +84,9 @@ module _ (newer : ℕ → ℕ) (counts : List ℕ) where
       let k = takenLane b m rest l in
       either (Option·map (reheaded newer counts)) (replaying l (receiverOf l b)) (ap (endedIfComplete (receiverOf l b)) (held-recounted b m k) ∙ ended-recounted (receiverOf l b) (takenReplaying b m k)) refl
 
-  restored-recounted : (n : ℕ) (l : Line) → recovered n (reheaded newer counts l) ≡ reheaded newer counts (recovered n l)
-  unfolding recovered
-  restored-recounted n l = lanes-twice _ _ (entering (l .plan) n) (leaving (l .plan) n) _
+  pub restored-recounted : (low : ℕ) (ts : List Target) (entry : ℕ → ℕ) (n : ℕ) (l : Line) → restoredTo low ts entry n (reheaded newer counts l) ≡ reheaded newer counts (restoredTo low ts entry n l)
+  unfolding restoredTo
+  restored-recounted low ts entry n l = lanes-twice _ _ (entering (l .plan) n) (leaving (l .plan) n) _
 
   crashed-recounted : (n : ℕ) (l : Line) → crashedLine n (reheaded newer counts l) ≡ reheaded newer counts (crashedLine n l)
   unfolding crashedLine
@@ -115,8 +115,23 @@ module _ (newer : ℕ → ℕ) (counts : List ℕ) where
   recovered-recounted : (n : ℕ) (l : Line) → recoveredLine n (reheaded newer counts l) ≡ Option·map (reheaded newer counts) (recoveredLine n l)
   unfolding recoveredLine
   recovered-recounted n l =
+      let same : recovered n (reheaded newer counts l) ≡ reheaded newer counts (recovered n l) = restored-recounted (lowOf l n) (targetsOf l n) (λ (c : ℕ). restored l n (senderOf l c)) n l in
       either (Option·map (reheaded newer counts)) (conflict (targetsOf l n)) refl
-      (either (Option·map (reheaded newer counts)) (isEmpty (targetsOf l n)) (ap some (restored-recounted n l)) (ap (endedIfComplete n) (restored-recounted n l) ∙ ended-recounted n (recovered n l)))
+      (either (Option·map (reheaded newer counts)) (isEmpty (targetsOf l n)) (ap some same) (ap (endedIfComplete n) same ∙ ended-recounted n (recovered n l)))
+
+  asked-recounted : (n : ℕ) (l : Line) (o : Option Line) → Option·map (λ (k : Line). askedLine n (reheaded newer counts l)) (Option·map (reheaded newer counts) o) ≡ Option·map (reheaded newer counts) (Option·map (λ (k : Line). askedLine n l) o)
+  unfolding askedLine
+  asked-recounted n l none = refl
+  asked-recounted n l (some k) = refl
+
+  by-recounted : (n : ℕ) (o : Option Asked) (l : Line) → committedBy n o (reheaded newer counts l) ≡ reheaded newer counts (committedBy n o l)
+  unfolding committed
+  by-recounted n none l = refl
+  by-recounted n (some a) l = restored-recounted (a .low) (nodeAt l n .targets) (beside (entering (l .plan) n) (a .entries)) n l
+
+  committed-recounted : (n : ℕ) (l : Line) → committedLine n (reheaded newer counts l) ≡ reheaded newer counts (committedLine n l)
+  unfolding committedLine
+  committed-recounted n l = by-recounted n (nodeAt l n .asked) l
 
   sent-recounted : (b : ℕ) (o : Option Entry) (l : Line) → sentLine b o (reheaded newer counts l) ≡ reheaded newer counts (sentLine b o l)
   unfolding withLane
@@ -131,6 +146,8 @@ module _ (newer : ℕ → ℕ) (counts : List ℕ) where
   effect-recounted l (crash n) = ap some (crashed-recounted n l)
   effect-recounted l (recover n) = recovered-recounted n l
   effect-recounted l (trim n) = ap some (trimmed-recounted n l)
+  effect-recounted l (ask n) = ap (Option·map (λ (k : Line). askedLine n (reheaded newer counts l))) (recovered-recounted n l) ∙ asked-recounted n l (recoveredLine n l)
+  effect-recounted l (commit n) = ap some (committed-recounted n l)
 
   placing-recounted : (l : Line) (f : Frame) → noPlacing (reheaded newer counts l) f ≡ noPlacing l f
   unfolding noPlacing
@@ -153,6 +170,8 @@ module _ (newer : ℕ → ℕ) (counts : List ℕ) where
   space-recounted l (crash n) = refl
   space-recounted l (recover n) = refl
   space-recounted l (trim n) = refl
+  space-recounted l (ask n) = refl
+  space-recounted l (commit n) = refl
 
   pub refusal-recounted : (l : Line) (f : Frame) → lineRefusal (reheaded newer counts l) f ≡ lineRefusal l f
   unfolding lineRefusal
@@ -160,7 +179,7 @@ module _ (newer : ℕ → ℕ) (counts : List ℕ) where
     where
       refused : Line → Frame → Bool → Bool → ℕ
       refused l f s t =
-          firstOf ((noSuch l f, 12) ∷ (someStopped l f, 25) ∷ (wrongNode l f, 13) ∷ (wrongStatus l f, 14) ∷ (besideCrashed l f, 15) ∷ (badRecord f, 16) ∷ (nothingThere l f, 17) ∷ (queueFull l f, 18) ∷ (rowDone l f, 19) ∷ (s, 20) ∷ (t, 23) ∷ []) 0
+          firstOf ((noSuch l f, 12) ∷ (someStopped l f, 25) ∷ (wrongNode l f, 13) ∷ (wrongStatus l f, 14) ∷ (besideCrashed l f, 15) ∷ (noAnswer l f, 26) ∷ (badRecord f, 16) ∷ (nothingThere l f, 17) ∷ (queueFull l f, 18) ∷ (rowDone l f, 19) ∷ (s, 20) ∷ (t, 23) ∷ []) 0
 
       same : (f : Frame) (s t : Bool) → refused (reheaded newer counts l) f s t ≡ refused l f s t
       same (feed n r) s t = refl
@@ -169,3 +188,5 @@ module _ (newer : ℕ → ℕ) (counts : List ℕ) where
       same (crash n) s t = refl
       same (recover n) s t = refl
       same (trim n) s t = refl
+      same (ask n) s t = refl
+      same (commit n) s t = refl

@@ -165,9 +165,9 @@ module _ (l : Line) (g : Ghost) (cut base : ℕ → ℕ) (fed : List Act) (recei
     abbrev placed : Node
     placed = nodePlaced l n (joined (heldByRow (nodeAt l n .held) l (entering (l .plan) n))) columns
 
-    node-now : n < nodeCount (l .plan) → nodeAt (withNode n placed l) n ≡ record { status = up; crashed = true; time = highOf l n; log = map (entryOf (l .plan) n) fs; held = []; targets = [] }
+    node-now : n < nodeCount (l .plan) → nodeAt (withNode n placed l) n ≡ record { status = up; crashed = true; time = highOf l n; log = map (entryOf (l .plan) n) fs; held = []; targets = []; asked = none }
     unfolding nodePlaced
-    node-now inside = node-there n placed l (rw (inv .shape .nodes-long) inside) ∙ (λ i. record { status = up; crashed = marked i; time = highOf l n; log = P .log-is i; held = []; targets = [] })
+    node-now inside = node-there n placed l (rw (inv .shape .nodes-long) inside) ∙ (λ i. record { status = up; crashed = marked i; time = highOf l n; log = P .log-is i; held = []; targets = []; asked = none })
 
     pub end-inv : n < nodeCount (l .plan) → (g′ : Ghost) × (cut′ : ℕ → ℕ) × Inv (withNode n (nodePlaced l n (joined (heldByRow (nodeAt l n .held) l (entering (l .plan) n))) columns) l) g′ cut′ base fed receipts crashes
     unfolding withNode

@@ -3,6 +3,7 @@ use Prim.Native.Nat.{ℕ, _<_}
 use mathlib.Core.Path.{_≡_, refl, sym, ap, subst, _∙_}
 use mathlib.Core.Logic.{_≢_}
 use mathlib.Core.Bool.{Bool, true, false, true≢false, cond}
+use mathlib.Core.Option.{none}
 use mathlib.Core.List.{List, [], _++_, map, map-map}
 use native.Mathlib.Omega.{arith}
 use native.Mathlib.Decide.{ℕ-discrete}
@@ -35,7 +36,7 @@ use Rattle.rules.proofs.ending.RebuildEvents.{Rebuilding, events, ghost
 module _ (l : Line) (g : Ghost) (cut base : ℕ → ℕ) (fed : List Act) (receipts : List Receipt) (crashes : List ℕ) (inv : Inv l g cut base fed receipts crashes) (n : ℕ) (inside : n < nodeCount (l .plan)) (replaying : nodeAt l n .status ≡ replay)
     (T : ℕ) (fs : List Event) (r : Rebuilding l g base n T fs)
     (steps : List ℕ) (nodes : List Node) (long : length nodes ≡ length (l .nodes))
-    (now : nodeAt (moved l steps nodes (l .lanes)) n ≡ record { status = up; crashed = true; time = T; log = map (entryOf (l .plan) n) fs; held = []; targets = [] })
+    (now : nodeAt (moved l steps nodes (l .lanes)) n ≡ record { status = up; crashed = true; time = T; log = map (entryOf (l .plan) n) fs; held = []; targets = []; asked = none })
     (other : (m : ℕ) → m ≢ n → nodeAt (moved l steps nodes (l .lanes)) m ≡ nodeAt l m) where
   abbrev k : Line
   k = moved l steps nodes (l .lanes)

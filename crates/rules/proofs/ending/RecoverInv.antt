@@ -85,7 +85,7 @@ module _ (l : Line) (g : Ghost) (cut base : ℕ → ℕ) (fed : List Act) (recei
   restored-got b h = elim (restored-is l g n (inv .ordered) took-own child b (h .0) (h .1)) [ inl z ↦ omega arith | inr (m, t, i, _, _, e) ↦ omega (arith, e, taken-cut inv n marked b m t h i) ]
 
   abbrev pub restoredNode : Status → Node
-  restoredNode s = record { status = s; crashed = true; time = lowOf l n; log = []; held = []; targets = targetsOf l n }
+  restoredNode s = record { status = s; crashed = true; time = lowOf l n; log = []; held = []; targets = targetsOf l n; asked = none }
 
   -- The line with the node restored, in a given status.
   abbrev pub restoredAs : Status → Line
@@ -327,8 +327,8 @@ module _ (l : Line) (g : Ghost) (cut base : ℕ → ℕ) (fed : List Act) (recei
     up-inv : (g′ : Ghost) × (cut′ : ℕ → ℕ) × Inv (restoredAs up) g′ cut′ baseAfter fed receipts crashes
     up-inv = (_, _, rebuild-inv r g cut baseAfter fed receipts crashes restored-inv n inside now-replays (lowOf l n) [] nothing-placed (l .steps) (restoredAs up .nodes) (nodes-count up ∙ sym (nodes-count replay)) now other)
       where
-        now : nodeAt (restoredAs up) n ≡ record { status = up; crashed = true; time = lowOf l n; log = []; held = []; targets = [] }
-        now = node-now up ∙ ap (λ (x : List Target). record { status = up; crashed = true; time = lowOf l n; log = []; held = []; targets = x }) no-targets
+        now : nodeAt (restoredAs up) n ≡ record { status = up; crashed = true; time = lowOf l n; log = []; held = []; targets = []; asked = none }
+        now = node-now up ∙ ap (λ (x : List Target). record { status = up; crashed = true; time = lowOf l n; log = []; held = []; targets = x; asked = none }) no-targets
 
         other : (m : ℕ) → m ≢ n → nodeAt (restoredAs up) m ≡ nodeAt (restoredAs replay) m
         other m d = node-other up m d ∙ sym (node-other replay m d)

@@ -1,9 +1,10 @@
 -- Reading a line after one node or one channel has changed.
 use Prim.Native.Nat.{ℕ, _<_}
-use mathlib.Core.Path.{_≡_, refl}
+use mathlib.Core.Path.{_≡_, refl, ap}
 use mathlib.Core.Logic.{_≢_}
+use mathlib.Core.List.{List}
 use lib.ListN.{length, length-set}
-use lib.Seq.{getD-set-same, getD-set-other}
+use lib.Seq.{getD-set-same, getD-set-other, set-getD, set-set}
 use Rattle.rules.specs.Line.{Node, Lane, Line, freshNode, noLane, nodeAt, laneAt, withNode, withLane}
 
 module _ (n : ℕ) (x : Node) (l : Line) where
@@ -22,6 +23,16 @@ module _ (n : ℕ) (x : Node) (l : Line) where
   pub nodes-long : length (withNode n x l .nodes) ≡ length (l .nodes)
   unfolding withNode
   nodes-long = length-set (l .nodes) n x
+
+  -- Changed twice, it is as it was changed last.
+  pub node-twice : (y : Node) → withNode n y (withNode n x l) ≡ withNode n y l
+  unfolding withNode
+  node-twice y = ap (λ (ns : List Node). record { plan = l .plan; steps = l .steps; nodes = ns; lanes = l .lanes }) (set-set (l .nodes) n x y)
+
+-- A node written as it is.
+pub node-same : (n : ℕ) (l : Line) → withNode n (nodeAt l n) l ≡ l
+unfolding withNode
+node-same n l = ap (λ (ns : List Node). record { plan = l .plan; steps = l .steps; nodes = ns; lanes = l .lanes }) (set-getD (l .nodes) n freshNode)
 
 module _ (b : ℕ) (x : Lane) (l : Line) where
   pub lane-there : b < length (l .lanes) → laneAt (withLane b x l) b ≡ x

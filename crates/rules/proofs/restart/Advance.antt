@@ -35,6 +35,8 @@ use Rattle.rules.proofs.invariant.MarkedLaws.{parent-up, goal-message, 
 use Rattle.rules.proofs.invariant.Stays.{moved}
 use Rattle.rules.proofs.steps.SendInv.{First, sendable-first}
 use Rattle.rules.proofs.steps.HoldInv.{next}
+use Rattle.rules.specs.Frame.{frameOf}
+use Rattle.rules.proofs.undamaged.StepSound.{FedBytes}
 use Rattle.rules.proofs.undamaged.Restored.{ended-up}
 use Rattle.rules.proofs.undamaged.TestLaws.{any-by}
 use Rattle.rules.proofs.theorem.Accepted.{CanTake}
@@ -49,6 +51,7 @@ use Rattle.rules.proofs.restart.RowsLeft.{total-less, leftBy, rowLeft, 
 -- A caller's frame on a channel that enters node n, accepted, after which the node is up or replays with less left.
 pub record Advances (l : Line) (w : Caller) (n : ℕ) : Type 0 where
   pub frame : List ℕ
+  pub plain : FedBytes (frameOf frame)
   pub shape : {frames : List (List ℕ)} → OnEntering (l .plan) w n frames → OnEntering (l .plan) w n (frame ∷ frames)
   pub accepted : refusal l frame ≡ 0
   pub after : (nodeAt (step l frame .line) n .status ≡ up) ⊎ ((nodeAt (step l frame .line) n .status ≡ replay) × (rowsLeft (step l frame .line) n < rowsLeft l n) × (step l frame .line .steps ≡ oneMore (consoleOf w) (l .steps)))
@@ -181,7 +184,7 @@ module _ (l : Line) (known : Known l) (b : ℕ) (inside : b < channelCount (l .p
               (subst After (sym on-is) (inr (a .status, less-left l (oneMore (consoleOf w) (r .steps)) (r .nodes) (r .lanes) n (a .targets) mine sender-same (λ d i q. lane-other d q) row-less, ap (oneMore (consoleOf w)) (a .steps))))
 
       take-advances : Advances l w n
-      take-advances = record { frame = takeFrame w b; shape = λ s. take-next b (is-named (l .plan) n b mine) s; accepted = take-accepted; after = rw line-is after-take }
+      take-advances = record { frame = takeFrame w b; plain = subst FedBytes (sym (take-formed w listed b .asks)) tt; shape = λ s. take-next b (is-named (l .plan) n b mine) s; accepted = take-accepted; after = rw line-is after-take }
 
     -- Nothing waits: what the row still wants is in the sender's log, past the mark, and is sent.
     module _ (empty : isEmpty (laneAt l b .queue) ≡ true) where
@@ -219,6 +222,7 @@ module _ (l : Line) (known : Known l) (b : ℕ) (inside : b < channelCount (l .p
             right-node = refl;
             right-status = ends-there l known b inside again;
             apart = refl;
+            answered = refl;
             record-good = refl;
             something = sendable-there;
             room = ap (λ (q : List Message). leb queueLimit (length q)) (empty-none (laneAt l b .queue) empty);
@@ -263,7 +267,7 @@ module _ (l : Line) (known : Known l) (b : ℕ) (inside : b < channelCount (l .p
 
       send-advances : Advances l w n
       unfolding counted withLane
-      send-advances = record { frame = sendFrame w b; shape = λ s. send-next b (is-named (l .plan) n b mine) s; accepted = send-accepted; after = rw sent-line (inr (again, send-less, refl)) }
+      send-advances = record { frame = sendFrame w b; plain = subst FedBytes (sym (send-formed w listed b .asks)) tt; shape = λ s. send-next b (is-named (l .plan) n b mine) s; accepted = send-accepted; after = rw sent-line (inr (again, send-less, refl)) }
 
     pub advance-at : Advances l w (receiverOf l b)
     advance-at = go (isEmpty (laneAt l b .queue)) refl

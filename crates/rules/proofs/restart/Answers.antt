@@ -13,8 +13,8 @@ use Rattle.plan.specs.Plan.{nodeCount, channelCount, channelAt}
 use Rattle.rules.specs.Lists.{isEmpty}
 use Rattle.rules.specs.Line.{stepLimit, consoleCount, stepsFrom, heldLimit, targetLimit, Status, down, replay, Line, noLane, nodeAt, laneAt, receiverOf, isDown}
 use Rattle.rules.specs.Frame.{Frame, take, recover, Caller, consoleOf}
-use Rattle.rules.specs.Recover.{targetsOf, rowComplete}
-use Rattle.rules.specs.Step.{noStepsLeft, noSuch, someStopped, wrongNode, wrongStatus, besideCrashed, badRecord, nothingThere, queueFull, rowDone, takeLacks, noSpace, effect, noPlacing, lineRefusal, refusal}
+use Rattle.rules.specs.Recover.{targetsOf, rowComplete, recovered}
+use Rattle.rules.specs.Step.{noStepsLeft, noSuch, someStopped, wrongNode, wrongStatus, besideCrashed, noAnswer, badRecord, nothingThere, queueFull, rowDone, takeLacks, noSpace, effect, noPlacing, lineRefusal, refusal}
 use Rattle.rules.specs.Restart.{takeFrame, recoverFrame, unlessUsedUp}
 use Rattle.rules.proofs.lists.Members.{in-keep}
 use Rattle.rules.proofs.lists.Counts.{in-long}
@@ -37,6 +37,7 @@ pub record Unrefused (l : Line) (f : Frame) : Type 0 where
   pub right-node : wrongNode l f ≡ false
   pub right-status : wrongStatus l f ≡ false
   pub apart : besideCrashed l f ≡ false
+  pub answered : noAnswer l f ≡ false
   pub record-good : badRecord f ≡ false
   pub something : nothingThere l f ≡ false
   pub room : queueFull l f ≡ false
@@ -66,6 +67,8 @@ answered l w {frame} {f} formed u goes = formed-refusal l formed ∙ go (noSteps
           lineRefusal,
           u .apart,
           lineRefusal,
+          u .answered,
+          lineRefusal,
           u .record-good,
           lineRefusal,
           u .something,
@@ -90,7 +93,7 @@ module _ (l : Line) (known : Known l) where
     | no h ↦ absurd (true≢false (sym (ap (λ (x : _). isEmpty (x .queue)) (List·getD-eq-default (l .lanes) noLane (omega (arith, inv .shape .lanes-long)))) ∙ e))
   ]
 
-  pub recover-unrefused : (n : ℕ) → nodeAt l n .status ≡ down → Unrefused l (recover n)
+  recover-unrefused : (n : ℕ) → nodeAt l n .status ≡ down → Unrefused l (recover n)
   recover-unrefused n e =
       let inside = not-up-inside (inv .shape) n (λ z. up-not-down (sym z ∙ e)) in
       let marked = marked-unless-up (inv .marks) n (λ z. up-not-down (sym z ∙ e)) in
@@ -101,6 +104,7 @@ module _ (l : Line) (known : Known l) where
         right-node = rw (source, sink);
         right-status = ap (λ (s : Status). not (isDown s)) e;
         apart = refl;
+        answered = refl;
         record-good = refl;
         something = refl;
         room = refl;
@@ -108,10 +112,11 @@ module _ (l : Line) (known : Known l) where
         space = le-ltb targetLimit (length (targetsOf l n)) (targets-few l ghost cut base fed receipts crashes inv n inside e);
       }
 
+  pub recover-restores : (n : ℕ) → nodeAt l n .status ≡ down → effect l (recover n) ≡ some (recovered n l)
+  recover-restores n e = let u = recover-unrefused n e in recover-goes l known n (may-recover l n (u .is-there) (u .right-node) (u .right-status))
+
   pub recovers : (w : Caller) → consoleOf w < consoleCount → (n : ℕ) → nodeAt l n .status ≡ down → refusal l (recoverFrame w n) ≡ unlessUsedUp l w
-  recovers w there n e =
-      let u = recover-unrefused n e in
-      answered l w (recover-formed w there n) u (λ h. (_, recover-goes l known n (may-recover l n (u .is-there) (u .right-node) (u .right-status))))
+  recovers w there n e = answered l w (recover-formed w there n) (recover-unrefused n e) (λ h. (_, recover-restores n e))
 
   -- The ends of a channel that enters a replaying node are not down.
   pub ends-there : (b : ℕ) → b < channelCount (l .plan) → nodeAt l (channelAt (l .plan) b .receiver) .status ≡ replay → wrongStatus l (take b) ≡ false
@@ -156,6 +161,7 @@ module _ (l : Line) (known : Known l) where
           right-node = refl;
           right-status = ends-there b inside again;
           apart = refl;
+          answered = refl;
           record-good = refl;
           something = queued;
           room = refl;

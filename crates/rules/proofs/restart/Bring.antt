@@ -20,12 +20,12 @@ use Rattle.rules.proofs.line.Consoles.{own-more}
 use Rattle.rules.proofs.invariant.Inv.{Shape, Ordered}
 use Rattle.rules.proofs.invariant.InvLaws.{not-up-inside, up-not-replay, up-not-down}
 use Rattle.rules.proofs.undamaged.Restored.{restoredLine, recovered-is, restored-node, restored-else}
-use Rattle.rules.proofs.theorem.Accepted.{may-recover, step-accepted}
+use Rattle.rules.proofs.theorem.Accepted.{step-accepted}
 use Rattle.rules.proofs.theorem.Unmoved.{step-plan}
+use Rattle.rules.proofs.undamaged.StepSound.{FedBytes}
 use Rattle.rules.proofs.restart.Known.{Known, known-step}
 use Rattle.rules.proofs.restart.Frames.{recover-formed, formed-line}
-use Rattle.rules.proofs.restart.NeverUnplaced.{recover-goes}
-use Rattle.rules.proofs.restart.Answers.{recover-unrefused, recovers}
+use Rattle.rules.proofs.restart.Answers.{recover-restores, recovers}
 use Rattle.rules.proofs.restart.RowsLeft.{rowsLeft, steps-left, steps-most}
 use Rattle.rules.proofs.restart.Advance.{Advances, some-left, advance-at, left-zero}
 use Rattle.rules.specs.Frame.{Caller, consoleOf}
@@ -45,28 +45,28 @@ story-numbers (f ∷ fs) s =
     story-numbers fs (told s f) ∙ append-assoc (s .numbers) (a .number ∷ []) rest ∙ ap (λ (ns : List ℕ). s .numbers ++ ns) (sym (story-numbers fs (told (startOf (s .line)) f)))
 
 -- At most j steps of a caller's on the channels that enter node n bring it up.
-record Brought (j : ℕ) (l : Line) (w : Caller) (n : ℕ) : Type 0 where
-  frames : List (List ℕ)
-  few : length frames ≤ j
-  shape : OnEntering (l .plan) w n frames
-  all-zero : storyFrom (startOf l) frames .numbers ≡ replicate (length frames) 0
-  back : nodeAt (storyFrom (startOf l) frames .line) n .status ≡ up
+pub record Brought (j : ℕ) (l : Line) (w : Caller) (n : ℕ) : Type 0 where
+  pub frames : List (List ℕ)
+  pub few : length frames ≤ j
+  pub shape : OnEntering (l .plan) w n frames
+  pub all-zero : storyFrom (startOf l) frames .numbers ≡ replicate (length frames) 0
+  pub back : nodeAt (storyFrom (startOf l) frames .line) n .status ≡ up
 
 brought-none : (j : ℕ) (l : Line) (w : Caller) (n : ℕ) → nodeAt l n .status ≡ up → Brought j l w n
 brought-none j l w n e = record { frames = []; few = omega arith; shape = no-more; all-zero = refl; back = e }
 
 -- The caller's own count, one step on.
-own-count : (l : Line) → Known l → (w : Caller) → consoleOf w < consoleCount → stepsFrom l (consoleOf w) < stepLimit → (k : Line) → k .steps ≡ oneMore (consoleOf w) (l .steps) → stepsFrom k (consoleOf w) ≡ suc (stepsFrom l (consoleOf w))
+pub own-count : (l : Line) → Known l → (w : Caller) → consoleOf w < consoleCount → stepsFrom l (consoleOf w) < stepLimit → (k : Line) → k .steps ≡ oneMore (consoleOf w) (l .steps) → stepsFrom k (consoleOf w) ≡ suc (stepsFrom l (consoleOf w))
 own-count l known w listed left k e = ap (λ (counts : List ℕ). getD counts (consoleOf w) 0) e ∙ own-more (known .steady .limits .counts) listed left
 
 -- An accepted frame, and then others.
 module _ (l : Line) (f : List ℕ) (z : refusal l f ≡ 0) where
-  zero-then : (fs : List (List ℕ)) → storyFrom (startOf (step l f .line)) fs .numbers ≡ replicate (length fs) 0 → storyFrom (startOf l) (f ∷ fs) .numbers ≡ replicate (suc (length fs)) 0
+  pub zero-then : (fs : List (List ℕ)) → storyFrom (startOf (step l f .line)) fs .numbers ≡ replicate (length fs) 0 → storyFrom (startOf l) (f ∷ fs) .numbers ≡ replicate (suc (length fs)) 0
   unfolding told
   zero-then fs e =
       story-numbers fs (told (startOf l) f) ∙ ap (λ (k : ℕ). k ∷ storyFrom (startOf (step l f .line)) fs .numbers) (step-accepted l f z .0) ∙ ap (λ (ns : List ℕ). 0 ∷ ns) e
 
-  line-then : (fs : List (List ℕ)) → storyFrom (startOf l) (f ∷ fs) .line ≡ storyFrom (startOf (step l f .line)) fs .line
+  pub line-then : (fs : List (List ℕ)) → storyFrom (startOf l) (f ∷ fs) .line ≡ storyFrom (startOf (step l f .line)) fs .line
   unfolding told
   line-then fs = story-line fs (told (startOf l) f)
 
@@ -115,7 +115,7 @@ bring (suc j) l known w listed n again few left =
     brought-then l (a .frame) (a .accepted) (λ frames s. a .shape s)
     (elim (a .after) [
       | inl e ↦ brought-none j next w n e
-      | inr (e, less, steps) ↦ bring j next (known-step l (a .frame) known) w listed n e (omega arith) (omega (arith, own-count l known w listed (omega arith) next steps))
+      | inr (e, less, steps) ↦ bring j next (known-step l (a .frame) (a .plain) known) w listed n e (omega arith) (omega (arith, own-count l known w listed (omega arith) next steps))
     ])
 
 bring-all : (l : Line) → Known l → (w : Caller) → consoleOf w < consoleCount → (n : ℕ) → nodeAt l n .status ≡ replay → stepsFrom l (consoleOf w) + replaySteps l n ≤ stepLimit → Brought (replaySteps l n) l w n
@@ -123,17 +123,14 @@ bring-all l known w listed n again left = bring (replaySteps l n) l known w list
 
 -- A node that is down is recovered first.
 module _ (l : Line) (known : Known l) (w : Caller) (listed : consoleOf w < consoleCount) (n : ℕ) (gone : nodeAt l n .status ≡ down) (left : stepsFrom l (consoleOf w) + suc (replaySteps (recovered n l) n) ≤ stepLimit) where
-  recover-accepted : refusal l (recoverFrame w n) ≡ 0
+  pub recover-accepted : refusal l (recoverFrame w n) ≡ 0
   recover-accepted = recovers l known w listed n gone ∙ left-zero l w (omega arith)
 
   abbrev next : Line
   next = step l (recoverFrame w n) .line
 
   next-is : next ≡ counted (consoleOf w) (recovered n l)
-  next-is =
-      let u = recover-unrefused l known n gone in
-      formed-line l (recover-formed w listed n) recover-accepted
-      ∙ ap (accepted (consoleOf w) l) (recover-goes l known n (may-recover l n (u .is-there) (u .right-node) (u .right-status)))
+  next-is = formed-line l (recover-formed w listed n) recover-accepted ∙ ap (accepted (consoleOf w) l) (recover-restores l known n gone)
 
   next-status : nodeAt next n .status ≡ statusOf (targetsOf l n)
   unfolding counted
@@ -145,16 +142,16 @@ module _ (l : Line) (known : Known l) (w : Caller) (listed : consoleOf w < conso
   unfolding counted
   next-steps = ap (λ (k : Line). k .steps) (next-is ∙ ap (counted (consoleOf w)) (recovered-is l n (known .inv .ordered) (known .inv .shape)))
 
-  next-left : replaySteps next n ≡ replaySteps (recovered n l) n
+  pub next-left : replaySteps next n ≡ replaySteps (recovered n l) n
   unfolding counted rowComplete
   next-left = ap (λ (k : Line). replaySteps k n) next-is
 
-  brought-after : Brought (replaySteps next n) next w n
+  pub brought-after : Brought (replaySteps next n) next w n
   brought-after = go (targetsOf l n) refl
     where
       go : (ts : List Target) → targetsOf l n ≡ ts → Brought (replaySteps next n) next w n
       go [] q = brought-none (replaySteps next n) next w n (next-status ∙ ap statusOf q)
-      go (t ∷ ts) q = bring-all next (known-step l (recoverFrame w n) known) w listed n (next-status ∙ ap statusOf q) (omega (arith, next-left, own-count l known w listed (omega arith) next next-steps))
+      go (t ∷ ts) q = bring-all next (known-step l (recoverFrame w n) (subst FedBytes (sym (recover-formed w listed n .asks)) tt) known) w listed n (next-status ∙ ap statusOf q) (omega (arith, next-left, own-count l known w listed (omega arith) next next-steps))
 
   recovered-back : ComesBack l w n
   recovered-back =

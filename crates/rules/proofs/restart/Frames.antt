@@ -6,9 +6,9 @@ use mathlib.Core.List.{List}
 use lib.Dec.{leb, eqb}
 use borrow.Author.Tests.{lt-leb}
 use Rattle.rules.specs.Line.{consoleCount, Line}
-use Rattle.rules.specs.Frame.{Frame, send, take, recover, frameConsole, frameOf, frameRefusal, Caller, unnamed, console, consoleOf}
+use Rattle.rules.specs.Frame.{Frame, send, take, recover, ask, commit, frameConsole, frameOf, frameRefusal, Caller, unnamed, console, consoleOf}
 use Rattle.rules.specs.Step.{noStepsLeft, lineRefusal, refusal, effect, accepted, step}
-use Rattle.rules.specs.Restart.{sendFrame, takeFrame, recoverFrame}
+use Rattle.rules.specs.Restart.{sendFrame, takeFrame, recoverFrame, askFrame, commitFrame}
 use Rattle.rules.proofs.theorem.Accepted.{step-accepted}
 
 -- A well-formed frame of console c that asks f.
@@ -34,6 +34,16 @@ pub take-formed : (w : Caller) → consoleOf w < consoleCount → (x : ℕ) → 
 unfolding frameRefusal frameConsole frameOf
 take-formed unnamed h x = record { formed = refl; from = refl; asks = refl }
 take-formed (console c) h x = record { formed = console-there c h; from = refl; asks = refl }
+
+pub ask-formed : (w : Caller) → consoleOf w < consoleCount → (x : ℕ) → Formed (askFrame w x) (consoleOf w) (ask x)
+unfolding frameRefusal frameConsole frameOf
+ask-formed unnamed h x = record { formed = refl; from = refl; asks = refl }
+ask-formed (console c) h x = record { formed = console-there c h; from = refl; asks = refl }
+
+pub commit-formed : (w : Caller) → consoleOf w < consoleCount → (x : ℕ) → Formed (commitFrame w x) (consoleOf w) (commit x)
+unfolding frameRefusal frameConsole frameOf
+commit-formed unnamed h x = record { formed = refl; from = refl; asks = refl }
+commit-formed (console c) h x = record { formed = console-there c h; from = refl; asks = refl }
 
 -- Such a frame gets as far as its caller's count.
 pub formed-refusal : (l : Line) {frame : List ℕ} {c : ℕ} {f : Frame} → Formed frame c f → refusal l frame ≡ (elim (noStepsLeft l c) [ true ↦ 12 | false ↦ lineRefusal l f ])

@@ -1,7 +1,7 @@
 -- What is known of every line that a list of frames leaves.
 use Prim.Native.Nat.{ℕ, zero, suc, _<_, _≤_}
 use mathlib.Core.Path.{_≡_, sym, ap, subst, _∙_}
-use mathlib.Core.Bool.{true, _&&_}
+use mathlib.Core.Bool.{true, false, _&&_}
 use mathlib.Core.List.{List, [], _∷_}
 use native.Mathlib.Omega.{arith}
 use native.Mathlib.Decide.{ℕ-discrete}
@@ -23,6 +23,11 @@ use Rattle.rules.proofs.invariant.Limits.{Steady}
 use Rattle.rules.proofs.steps.LoadInv.{start-steady, load-inv}
 use Rattle.rules.proofs.theorem.Accepted.{step-refused}
 use Rattle.rules.proofs.theorem.Unmoved.{step-plan}
+use Rattle.plan.specs.Lawful.{Each, Bytes}
+use Rattle.rules.specs.Frame.{frameOf}
+use Rattle.rules.specs.Damaged.{damaged}
+use Rattle.rules.proofs.undamaged.StartSound.{start-undamaged}
+use Rattle.rules.proofs.undamaged.StepSound.{FedBytes, frame-bytes, step-whole, answered-whole}
 use Rattle.rules.proofs.theorem.StepInv.{step-inv}
 use Rattle.rules.proofs.theorem.SteadyKept.{step-steady}
 
@@ -40,6 +45,7 @@ pub record Known (l : Line) : Type 0 where
   pub inv : Inv l ghost cut base fed receipts crashes
   pub steady : Steady 0 l
   pub rows : FewRows (l .plan)
+  pub whole : damaged l ≡ false
 
 few-below : (p : Plan) (k : ℕ) → fourAtMost p k ≡ true → (n : ℕ) → n < k → length (entering p n) ≤ 4
 few-below p zero e n h = let no : ⊥ = omega arith in absurd no
@@ -50,9 +56,10 @@ few-below p (suc k) e n h =
       | no d ↦ few-below p k rest n (omega arith)
     ]
 
-pub known-start : (plan : List ℕ) → planRefusal plan ≡ 0 → Known (initialLine (planOf plan))
+pub known-start : (plan : List ℕ) → Bytes plan → planRefusal plan ≡ 0 → Known (initialLine (planOf plan))
 unfolding initialLine
-known-start plan z = record {
+known-start plan bytes z = record {
+  whole = start-undamaged plan bytes z;
   ghost = _;
   cut = _;
   base = _;
@@ -64,11 +71,11 @@ known-start plan z = record {
   rows = few-below (planOf plan) (nodeCount (planOf plan)) (ap (fourAtMost (planOf plan)) (node-count plan) ∙ accepted plan z .degrees);
 }
 
-pub known-step : (l : Line) (f : List ℕ) → Known l → Known (step l f .line)
-known-step l f k =
+pub known-step : (l : Line) (f : List ℕ) → FedBytes (frameOf f) → Known l → Known (step l f .line)
+known-step l f bytes k =
     elim (ℕ-discrete (refusal l f) 0) [
       | yes e ↦
-          (let (g, cut, base, inv) = step-inv l (k .ghost) (k .cut) (k .base) (k .fed) (k .receipts) (k .crashes) (k .inv) (k .steady .limits .logs) f e in
+          (let (g, cut, base, inv) = step-inv l (k .ghost) (k .cut) (k .base) (k .fed) (k .receipts) (k .crashes) (k .inv) (k .steady .limits .logs) (answered-whole l (k .whole)) f e in
           record {
             ghost = g;
             cut = cut;
@@ -77,13 +84,14 @@ known-step l f k =
             receipts = _;
             crashes = _;
             inv = inv;
-            steady = step-steady l (k .ghost) (k .cut) (k .base) (k .fed) (k .receipts) (k .crashes) (k .inv) (k .steady) f e;
+            steady = step-steady l (k .ghost) (k .cut) (k .base) (k .fed) (k .receipts) (k .crashes) (k .inv) (k .steady) (answered-whole l (k .whole)) f e;
+            whole = step-whole l f bytes (k .whole);
             rows = subst FewRows (sym (step-plan l f)) (k .rows);
           })
       | no d ↦ subst Known (sym (step-refused l f d .1)) k
     ]
 
-pub known-all : (fs : List (List ℕ)) (s : Story) → Known (s .line) → Known (storyFrom s fs .line)
+pub known-all : (fs : List (List ℕ)) (s : Story) → Each Bytes fs → Known (s .line) → Known (storyFrom s fs .line)
 unfolding told
-known-all [] s k = k
-known-all (f ∷ fs) s k = known-all fs (told s f) (known-step (s .line) f k)
+known-all [] s each k = k
+known-all (f ∷ fs) s (b, each) k = known-all fs (told s f) each (known-step (s .line) f (frame-bytes f b) k)

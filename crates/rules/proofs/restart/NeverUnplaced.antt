@@ -1,14 +1,14 @@
 -- No frame is answered 24: each that gets so far leads to a line.
 use Prim.Native.Nat.{ℕ, _<_}
-use mathlib.Core.Path.{_≡_, sym, _∙_}
+use mathlib.Core.Path.{_≡_, sym, ap, _∙_}
 use mathlib.Core.Logic.{_≢_, inl, inr}
 use mathlib.Core.List.{List}
-use mathlib.Core.Option.{some}
+use mathlib.Core.Option.{some, Option·map}
 use Rattle.plan.specs.Plan.{channelAt}
 use Rattle.rules.specs.Line.{acceptedSteps, replay, Line, nodeAt, timeLimit}
-use Rattle.rules.specs.Frame.{Frame, feed, send, take, crash, recover, trim, frameOf}
+use Rattle.rules.specs.Frame.{Frame, feed, send, take, crash, recover, trim, ask, commit, frameOf}
 use Rattle.rules.specs.Recover.{recovered}
-use Rattle.rules.specs.Step.{takenLane, takenReplaying, effect, refusal}
+use Rattle.rules.specs.Step.{askedLine, takenLane, takenReplaying, effect, refusal}
 use Rattle.rules.proofs.lists.Options.{none-some}
 use Rattle.rules.proofs.line.Consoles.{counts-left}
 use Rattle.rules.proofs.ending.ReplayTakeInv.{Again, again}
@@ -57,6 +57,8 @@ module _ (l : Line) (known : Known l) where
   never-unplaced (crash n) u = none-some (sym (u .nowhere))
   never-unplaced (trim n) u = none-some (sym (u .nowhere))
   never-unplaced (recover n) u = none-some (sym (u .nowhere) ∙ recover-goes n (may-recover l n (u .is-there) (u .right-node) (u .right-status)))
+  never-unplaced (ask n) u = none-some (sym (u .nowhere) ∙ ap (Option·map (λ (k : Line). askedLine n l)) (recover-goes n (may-recover l n (u .is-there) (u .right-node) (u .right-status))))
+  never-unplaced (commit n) u = none-some (sym (u .nowhere))
 
   pub placed : (f : List ℕ) → refusal l f ≢ 24
   placed f e = never-unplaced (frameOf f) (unplaced l f e)

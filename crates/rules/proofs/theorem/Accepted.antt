@@ -12,12 +12,12 @@ use Rattle.basics.specs.Bools.{neither-true}
 use Rattle.plan.specs.Plan.{nodeCount, channelCount, channelAt, isSource, isSink, entering, leaving}
 use Rattle.rules.specs.Lists.{anyOf}
 use Rattle.rules.specs.Line.{stepLimit, consoleCount, stepsFrom, Message, Entry, Status, up, down, replay, Line, nodeAt, laneAt, isUp, isDown, isReplay}
-use Rattle.rules.specs.Frame.{Frame, feed, send, take, crash, recover, trim, frameConsole, frameOf, badFrameLength, badFrameVersion, badKind, badConsole}
+use Rattle.rules.specs.Frame.{Frame, feed, send, take, crash, recover, trim, ask, commit, frameConsole, frameOf, badFrameLength, badFrameVersion, badKind, badConsole}
 use Rattle.rules.specs.Recover.{rowGoal, rowComplete}
-use Rattle.rules.specs.Step.{isNothing, noStepsLeft, noSuch, someStopped, wrongNode, nodeDown, endDown, wrongStatus, neighbourCrashed, besideCrashed, badRecord, sendable, nothingThere, queueFull, rowDone, noSpace, effect, noPlacing, lineRefusal, refusal, accepted, step}
+use Rattle.rules.specs.Step.{isNothing, noStepsLeft, noSuch, someStopped, wrongNode, nodeDown, endDown, wrongStatus, neighbourCrashed, besideCrashed, noAnswer, badRecord, sendable, nothingThere, queueFull, rowDone, noSpace, recoveredLine, askedLine, effect, noPlacing, lineRefusal, refusal, accepted, step}
 use Rattle.rules.proofs.lists.ListLaws.{some-first}
 use Rattle.rules.proofs.lists.Members.{none-any, in-up-to}
-use Rattle.rules.proofs.lists.Options.{nothing-none, something-there}
+use Rattle.rules.proofs.lists.Options.{nothing-none, something-there, mapped-some}
 use Rattle.rules.proofs.invariant.Inv.{Enters, Leaves}
 use Rattle.rules.proofs.line.Joins.{in-entering, in-leaving}
 
@@ -77,7 +77,7 @@ admitted l f number apart e =
     let ((_, (_, (_, (console, (steps, _))))), last) = only-last number (firstTests l f) (lineRefusal l (frameOf f)) apart (sym (refusal-first l f) ∙ e) in
     record { console = leb-false consoleCount (frameConsole f) console; steps-left = leb-false stepLimit (stepsFrom l (frameConsole f)) steps; answer = last }
 
--- A frame of console c that is not refused: steps are left, no number from 13 on and not 26 applies, and it leads to a line.
+-- A frame of console c that is not refused: steps are left, no number from 13 on, 26 and 27 among them, applies, and it leads to a line.
 pub record Passed (l : Line) (c : ℕ) (f : Frame) : Type 0 where
   pub console : c < consoleCount
   pub steps-left : stepsFrom l c < stepLimit
@@ -86,6 +86,7 @@ pub record Passed (l : Line) (c : ℕ) (f : Frame) : Type 0 where
   pub right-node : wrongNode l f ≡ false
   pub right-status : wrongStatus l f ≡ false
   pub apart : besideCrashed l f ≡ false
+  pub answered : noAnswer l f ≡ false
   pub record-good : badRecord f ≡ false
   pub something : nothingThere l f ≡ false
   pub room : queueFull l f ≡ false
@@ -100,9 +101,9 @@ passed l frame e =
     let f = frameOf frame in
     let h = admitted l frame 0 (λ z. omega arith, (λ z. omega arith, (λ z. omega arith, (λ z. omega arith, (λ z. omega arith, tt))))) e in
     let tests : List (Bool × ℕ) =
-    (noSuch l f, 12) ∷ (someStopped l f, 25) ∷ (wrongNode l f, 13) ∷ (wrongStatus l f, 14) ∷ (besideCrashed l f, 15) ∷ (badRecord f, 16) ∷ (nothingThere l f, 17) ∷ (queueFull l f, 18) ∷ (rowDone l f, 19) ∷ (noSpace l f, 20)
+    (noSuch l f, 12) ∷ (someStopped l f, 25) ∷ (wrongNode l f, 13) ∷ (wrongStatus l f, 14) ∷ (besideCrashed l f, 15) ∷ (noAnswer l f, 26) ∷ (badRecord f, 16) ∷ (nothingThere l f, 17) ∷ (queueFull l f, 18) ∷ (rowDone l f, 19) ∷ (noSpace l f, 20)
     ∷ (noPlacing l f, 23) ∷ [] in
-    let (number, (stopped, (node, (status, (beside, (good, (offer, (room, (row, (space, (placed, last))))))))))) = none-of tests 0 (h .answer) .0 in
+    let (number, (stopped, (node, (status, (beside, (answer, (good, (offer, (room, (row, (space, (placed, last)))))))))))) = none-of tests 0 (h .answer) .0 in
     let (k, q) = something-there (effect l f) placed in
     record {
       console = h .console;
@@ -112,6 +113,7 @@ passed l frame e =
       right-node = node;
       right-status = status;
       apart = beside;
+      answered = answer;
       record-good = good;
       something = offer;
       room = room;
@@ -121,7 +123,7 @@ passed l frame e =
       leads = q;
     }
 
--- A frame of console c that gets as far as 24: steps are left, no number from 13 to 21 and not 26 applies, and it leads nowhere.
+-- A frame of console c that gets as far as 24: steps are left, no number from 13 to 21, not 26 and not 27 applies, and it leads nowhere.
 pub record Unplaced (l : Line) (c : ℕ) (f : Frame) : Type 0 where
   pub console : c < consoleCount
   pub steps-left : stepsFrom l c < stepLimit
@@ -138,10 +140,10 @@ unplaced l frame e =
     let f = frameOf frame in
     let h = admitted l frame 24 (λ z. omega arith, (λ z. omega arith, (λ z. omega arith, (λ z. omega arith, (λ z. omega arith, tt))))) e in
     let tests : List (Bool × ℕ) =
-    (noSuch l f, 12) ∷ (someStopped l f, 25) ∷ (wrongNode l f, 13) ∷ (wrongStatus l f, 14) ∷ (besideCrashed l f, 15) ∷ (badRecord f, 16) ∷ (nothingThere l f, 17) ∷ (queueFull l f, 18) ∷ (rowDone l f, 19) ∷ (noSpace l f, 20) ∷ [] in
+    (noSuch l f, 12) ∷ (someStopped l f, 25) ∷ (wrongNode l f, 13) ∷ (wrongStatus l f, 14) ∷ (besideCrashed l f, 15) ∷ (noAnswer l f, 26) ∷ (badRecord f, 16) ∷ (nothingThere l f, 17) ∷ (queueFull l f, 18) ∷ (rowDone l f, 19) ∷ (noSpace l f, 20) ∷ [] in
     let apart : NoneIs 24 tests =
-    (λ z. omega arith, (λ z. omega arith, (λ z. omega arith, (λ z. omega arith, (λ z. omega arith, (λ z. omega arith, (λ z. omega arith, (λ z. omega arith, (λ z. omega arith, (λ z. omega arith, tt)))))))))) in
-    let ((number, (_, (node, (status, (beside, (good, (offer, (room, (row, (space, _)))))))))), last) = only-last 24 tests (elim (noPlacing l f) [ true ↦ 24 | false ↦ 0 ]) apart (h .answer) in
+    (λ z. omega arith, (λ z. omega arith, (λ z. omega arith, (λ z. omega arith, (λ z. omega arith, (λ z. omega arith, (λ z. omega arith, (λ z. omega arith, (λ z. omega arith, (λ z. omega arith, (λ z. omega arith, tt))))))))))) in
+    let ((number, (_, (node, (status, (beside, (answer, (good, (offer, (room, (row, (space, _))))))))))), last) = only-last 24 tests (elim (noPlacing l f) [ true ↦ 24 | false ↦ 0 ]) apart (h .answer) in
     record {
       console = h .console;
       steps-left = h .steps-left;
@@ -163,8 +165,8 @@ unfolding lineRefusal noPlacing
 lacking l frame e =
     let f = frameOf frame in
     let h = admitted l frame 21 (λ z. omega arith, (λ z. omega arith, (λ z. omega arith, (λ z. omega arith, (λ z. omega arith, tt))))) e in
-    let tests : List (Bool × ℕ) = (noSuch l f, 12) ∷ (someStopped l f, 25) ∷ (wrongNode l f, 13) ∷ (wrongStatus l f, 14) ∷ (besideCrashed l f, 15) ∷ (badRecord f, 16) ∷ (nothingThere l f, 17) ∷ (queueFull l f, 18) ∷ (rowDone l f, 19) ∷ [] in
-    let apart : NoneIs 21 tests = (λ z. omega arith, (λ z. omega arith, (λ z. omega arith, (λ z. omega arith, (λ z. omega arith, (λ z. omega arith, (λ z. omega arith, (λ z. omega arith, (λ z. omega arith, tt))))))))) in
+    let tests : List (Bool × ℕ) = (noSuch l f, 12) ∷ (someStopped l f, 25) ∷ (wrongNode l f, 13) ∷ (wrongStatus l f, 14) ∷ (besideCrashed l f, 15) ∷ (noAnswer l f, 26) ∷ (badRecord f, 16) ∷ (nothingThere l f, 17) ∷ (queueFull l f, 18) ∷ (rowDone l f, 19) ∷ [] in
+    let apart : NoneIs 21 tests = (λ z. omega arith, (λ z. omega arith, (λ z. omega arith, (λ z. omega arith, (λ z. omega arith, (λ z. omega arith, (λ z. omega arith, (λ z. omega arith, (λ z. omega arith, (λ z. omega arith, tt)))))))))) in
     one (noSpace l f) (noPlacing l f) (only-last 21 tests (elim (noSpace l f) [ true ↦ 21 | false ↦ elim (noPlacing l f) [ true ↦ 24 | false ↦ 0 ] ]) apart (h .answer) .1)
   where
     one : (a b : Bool) → _≡_ {A = ℕ} (elim a [ true ↦ 21 | false ↦ elim b [ true ↦ 24 | false ↦ 0 ] ]) 21 → a ≡ true
@@ -275,6 +277,17 @@ may-recover l n is-there right-node right-status =
 
 pub can-recover : {l : Line} {c n : ℕ} → Passed l c (recover n) → CanRecover l n
 can-recover {l} {c} {n} p = may-recover l n (p .is-there) (p .right-node) (p .right-status)
+
+pub can-ask : {l : Line} {c n : ℕ} → Passed l c (ask n) → CanRecover l n
+can-ask {l} {c} {n} p = may-recover l n (p .is-there) (p .right-node) (p .right-status)
+
+pub can-commit : {l : Line} {c n : ℕ} → Passed l c (commit n) → CanRecover l n
+can-commit {l} {c} {n} p = may-recover l n (p .is-there) (p .right-node) (p .right-status)
+
+-- An Ask that leads to a line, where Recover would lead to one too.
+pub ask-leads : (l : Line) (n : ℕ) {k : Line} → effect l (ask n) ≡ some k → ((j : Line) × (recoveredLine n l ≡ some j)) × (askedLine n l ≡ k)
+unfolding effect
+ask-leads l n e = let (j, q, is) = mapped-some (λ (j : Line). askedLine n l) (recoveredLine n l) e in ((j, q), is)
 
 pub record CanTrim (l : Line) (n : ℕ) : Type 0 where
   pub here : n < nodeCount (l .plan)

@@ -16,11 +16,11 @@ use Rattle.plan.specs.Plan.{channelAt, channelCount, entering}
 use Rattle.plan.specs.Mask.{setOf}
 use Rattle.rules.specs.Lists.{allOf, joined, isEmpty}
 use Rattle.rules.specs.Line.{logLimit, heldLimit, fed, made, Origin, Message, Entry, Held, Status, up, replay, Node, Lane, Line, nodeAt, laneAt, acceptedSteps, withNode, withLane, freshLane, parents, isReplay, senderOf}
-use Rattle.rules.specs.Frame.{Frame, feed, send, take, crash, recover, trim, frameConsole, frameOf}
+use Rattle.rules.specs.Frame.{Frame, feed, send, take, crash, recover, trim, ask, commit, frameConsole, frameOf}
 use Rattle.rules.specs.Clock.{logged, sentOn, takenFrom, raiseHeard}
-use Rattle.rules.specs.Recover.{highOf, targetsOf, conflict, rowsComplete, recovered, statusOf}
+use Rattle.rules.specs.Recover.{highOf, targetsOf, conflict, rowsComplete, recovered, statusOf, answerOf}
 use Rattle.rules.specs.Replay.{passedOn, isHeld, heldByRow, itemsByRow, placing, nodePlaced, holding, replayEnd, endedIfComplete}
-use Rattle.rules.specs.Step.{takeLacks, madeBy, toHold, firstRecord, fedLine, sentLine, takenUp, takenLane, takenReplaying, recoveredLine, effect, refusal, accepted, step}
+use Rattle.rules.specs.Step.{takeLacks, madeBy, toHold, firstRecord, fedLine, sentLine, takenUp, takenLane, takenReplaying, recoveredLine, asking, askedLine, effect, refusal, accepted, step}
 use Rattle.rules.specs.Plain.{Act, Receipt}
 use Rattle.rules.proofs.lists.ListLaws.{empty-none}
 use Rattle.rules.proofs.lists.Options.{some-same, none-some}
@@ -38,11 +38,12 @@ use Rattle.rules.proofs.undamaged.Restored.{restoredNode, restoredLine,
 use Rattle.rules.proofs.undamaged.Crashed.{crashedAfter, crashed-is, crashed-node, crashed-else, crashed-enters, crashed-leaves, crashed-beside}
 use Rattle.rules.proofs.steps.CrashInv as CrashInv
 use Rattle.rules.proofs.ending.RecoverInv as RecoverInv
-use Rattle.rules.proofs.theorem.StepInv.{up-or-replay, sender-gives, taken-is, again-is}
+use Rattle.rules.proofs.theorem.StepInv.{up-or-replay, sender-gives, taken-is, again-is, Answered}
 use Rattle.rules.proofs.theorem.Unmoved.{effect-steps}
 use Rattle.rules.specs.Trim.{droppable, lowRaised}
 use Rattle.rules.proofs.invariant.Trimmed.{leading-behind, run, rest, trimmed, trimmed-is, trimmed-node, trimmed-else, node-same, lane-same}
-use Rattle.rules.proofs.theorem.Accepted.{can-trim, Passed, passed, step-accepted, can-feed, can-send, CanTake, can-take, can-crash, CanRecover, can-recover}
+use Rattle.rules.proofs.theorem.Accepted.{can-trim, Passed, passed, step-accepted, can-feed, can-send, CanTake, can-take, can-crash, CanRecover, can-recover, can-ask, can-commit, ask-leads}
+use Rattle.rules.proofs.undamaged.Committed.{commit-is, recover-leads, as-recover}
 
 -- The same with a step to spare.
 limits-later : {l : Line} → Limits 0 l → Limits 1 l
@@ -304,15 +305,36 @@ module _ (l : Line) (g : Ghost) (cut base : ℕ → ℕ) (acts : List Act) (rece
         open-rows = λ m. open-stays l (l .steps) (x .nodes) (x .lanes) m (node-same l n (inv .shape) (can .here) (λ (y : Node). y .status) refl m) (node-same l n (inv .shape) (can .here) (λ (y : Node). y .targets) refl m) (λ b h. takens b (h .0)) (s .open-rows m);
       })
 
-  pub effect-steady : {c : ℕ} (f : Frame) → Passed l c f → (k : Line) → effect l f ≡ some k → Steady 1 k
-  effect-steady (feed n r) p k e = feed-steady n r p k e
-  effect-steady (send b) p k e = send-steady b p k e
-  effect-steady (take b) p k e = take-steady b p k e
-  effect-steady (crash n) p k e = crash-steady n p k e
-  effect-steady (recover n) p k e = recover-steady n p k e
-  effect-steady (trim n) p k e = trim-steady n p k e
+  ask-steady : (n : ℕ) → {c : ℕ} → Passed l c (ask n) → (k : Line) → effect l (ask n) ≡ some k → Steady 1 k
+  unfolding withNode askedLine asking
+  ask-steady n p k e =
+      let can = can-ask p in
+      let x = asking (answerOf l n) (targetsOf l n) (nodeAt l n) in
+      let now : nodeAt (withNode n x l) n ≡ x = node-there n x l (rw (inv .shape .nodes-long) (can .here)) in
+      let limits = s .limits in
+      subst (Steady 1) (ask-leads l n e .1)
+      (record {
+        limits = limits-by l (withNode n x l .nodes) (l .lanes) n (node-else n x l) (rw now (limits .logs n)) (rw now (omega (arith, limits .times n))) (λ b h. omega (arith, limits .entries b h)) (omega arith) limits;
+        open-rows = λ m. elim (ℕ-discrete m n) [
+          | yes q ↦ λ z. absurd (replay-not-down (sym z ∙ ap (λ (y : ℕ). nodeAt (withNode n x l) y .status) q ∙ ap (λ (y : Node). y .status) now ∙ can .stopped))
+          | no d ↦ (let same = node-else n x l m d in open-stays l (l .steps) (withNode n x l .nodes) (l .lanes) m (ap (λ (y : Node). y .status) same) (ap (λ (y : Node). y .targets) same) (λ b h. refl) (s .open-rows m))
+        ];
+      })
 
-  pub step-steady : (f : List ℕ) → refusal l f ≡ 0 → Steady 0 (step l f .line)
-  step-steady f e =
+  pub effect-steady : Answered l → {c : ℕ} (f : Frame) → Passed l c f → (k : Line) → effect l f ≡ some k → Steady 1 k
+  effect-steady right (feed n r) p k e = feed-steady n r p k e
+  effect-steady right (send b) p k e = send-steady b p k e
+  effect-steady right (take b) p k e = take-steady b p k e
+  effect-steady right (crash n) p k e = crash-steady n p k e
+  effect-steady right (recover n) p k e = recover-steady n p k e
+  effect-steady right (trim n) p k e = trim-steady n p k e
+  effect-steady right (ask n) p k e = ask-steady n p k e
+  effect-steady right (commit n) p k e =
+      let can = can-commit p in
+      let q = as-recover l n p (right n) (inv .ordered) (inv .shape) (can .here) in
+      recover-steady n q k (recover-leads l n p (right n) (inv .ordered) (inv .shape) (can .here) ∙ sym (commit-is l n p (right n)) ∙ e)
+
+  pub step-steady : Answered l → (f : List ℕ) → refusal l f ≡ 0 → Steady 0 (step l f .line)
+  step-steady right f e =
       let p = passed l f e in
-      subst (Steady 0) (sym (step-accepted l f e .1 ∙ ap (accepted (frameConsole f) l) (p .leads))) (counted-steady (frameConsole f) (p .console) (rw (effect-steps l (frameOf f) (p .leads)) (p .steps-left)) (effect-steady (frameOf f) p (p .next) (p .leads)))
+      subst (Steady 0) (sym (step-accepted l f e .1 ∙ ap (accepted (frameConsole f) l) (p .leads))) (counted-steady (frameConsole f) (p .console) (rw (effect-steps l (frameOf f) (p .leads)) (p .steps-left)) (effect-steady right (frameOf f) p (p .next) (p .leads)))

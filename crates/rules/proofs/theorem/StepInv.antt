@@ -9,11 +9,12 @@ use lib.ListN.{length}
 use Rattle.basics.specs.Update.{changed}
 use Rattle.plan.specs.Record.{recordLayout}
 use Rattle.plan.specs.Plan.{channelAt, channelCount}
-use Rattle.rules.specs.Line.{logLimit, Message, Entry, Status, up, down, replay, Line, nodeAt, laneAt, parents, isReplay, senderOf, receiverOf}
-use Rattle.rules.specs.Frame.{Frame, feed, send, take, crash, recover, trim, frameConsole, frameOf}
+use Rattle.rules.specs.Line.{logLimit, Message, Entry, Status, up, down, replay, Asked, Line, nodeAt, laneAt, parents, isReplay, senderOf, receiverOf}
+use Rattle.rules.specs.Frame.{Frame, feed, send, take, crash, recover, trim, ask, commit, frameConsole, frameOf}
 use Rattle.rules.specs.Clock.{nextToSend, raiseHeard}
+use Rattle.rules.specs.Recover.{targetsOf, answerOf}
 use Rattle.rules.specs.Replay.{endedIfComplete}
-use Rattle.rules.specs.Step.{sendable, replaying, fedLine, sentLine, takenUp, takenLane, takenReplaying, takenFirst, takenLine, recoveredLine, effect, refusal, accepted, step}
+use Rattle.rules.specs.Step.{sendable, replaying, fedLine, sentLine, takenUp, takenLane, takenReplaying, takenFirst, takenLine, recoveredLine, askedLine, effect, refusal, accepted, step}
 use Rattle.rules.specs.Plain.{Act, feeds, Receipt}
 use Rattle.rules.specs.Claim.{firstReceipt, receiptOf, feedOf, crashOf}
 use Rattle.rules.proofs.lists.ListLaws.{nil-right}
@@ -30,7 +31,10 @@ use Rattle.rules.proofs.steps.CrashInv.{crash-inv}
 use Rattle.rules.proofs.ending.ReplayTakeInv.{replay-take-inv}
 use Rattle.rules.proofs.ending.RecoverInv.{recover-inv}
 use Rattle.rules.proofs.steps.CountedInv.{counted-inv}
-use Rattle.rules.proofs.theorem.Accepted.{Passed, passed, CanFeed, can-feed, CanSend, can-send, CanTake, can-take, CanCrash, can-crash, can-recover, CanTrim, can-trim, step-accepted}
+use Rattle.rules.proofs.theorem.Accepted.{Passed, passed, CanFeed, can-feed, CanSend, can-send, CanTake, can-take, CanCrash, can-crash, can-recover, CanTrim, can-trim, step-accepted, can-ask, can-commit, ask-leads, CanRecover}
+use Rattle.rules.proofs.steps.AskInv.{ask-inv}
+use Rattle.rules.proofs.undamaged.Standing.{Answers}
+use Rattle.rules.proofs.undamaged.Committed.{commit-is, recover-leads}
 
 -- The invariant holds with some history.
 abbrev pub Kept : Line → List Act → List Receipt → List ℕ → Type 0
@@ -127,18 +131,26 @@ module _ (l : Line) (g : Ghost) (cut base : ℕ → ℕ) (fed : List Act) (recei
   unfolding effect
   recover-is n = refl
 
+-- Kept answers are right, as they are in an undamaged line.
+abbrev pub Answered : Line → Type 0
+Answered l = (n : ℕ) (a : Asked) → nodeAt l n .asked ≡ some a → Answers l n a
+
 -- Every accepted frame keeps the invariant.
 abbrev pub Steps : Type 0
 Steps =
     (l : Line) (g : Ghost) (cut base : ℕ → ℕ) (fed : List Act) (receipts : List Receipt) (crashes : List ℕ) → Inv l g cut base fed receipts crashes
-    → ((n : ℕ) → length (nodeAt l n .log) ≤ logLimit) → (f : List ℕ) → refusal l f ≡ 0 → Kept (step l f .line) (fed ++ feedOf (frameOf f)) (receipts ++ receiptOf l (frameOf f)) (crashes ++ crashOf (frameOf f))
+    → ((n : ℕ) → length (nodeAt l n .log) ≤ logLimit) → Answered l → (f : List ℕ) → refusal l f ≡ 0 → Kept (step l f .line) (fed ++ feedOf (frameOf f)) (receipts ++ receiptOf l (frameOf f)) (crashes ++ crashOf (frameOf f))
 
-module _ (l : Line) (g : Ghost) (cut base : ℕ → ℕ) (fed : List Act) (receipts : List Receipt) (crashes : List ℕ) (inv : Inv l g cut base fed receipts crashes) (logs : (n : ℕ) → length (nodeAt l n .log) ≤ logLimit) where
+module _ (l : Line) (g : Ghost) (cut base : ℕ → ℕ) (fed : List Act) (receipts : List Receipt) (crashes : List ℕ) (inv : Inv l g cut base fed receipts crashes) (logs : (n : ℕ) → length (nodeAt l n .log) ≤ logLimit) (right : Answered l) where
   take-step : (b : ℕ) → CanTake l b → (k : Line) → effect l (take b) ≡ some k → Kept k fed (receipts ++ receiptOf l (take b)) crashes
   take-step b can k e = elim (up-or-replay (nodeAt l (channelAt (l .plan) b .receiver) .status) (can .receiver)) [
     | inl alive ↦ (_, _, _, take-up-step l g cut base fed receipts crashes inv b can alive k e)
     | inr q ↦ take-again-step l g cut base fed receipts crashes inv b can q k e
   ]
+
+  asked-inv : (n : ℕ) → CanRecover l n → Inv (askedLine n l) g cut base fed receipts crashes
+  unfolding askedLine
+  asked-inv n can = ask-inv l g cut base fed receipts crashes inv n (can .here) (can .stopped) (answerOf l n) (targetsOf l n)
 
   effect-inv : {c : ℕ} (f : Frame) → Passed l c f → (k : Line) → effect l f ≡ some k → Kept k (fed ++ feedOf f) (receipts ++ receiptOf l f) (crashes ++ crashOf f)
   effect-inv (feed n r) p k e = kept-same refl refl (nil-right receipts) (nil-right crashes) (_, _, _, feed-step l g cut base fed receipts crashes inv n r (can-feed p) k e)
@@ -149,9 +161,16 @@ module _ (l : Line) (g : Ghost) (cut base : ℕ → ℕ) (fed : List Act) (recei
   effect-inv (recover n) p k e =
       let can = can-recover p in
       kept-same refl (nil-right fed) (nil-right receipts) (nil-right crashes) (recover-inv l g cut base fed receipts crashes inv n (can .here) (can .stopped) k (sym (recover-is l g cut base fed receipts crashes inv n) ∙ e))
+  effect-inv (ask n) p k e =
+      kept-same refl (nil-right fed) (nil-right receipts) (nil-right crashes) (g, cut, base, subst (λ (x : Line). Inv x g cut base fed receipts crashes) (ask-leads l n e .1) (asked-inv n (can-ask p)))
+  effect-inv (commit n) p k e =
+      let can = can-commit p in
+      let q = recover-leads l n p (right n) (inv .ordered) (inv .shape) (can .here) in
+      kept-same refl (nil-right fed) (nil-right receipts) (nil-right crashes)
+      (recover-inv l g cut base fed receipts crashes inv n (can .here) (can .stopped) k (sym (recover-is l g cut base fed receipts crashes inv n) ∙ q ∙ sym (commit-is l n p (right n)) ∙ e))
 
 pub step-inv : Steps
-step-inv l g cut base fed receipts crashes inv logs f e =
+step-inv l g cut base fed receipts crashes inv logs right f e =
     let p = passed l f e in
-    let (g′, cut′, base′, inv′) = effect-inv l g cut base fed receipts crashes inv logs (frameOf f) p (p .next) (p .leads) in
+    let (g′, cut′, base′, inv′) = effect-inv l g cut base fed receipts crashes inv logs right (frameOf f) p (p .next) (p .leads) in
     kept-same (step-accepted l f e .1 ∙ ap (accepted (frameConsole f) l) (p .leads)) refl refl refl (g′, cut′, base′, counted-inv (frameConsole f) inv′)

@@ -19,7 +19,7 @@ use Rattle.plan.specs.Mask.{setOf}
 use Rattle.rules.specs.Lists.{keepOne}
 use Rattle.rules.specs.Line.{Origin, fed, made, Message, Entry, Target, down, replay, Node, Lane, Line, noLane, nodeAt, laneAt, senderOf, receiverOf, withNode, withLane, parents, counted}
 use Rattle.rules.specs.Line as line
-use Rattle.rules.specs.Frame.{Frame, feed, send, take, crash, recover, trim, frameOf, frameConsole}
+use Rattle.rules.specs.Frame.{Frame, feed, send, take, crash, recover, trim, ask, commit, frameOf, frameConsole}
 use Rattle.rules.specs.Clock.{logged, messageOf, raiseHeard, takenFrom, entryFor}
 use Rattle.rules.specs.Recover.{rowGoal}
 use Rattle.rules.specs.Step.{madeBy, takenLane, takenUp, takenReplaying, fedLine, effect, refusal, accepted, step}
@@ -280,6 +280,8 @@ module _ (l : Line) (known : Known l) where
     effect-holds follow (crash n) p k ahead e = none-new k ahead
     effect-holds follow (recover n) p k ahead e = none-new k ahead
     effect-holds follow (trim n) p k ahead e = none-new k ahead
+    effect-holds follow (ask n) p k ahead e = none-new k ahead
+    effect-holds follow (commit n) p k ahead e = none-new k ahead
 
 -- Counts do not matter.
 counted-ahead : (p : Plan) (c : ℕ) (l k : Line) → Ahead p l k → Ahead p l (counted c k)

@@ -18,8 +18,10 @@ use Rattle.rules.specs.Clock.{entryFor}
 use Rattle.rules.specs.Trim.{entriesFor, floorTime}
 use Rattle.rules.specs.Step.{refusal, step}
 use Rattle.rules.specs.Claim.{crashOf, startOf, storyFrom}
-use Rattle.rules.specs.Ticks.{FollowedMessage, FollowedTake, FollowedFrames, Trace, isFollowed, newFollowed, tookFirst, newTook, traced, traceFrom, noTrace, someFollowed, lastFollowed, fromEachSource, takenByAll, FloorsRise, NoneInReplay}
+use Rattle.rules.specs.Ticks.{FollowedMessage, FollowedTake, FollowedFrames, framesOf, Trace, isFollowed, newFollowed, tookFirst, newTook, traced, traceFrom, noTrace, someFollowed, lastFollowed, fromEachSource, takenByAll, FloorsRise, NoneInReplay}
 use Rattle.rules.proofs.lists.Members.{In, in-none, in-first, some-in, keep-in, map-in, append-in, joined-in, all-in, any-in, in-any, in-up-to, greatest-in, least-above}
+use Rattle.plan.specs.Lawful.{Each, Bytes}
+use Rattle.rules.proofs.undamaged.StepSound.{frame-bytes}
 use Rattle.rules.proofs.line.Joins.{in-leaving, leaving-in, entering-in}
 use Rattle.rules.proofs.invariant.Inv.{Leaves, Ordered}
 use Rattle.rules.proofs.theorem.Accepted.{Passed, passed, can-take, step-accepted, step-refused}
@@ -68,29 +70,29 @@ traced-holds t follow f known shaped holds quiet =
           subst₂-back (Holds (l .plan) (step l f .line)) (if-refused n made-now (t .followed) not-zero) (if-refused n took-now (t .took) not-zero) (subst (λ (x : Line). Holds (l .plan) x (t .followed) (t .took)) (sym same) holds))
     ]
 
-trace-kept : (p : Plan) (fs : FollowedFrames) (t : Trace) → traceFrom t fs .crashes ≡ [] → Kept p t → Kept p (traceFrom t fs)
+trace-kept : (p : Plan) (fs : FollowedFrames) (t : Trace) → Each Bytes (framesOf fs) → traceFrom t fs .crashes ≡ [] → Kept p t → Kept p (traceFrom t fs)
 unfolding traced
-trace-kept p [] t quiet kept = kept
-trace-kept p ((follow, f) ∷ fs) t quiet kept =
+trace-kept p [] t each quiet kept = kept
+trace-kept p ((follow, f) ∷ fs) t (b, each) quiet kept =
     let l = t .line in
     let q = kept .plan in
     let now = none-before fs (traced t (follow, f)) quiet in
-    trace-kept p fs (traced t (follow, f)) quiet
+    trace-kept p fs (traced t (follow, f)) each quiet
     (record {
       plan = step-plan l f ∙ q;
-      known = known-step l f (kept .known);
+      known = known-step l f (frame-bytes f b) (kept .known);
       shaped = step-shaped p l f q (kept .shaped);
       holds = subst (λ (x : Plan). Holds x (traced t (follow, f) .line) (traced t (follow, f) .followed) (traced t (follow, f) .took)) q
           (traced-holds t follow f (kept .known) (subst (λ (x : Plan). Shaped x l) (sym q) (kept .shaped)) (subst (λ (x : Plan). Holds x l (t .followed) (t .took)) (sym q) (kept .holds)) now);
     })
 
-start-kept : (plan : List ℕ) (before : List (List ℕ)) → planRefusal plan ≡ 0 → Kept (planOf plan) (noTrace (storyFrom (startOf (initialLine (planOf plan))) before .line))
+start-kept : (plan : List ℕ) (before : List (List ℕ)) → Bytes plan → Each Bytes before → planRefusal plan ≡ 0 → Kept (planOf plan) (noTrace (storyFrom (startOf (initialLine (planOf plan))) before .line))
 unfolding initialLine
-start-kept plan before z =
+start-kept plan before bytes each z =
     let (q, shaped) = all-shaped (planOf plan) before (startOf (initialLine (planOf plan))) refl (start-shaped (planOf plan)) in
     record {
       plan = q;
-      known = known-all before (startOf (initialLine (planOf plan))) (known-start plan z);
+      known = known-all before (startOf (initialLine (planOf plan))) each (known-start plan bytes z);
       shaped = shaped;
       holds = record { made-ones = λ m i. absurd (in-none i); taken-ones = λ o i. absurd (in-none i) };
     }
@@ -199,9 +201,9 @@ module _ (t : Trace) (ordered : Ordered (t .line .plan)) (holds : Holds (t .line
       ]
 
 pub floors-rise : FloorsRise
-floors-rise plan before frames z quiet each all n inside =
+floors-rise plan before frames bytes each-before each-frame z quiet each all n inside =
     let t = traceFrom (noTrace (storyFrom (startOf (initialLine (planOf plan))) before .line)) frames in
-    let kept = trace-kept (planOf plan) frames (noTrace (storyFrom (startOf (initialLine (planOf plan))) before .line)) quiet (start-kept plan before z) in
+    let kept = trace-kept (planOf plan) frames (noTrace (storyFrom (startOf (initialLine (planOf plan))) before .line)) each-frame quiet (start-kept plan before bytes each-before z) in
     go t (planOf plan) kept each all inside
   where
     go : (t : Trace) (p : Plan) → Kept p t → fromEachSource p t ≡ true → takenByAll p t ≡ true → n < nodeCount p → (someFollowed t n ≡ true) × (lastFollowed t n ≤ floorTime (t .line) n)
@@ -215,9 +217,9 @@ floors-rise plan before frames z quiet each all n inside =
 
 -- No replaying node takes one of them.
 pub none-in-replay : NoneInReplay
-none-in-replay plan before frames z quiet f number b is again =
+none-in-replay plan before frames bytes each-before each-frame z quiet f number b is again =
     let t = traceFrom (noTrace (storyFrom (startOf (initialLine (planOf plan))) before .line)) frames in
-    go t (planOf plan) (trace-kept (planOf plan) frames (noTrace (storyFrom (startOf (initialLine (planOf plan))) before .line)) quiet (start-kept plan before z)) number again
+    go t (planOf plan) (trace-kept (planOf plan) frames (noTrace (storyFrom (startOf (initialLine (planOf plan))) before .line)) each-frame quiet (start-kept plan before bytes each-before z)) number again
   where
     go : (t : Trace) (p : Plan) → Kept p t → step (t .line) f .number ≡ 0 → nodeAt (t .line) (receiverOf (t .line) b) .status ≡ replay → newTook (t .line) (t .followed) (frameOf f) ≡ []
     go t p kept number again =

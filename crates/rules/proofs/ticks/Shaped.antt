@@ -10,20 +10,20 @@ use native.Mathlib.Decide.{ℕ-discrete}
 use lib.ListN.{length, length-map, length-replicate}
 use Rattle.plan.specs.declared.Channel.{Channel}
 use Rattle.plan.specs.Plan.{Plan, channelAt, channelCount, noChannel, entering, leaving}
-use Rattle.rules.specs.Line.{Message, Entry, Node, Lane, Line, noLane, initialLine, nodeAt, laneAt, senderOf, receiverOf, withNode, withLane, withLanes, counted, parents, freshLane}
-use Rattle.rules.specs.Frame.{Frame, feed, send, take, crash, recover, trim, frameOf, frameConsole}
+use Rattle.rules.specs.Line.{Message, Entry, Asked, Node, Lane, Line, noLane, initialLine, nodeAt, laneAt, senderOf, receiverOf, withNode, withLane, withLanes, counted, parents, freshLane}
+use Rattle.rules.specs.Frame.{Frame, feed, send, take, crash, recover, trim, ask, commit, frameOf, frameConsole}
 use Rattle.rules.specs.Clock.{sentOn, takenFrom}
-use Rattle.rules.specs.Recover.{targetsOf, conflict, restored, recovered}
+use Rattle.rules.specs.Recover.{targetsOf, conflict, restored, beside, committed, recovered}
 use Rattle.rules.specs.Replay.{passedOn, holding, endedIfComplete}
 use Rattle.rules.specs.Trim.{lowRaised, trimmedLine}
 use Rattle.rules.specs.Lists.{isEmpty}
-use Rattle.rules.specs.Step.{madeBy, replaying, sendable, sentLine, fedLine, takenLane, takenUp, takenReplaying, takenFirst, takenLine, crashedLine, recoveredLine, effect, refusal, accepted, step}
+use Rattle.rules.specs.Step.{madeBy, replaying, sendable, sentLine, fedLine, takenLane, takenUp, takenReplaying, takenFirst, takenLine, crashedLine, recoveredLine, askedLine, committedBy, committedLine, effect, refusal, accepted, step}
 use Rattle.rules.specs.Claim.{Story, told, storyFrom}
 use Rattle.rules.proofs.lists.ListLaws.{map-at}
 use Rattle.rules.proofs.lists.Options.{some-same, none-some}
 use Rattle.rules.proofs.line.LineLaws.{lane-there, lane-else, lanes-long}
 use Rattle.rules.proofs.invariant.Lows.{raise-long}
-use Rattle.rules.proofs.theorem.Accepted.{passed, step-accepted, step-refused}
+use Rattle.rules.proofs.theorem.Accepted.{passed, step-accepted, step-refused, ask-leads}
 use Rattle.rules.proofs.theorem.Unmoved.{step-plan}
 use Rattle.rules.proofs.ticks.Steps.{ended-cases}
 
@@ -115,14 +115,25 @@ module _ (l : Line) (was : Shaped (l .plan) l) where
   unfolding trimmedLine lowRaised withNode
   trim-shaped n = lanes-shaped p _ (λ b s h. h) (entering (l .plan) n) _ was
 
+  committed-shaped : (n : ℕ) (o : Option Asked) → Shaped (l .plan) (committedBy n o l)
+  unfolding committed withNode
+  committed-shaped n none = was
+  committed-shaped n (some a) = lanes-shaped p _ (λ b s h. fresh-shaped p b (beside (entering (l .plan) n) (a .entries) b)) (entering (l .plan) n) _ (lanes-shaped p _ (λ b s h. h) (leaving (l .plan) n) _ was)
+
+  asked-shaped : (n : ℕ) → Shaped (l .plan) (askedLine n l)
+  unfolding askedLine withNode
+  asked-shaped n = was
+
   effect-shaped : (f : Frame) (k : Line) → effect l f ≡ some k → Shaped (l .plan) k
-  unfolding effect takenLine
+  unfolding effect takenLine committedLine
   effect-shaped (feed n r) k e = subst (Shaped p) (some-same e) (fed-shaped n r)
   effect-shaped (send b) k e = subst (Shaped p) (some-same e) (sent-shaped b (sendable l b))
   effect-shaped (take b) k e = first-shaped b (laneAt l b .queue) k e
   effect-shaped (crash n) k e = subst (Shaped p) (some-same e) (crash-shaped n)
   effect-shaped (recover n) k e = recover-shaped n k e
   effect-shaped (trim n) k e = subst (Shaped p) (some-same e) (trim-shaped n)
+  effect-shaped (ask n) k e = subst (Shaped p) (ask-leads l n e .1) (asked-shaped n)
+  effect-shaped (commit n) k e = subst (Shaped p) (some-same e) (committed-shaped n (nodeAt l n .asked))
 
 counted-shaped : (p : Plan) (c : ℕ) (l : Line) → Shaped p l → Shaped p (counted c l)
 unfolding counted

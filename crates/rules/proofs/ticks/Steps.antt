@@ -14,12 +14,12 @@ use Rattle.plan.specs.Plan.{Plan, channelAt, nodeCount, channelCount, entering}
 use Rattle.plan.specs.Mask.{setOf}
 use Rattle.rules.specs.Lists.{allOf, joined}
 use Rattle.rules.specs.Line.{Origin, fed, made, Message, Entry, Target, up, down, replay, Node, Lane, Line, noLane, nodeAt, laneAt, senderOf, withNode, withLane, parents}
-use Rattle.rules.specs.Frame.{Frame, feed, send, take, crash, recover, trim}
+use Rattle.rules.specs.Frame.{Frame, feed, send, take, crash, recover, trim, ask, commit}
 use Rattle.rules.specs.Clock.{logged, sentOn, takenFrom, entryFor}
-use Rattle.rules.specs.Recover.{highOf, targetsOf, statusOf, rowsComplete, recovered}
+use Rattle.rules.specs.Recover.{highOf, answerOf, targetsOf, statusOf, rowsComplete, recovered}
 use Rattle.rules.specs.Replay.{heldByRow, isHeld, itemsByRow, placing, nodePlaced, replayEnd, endedIfComplete}
 use Rattle.rules.specs.Trim.{droppable, leading, behind, withLog, trimmedLine, lowRaised}
-use Rattle.rules.specs.Step.{madeBy, sentLine, fedLine, takenLane, takenUp, takenReplaying, effect}
+use Rattle.rules.specs.Step.{madeBy, sentLine, fedLine, takenLane, takenUp, takenReplaying, asking, askedLine, effect}
 use Rattle.rules.specs.Plain.{Act}
 use Rattle.rules.specs.Claim.{crashOf}
 use Rattle.rules.proofs.lists.Members.{In, here, in-none, in-first, in-right, append-in}
@@ -33,8 +33,11 @@ use Rattle.rules.proofs.invariant.Trimmed.{leading-behind, nodeAfter, t
 use Rattle.rules.proofs.ending.Children.{made-parts}
 use Rattle.rules.proofs.ending.Targets.{targets-from, triples-at-in}
 use Rattle.rules.proofs.undamaged.Restored.{restoredNode, restoredLine, recovered-is, restored-node, restored-else, restored-leaves, restored-beside}
-use Rattle.rules.proofs.theorem.Accepted.{Passed, CanFeed, can-feed, CanSend, can-send, CanTake, can-take, CanRecover, can-recover, CanTrim, can-trim}
+use Rattle.rules.proofs.theorem.Accepted.{Passed, CanFeed, can-feed, CanSend, can-send, CanTake, can-take, CanRecover, can-recover, CanTrim, can-trim, can-ask, can-commit, ask-leads}
 use Rattle.rules.proofs.theorem.StepInv.{up-or-replay, taken-is, again-is}
+use Rattle.rules.proofs.invariant.Stays.{everywhere}
+use Rattle.rules.proofs.undamaged.Committed.{commit-is}
+use Rattle.rules.proofs.undamaged.StepSound.{answered-whole}
 use Rattle.rules.proofs.restart.Known.{Known}
 use Rattle.rules.proofs.restart.NeverUnplaced.{recover-goes, again-here}
 use Rattle.rules.proofs.ticks.Ahead.{NotLower, same-lower, Ahead, Change, ahead}
@@ -235,6 +238,26 @@ module _ (l : Line) (known : Known l) where
       stays : (e : Entry) → In e (behind (droppable l n) (nodeAt l n .log)) → In e (nodeAt l n .log)
       stays e i = subst (λ (x : List Entry). In e x) (sym (leading-behind (droppable l n) (nodeAt l n .log))) (in-right (leading (droppable l n) (nodeAt l n .log)) i)
 
+  -- Ask changes nothing but what a down node keeps.
+  ask-ahead : (n : ℕ) → CanRecover l n → Ahead (l .plan) l (askedLine n l)
+  unfolding askedLine asking withNode
+  ask-ahead n can =
+      let x = asking (answerOf l n) (targetsOf l n) (nodeAt l n) in
+      let k = withNode n x l in
+      let now : nodeAt k n ≡ x = node-there n x l (node-here n (can .here)) in
+      let status = everywhere l (l .steps) (k .nodes) (l .lanes) n (node-else n x l) (λ (y : Node). y .status) (ap (λ (y : Node). y .status) now) in
+      let log = everywhere l (l .steps) (k .nodes) (l .lanes) n (node-else n x l) (λ (y : Node). y .log) (ap (λ (y : Node). y .log) now) in
+      let time = everywhere l (l .steps) (k .nodes) (l .lanes) n (node-else n x l) (λ (y : Node). y .time) (ap (λ (y : Node). y .time) now) in
+      record {
+        ups = λ m h. status m ∙ h;
+        times = λ m h. omega (arith, time m);
+        logs = λ m h e i. inl (subst (λ (es : List Entry). In e es) (log m) i);
+        lanes = λ b h q. same-lower (l .plan) b (laneAt l b) (laneAt l b) refl;
+        downs = λ m h. sym (status m) ∙ h;
+        names = λ m h c out e i v o. subst (λ (es : List Entry). In e es) (log (channelAt (l .plan) c .receiver)) i;
+        replays = λ m h. inl (sym (status m) ∙ h, ap (λ (y : Node). y .targets) (node-else n x l m (λ q. replay-not-down (sym (sym (status m) ∙ h) ∙ ap (λ (y : ℕ). nodeAt l y .status) q ∙ can .stopped))));
+      }
+
   pub effect-ahead : {c : ℕ} (f : Frame) → Passed l c f → crashOf f ≡ [] → (k : Line) → effect l f ≡ some k → Ahead (l .plan) l k
   unfolding effect
   effect-ahead (feed n r) p q k e = subst (Ahead (l .plan) l) (some-same e) (feed-ahead n r (can-feed p))
@@ -243,3 +266,5 @@ module _ (l : Line) (known : Known l) where
   effect-ahead (crash n) p q k e = absurd (nil≢cons (sym q))
   effect-ahead (recover n) p q k e = let can = can-recover p in subst (Ahead (l .plan) l) (some-same (sym (recover-goes l known n can) ∙ e)) (recover-ahead n can)
   effect-ahead (trim n) p q k e = subst (Ahead (l .plan) l) (some-same e) (trim-ahead n (can-trim p))
+  effect-ahead (ask n) p q k e = subst (Ahead (l .plan) l) (ask-leads l n e .1) (ask-ahead n (can-ask p))
+  effect-ahead (commit n) p q k e = subst (Ahead (l .plan) l) (some-same (sym (commit-is l n p (answered-whole l (known .whole) n)) ∙ e)) (recover-ahead n (can-commit p))

@@ -19,7 +19,7 @@ use Rattle.rules.proofs.undamaged.Restored.{all-same}
 
 -- A node without its log, a lane without the low clock's part, and a line of such without counts.
 abbrev pub bare : Node → Node
-bare x = record { status = x .status; crashed = x .crashed; time = x .time; log = []; held = x .held; targets = x .targets }
+bare x = record { status = x .status; crashed = x .crashed; time = x .time; log = []; held = x .held; targets = x .targets; asked = x .asked }
 
 abbrev pub thin : Lane → Lane
 thin s = record { mark = s .mark; taken = s .taken; heard = s .heard; queue = s .queue; low = [] }
@@ -122,7 +122,7 @@ module _ (b : ℕ) where
 
   pub placed-strip : (l : Line) (columns : List ℕ) → placedAs (strip l) columns ≡ placedAs l columns
   unfolding nodePlaced
-  placed-strip l columns j = record { status = up; crashed = node-strip l b j .crashed; time = high-strip b l j; log = placedLog (setOf (l .plan) b) (joined (rows-of-strip l j)) columns; held = []; targets = [] }
+  placed-strip l columns j = record { status = up; crashed = node-strip l b j .crashed; time = high-strip b l j; log = placedLog (setOf (l .plan) b) (joined (rows-of-strip l j)) columns; held = []; targets = []; asked = none }
 
   abbrev pub endBy : Line → Bool → Option (List ℕ) → Option Line
   endBy l all columns = elim all [ false ↦ none | true ↦ elim columns [ none ↦ none | some cs ↦ some (withNode b (placedAs l cs) l) ] ]

@@ -9,7 +9,7 @@ use lib.ListN.{length, getD, List·getD-eq-default, length-append}
 use lib.Seq.{set-out}
 use borrow.Author.Tests.{eqb-true, lt-leb, leb-true, leb-false}
 use Rattle.rules.specs.Line.{logLimit, up, Node, Line, freshNode, nodeAt, receiverOf, counted, withNode}
-use Rattle.rules.specs.Frame.{Frame, feed, send, take, crash, recover, trim, frameConsole, frameOf}
+use Rattle.rules.specs.Frame.{Frame, feed, send, take, crash, recover, trim, ask, commit, frameConsole, frameOf}
 use Rattle.rules.specs.Trim.{droppable, behind, trimmedLine}
 use Rattle.rules.specs.Step.{noSpace, takeLacks, accepted, effect, step}
 use Rattle.rules.specs.Trimming.{logsAt, TrimFrees, FreedAreUsed}
@@ -45,6 +45,8 @@ module _ (l : Line) (n : ℕ) (is-up : nodeAt l n .status ≡ up) (room : length
   has-space (crash m) at lacks = true≢false (sym at)
   has-space (recover m) at lacks = true≢false (sym at)
   has-space (trim m) at lacks = true≢false (sym at)
+  has-space (ask m) at lacks = true≢false (sym at)
+  has-space (commit m) at lacks = true≢false (sym at)
 
 pub freed-are-used : FreedAreUsed
 freed-are-used l n f is-up room logs e = has-space l n is-up room (frameOf f) logs (lacking l f (sym (step-number l f) ∙ e))

@@ -1,22 +1,23 @@
 -- The steps other than Trim, taken by a line and by the same with more trimmed.
-use Prim.Native.Nat.{ℕ, suc, _<_, _≤_}
+use Prim.Native.Nat.{ℕ, suc, _-_, _<_, _≤_}
 use mathlib.Core.Path.{_≡_, refl, sym, ap, subst, fun-ext, _∙_}
 use mathlib.Core.Logic.{_≢_, inl, inr}
 use mathlib.Core.Bool.{Bool, true, false, true≢false}
-use mathlib.Core.List.{List, [], _∷_, _++_, append-assoc, cons≢nil}
+use mathlib.Core.List.{List, [], _∷_, _++_, append-assoc, cons≢nil, map}
 use mathlib.Core.Option.{Option, none, some}
 use native.Mathlib.Omega.{arith}
 use native.Mathlib.Decide.{ℕ-discrete}
+use lib.ListN.{length, replicate}
 use Rattle.basics.specs.Update.{changed, changed-there, changed-else}
 use Rattle.plan.specs.declared.Record.{Record}
 use Rattle.plan.specs.Plan.{channelAt, nodeCount, channelCount, entering, leaving, isSink}
 use Rattle.rules.specs.Lists.{isEmpty}
-use Rattle.rules.specs.Line.{Origin, Message, Entry, Held, Target, down, Node, Lane, Line, nodeAt, laneAt, parents, senderOf, receiverOf, withNode, withLane, withLanes, freshLane}
+use Rattle.rules.specs.Line.{Origin, Message, Entry, Held, Target, Asked, down, Node, Lane, Line, nodeAt, laneAt, parents, senderOf, receiverOf, withNode, withLane, withLanes, freshLane}
 use Rattle.rules.specs.Clock.{logged, nextToSend, sentOn, takenFrom}
-use Rattle.rules.specs.Recover.{lowOf, targetsOf, conflict, rowsComplete, restored, statusOf, recovered}
+use Rattle.rules.specs.Recover.{lowOf, highOf, answerOf, targetsOf, conflict, rowsComplete, restored, statusOf, recovered}
 use Rattle.rules.specs.Replay.{passedOn, holding, replayEnd, endedIfComplete}
 use Rattle.rules.specs.Trim.{lowAfter}
-use Rattle.rules.specs.Step.{madeBy, sendable, takenLane, takenReplaying, crashedLine, recoveredLine}
+use Rattle.rules.specs.Step.{madeBy, sendable, takenLane, takenReplaying, crashedLine, recoveredLine, asking, askedLine}
 use Rattle.rules.specs.Plain.{Act, Receipt}
 use Rattle.rules.proofs.lists.Members.{In, in-none, in-left}
 use Rattle.rules.proofs.lists.Options.{some-same, none-some}
@@ -27,7 +28,7 @@ use Rattle.rules.proofs.invariant.MarkedLaws.{at-ends, parent-unmarked,
 use Rattle.rules.proofs.invariant.Stays.{moved}
 use Rattle.rules.proofs.undamaged.Crashed.{emptied, crashedAfter, crashed-is, crashed-node, crashed-else, crashed-enters, crashed-leaves, crashed-beside}
 use Rattle.rules.proofs.undamaged.Restored.{restoredNode, restoredLine, recovered-is, restored-node, restored-else, restored-shape, restored-enters, restored-leaves, restored-beside}
-use Rattle.rules.proofs.trimming.Alike.{bare, thin, strip, same-node, same-lane, strip-node, strip-lanes, complete-strip, placedAs, end-alike}
+use Rattle.rules.proofs.trimming.Alike.{bare, thin, strip, same-node, same-lane, strip-node, strip-lanes, high-strip, complete-strip, placedAs, end-alike}
 use Rattle.rules.proofs.trimming.Restores.{Thinner, next-skips, low-alike, targets-alike, restored-alike}
 use Rattle.rules.proofs.trimming.Phases.{shape-alike, thinner-by, thinner-lane, thinner-node}
 
@@ -170,7 +171,7 @@ abbrev restoredFrom : ℕ → ℕ → List Target → (ℕ → ℕ) → Line →
 restoredFrom n low ts entry s =
     withLanes (λ (b : ℕ) (x : Lane). thin (freshLane (s .plan) (channelAt (s .plan) b) (entry (channelAt (s .plan) b .sender)))) (entering (s .plan) n)
     (withLanes (λ (b : ℕ) (x : Lane). thin (record { mark = x .taken; taken = x .taken; heard = x .heard; queue = x .queue; low = x .low })) (leaving (s .plan) n)
-    (withNode n (record { status = statusOf ts; crashed = true; time = low; log = []; held = []; targets = ts }) s))
+    (withNode n (record { status = statusOf ts; crashed = true; time = low; log = []; held = []; targets = ts; asked = none }) s))
 
 strip-recovered : (n : ℕ) (l : Line) → strip (recovered n l) ≡ restoredFrom n (lowOf l n) (targetsOf l n) (restored l n) (strip l)
 unfolding recovered
@@ -216,7 +217,7 @@ module _ (u : Line) (steps : List ℕ) (nodes : List Node) (lanes : List Lane) (
     entries : restored w n ≡ restored u n
     entries = fun-ext (restored-alike u steps nodes lanes thinner g cut base acts receipts crashes inv n children (own inv n marked))
 
-    recovered-thinner : Thinner (recovered n (moved u steps nodes lanes)) (recovered n u)
+    pub recovered-thinner : Thinner (recovered n (moved u steps nodes lanes)) (recovered n u)
     unfolding freshLane
     recovered-thinner =
         subst (Thinner (recovered n w)) (sym (recovered-is u n (inv .ordered) (inv .shape))) (subst (λ (x : Line). Thinner x (restoredLine u n)) (sym (recovered-is w n (inv .ordered) shape))
@@ -232,6 +233,26 @@ module _ (u : Line) (steps : List ℕ) (nodes : List Node) (lanes : List Lane) (
         (let parent : nodeAt u m .crashed ≡ false = ap (λ (x : ℕ). nodeAt u x .crashed) (sym (h .1)) ∙ parent-unmarked inv n marked c (h .0, q) in
         let past-it = thinner .restored-past m parent e i c h (ap (isSink (u .plan)) q ∙ inv .marks .between n marked .1) (λ x z. children x (z .0, z .1 ∙ q)) in
         omega (arith, past-it, ap (λ (x : ℕ). restored u x m) q, ap (λ (x : ℕ). restored u n x) (h .1), ap (λ (s : Lane). s .taken) (restored-enters u n (inv .ordered) (inv .shape) c (h .0, q)))))))
+
+    -- What Ask keeps.
+    answer : answerOf w n ≡ answerOf u n
+    unfolding answerOf
+    answer i =
+        record {
+          low = restoring i;
+          high = (sym (high-strip n w) ∙ ap (λ (s : Line). highOf s n) (thinner .alike) ∙ high-strip n u) i;
+          entries = map (λ (c : ℕ). entries i (channelAt (u .plan) c .sender)) (entering (u .plan) n) ++ replicate (4 - length (entering (u .plan) n)) 0;
+        }
+
+    pub ask-thinner : Thinner (askedLine n (moved u steps nodes lanes)) (askedLine n u)
+    unfolding askedLine asking
+    ask-thinner =
+        thinner-node w u thinner (inv .shape) n (asking (answerOf w n) (targetsOf w n) (nodeAt w n)) (asking (answerOf u n) (targetsOf u n) (nodeAt u n)) inside
+        (λ i. (let x = same-node w u (thinner .alike) n i in record { status = x .status; crashed = x .crashed; time = x .time; log = []; held = x .held; targets = targets i; asked = some (answer i) }))
+        (thinner .logs n) refl (λ d z. d z) (λ d i. i)
+
+    pub answers-alike : (a : Asked) → a ≡ answerOf u n → nodeAt u n .targets ≡ targetsOf u n → (a ≡ answerOf (moved u steps nodes lanes) n) × (nodeAt (moved u steps nodes lanes) n .targets ≡ targetsOf (moved u steps nodes lanes) n)
+    answers-alike a is stands = (is ∙ sym answer, ap (λ (x : Node). x .targets) (same-node w u (thinner .alike) n) ∙ stands ∙ sym targets)
 
     pub recover-thinner : (k′ u′ : Line) → recoveredLine n (moved u steps nodes lanes) ≡ some k′ → recoveredLine n u ≡ some u′ → Thinner k′ u′
     unfolding recoveredLine

@@ -2,7 +2,7 @@
 use Prim.Native.Nat.{ℕ, _<_}
 use mathlib.Core.Path.{_≡_, refl, sym, ap, subst, _∙_}
 use mathlib.Core.Logic.{inl, inr}
-use mathlib.Core.Bool.{true, true≢false}
+use mathlib.Core.Bool.{true, true≢false, false}
 use mathlib.Core.List.{List, [], _∷_, _++_, append-assoc}
 use mathlib.Core.Option.{Option, some}
 use native.Mathlib.Omega.{arith}
@@ -11,29 +11,33 @@ use lib.ListN.{length, replicate}
 use Rattle.plan.specs.Plan.{Plan, planOf, channelAt, nodeCount}
 use Rattle.plan.specs.Record.{recordLayout}
 use Rattle.plan.specs.Mask.{setOf}
-use Rattle.rules.specs.Line.{fed, made, Message, Entry, down, Node, Lane, Line, initialLine, nodeAt, laneAt, senderOf, isReplay, counted, oneMore, withLane}
-use Rattle.rules.specs.Frame.{Frame, feed, send, take, crash, recover, trim, frameConsole, frameOf}
+use Rattle.rules.specs.Line.{fed, made, Message, Entry, Asked, down, Node, Lane, Line, initialLine, nodeAt, laneAt, senderOf, isReplay, counted, oneMore, withLane}
+use Rattle.rules.specs.Frame.{Frame, feed, send, take, crash, recover, trim, ask, commit, frameConsole, frameOf}
 use Rattle.rules.specs.Trim.{trimmedLine}
-use Rattle.rules.specs.Step.{madeBy, sendable, sentLine, fedLine, takenLane, takenUp, takenReplaying, takenFirst, takenLine, crashedLine, effect, refusal, accepted, step}
+use Rattle.rules.specs.Recover.{recovered}
+use Rattle.rules.specs.Step.{madeBy, sendable, sentLine, fedLine, takenLane, takenUp, takenReplaying, takenFirst, takenLine, crashedLine, isNothing, askedLine, committedBy, committedLine, effect, refusal, accepted, step}
 use Rattle.rules.specs.Plain.{Act, Receipt}
 use Rattle.rules.specs.Claim.{Story, startOf, ifZero, told, storyFrom, firstReceipt, receiptOf}
 use Rattle.rules.specs.Trimming.{isTrim, WithTrims, no-more, alike, put-in, TrimsChangeNothing}
 use Rattle.rules.proofs.lists.ListLaws.{nil-right}
 use Rattle.rules.proofs.lists.Members.{in-none}
-use Rattle.rules.proofs.lists.Options.{some-same}
+use Rattle.rules.proofs.lists.Options.{some-same, something-there}
 use Rattle.rules.proofs.invariant.Inv.{Shape}
 use Rattle.rules.proofs.invariant.InvLaws.{replay-not-down}
 use Rattle.rules.proofs.invariant.Stays.{moved, shape-beside}
 use Rattle.rules.proofs.invariant.Trimmed.{rest}
-use Rattle.rules.proofs.theorem.Accepted.{Passed, passed, can-feed, can-send, CanSend, can-take, CanTake, can-crash, can-recover, can-trim, CanTrim, step-accepted, step-refused}
+use Rattle.rules.proofs.theorem.Accepted.{Passed, passed, can-feed, can-send, CanSend, can-take, CanTake, can-crash, can-recover, CanRecover, can-trim, CanTrim, step-accepted, step-refused, can-ask, can-commit, ask-leads}
 use Rattle.rules.proofs.theorem.StepInv.{up-or-replay, first-up, first-again, sender-sends}
 use Rattle.rules.proofs.restart.NeverUnplaced.{again-here}
 use Rattle.rules.proofs.restart.Known.{Known, known-start, known-step, known-all}
 use Rattle.rules.proofs.trimming.Alike.{same-node, same-lane, same-plan}
+use Rattle.plan.specs.Lawful.{Each, Bytes}
+use Rattle.rules.proofs.undamaged.Committed.{committed-by, committed-is}
+use Rattle.rules.proofs.undamaged.StepSound.{frame-bytes, answered-whole}
 use Rattle.rules.proofs.trimming.Restores.{Thinner}
 use Rattle.rules.proofs.trimming.Phases.{thinner-by}
 use Rattle.rules.proofs.trimming.Trims.{trim-one, trim-both, trimmed-stops}
-use Rattle.rules.proofs.trimming.Kinds.{ended-thinner, logs-thinner, sends-thinner, sendable-alike, takes-thinner, holds-thinner, crash-thinner, recover-thinner}
+use Rattle.rules.proofs.trimming.Kinds.{ended-thinner, logs-thinner, sends-thinner, sendable-alike, takes-thinner, holds-thinner, crash-thinner, recovered-thinner, recover-thinner, ask-thinner, answers-alike}
 
 -- One line is as much trimmed as itself.
 self-thinner : (l : Line) → Thinner l l
@@ -142,6 +146,23 @@ module _ (u : Line) (known : Known u) (steps : List ℕ) (nodes : List Node) (la
       subst (λ (x : Line). Thinner x u′) (some-same ek) (subst (Thinner (trimmedLine n k)) (some-same eu)
       (trim-both u (trimmedLine n k) one ghost cut base acts receipts crashes inv n (can .here) (can .all-up) (trimmed-stops u steps nodes lanes thinner ghost cut base acts receipts crashes inv n (can .here))))
 
+  -- What is kept is the same, and so is what a Commit makes of it.
+  asks : (n : ℕ) → CanRecover u n → (k′ u′ : Line) → effect k (ask n) ≡ some k′ → effect u (ask n) ≡ some u′ → Thinner k′ u′
+  asks n can k′ u′ ek eu =
+      subst (λ (x : Line). Thinner x u′) (ask-leads k n ek .1) (subst (Thinner (askedLine n k)) (ask-leads u n eu .1)
+      (ask-thinner u steps nodes lanes thinner ghost cut base acts receipts crashes inv n (can .here) (can .stopped)))
+
+  commits : (n : ℕ) → CanRecover u n → isNothing (nodeAt u n .asked) ≡ false → (k′ u′ : Line) → effect k (commit n) ≡ some k′ → effect u (commit n) ≡ some u′ → Thinner k′ u′
+  unfolding effect committedLine
+  commits n can kept k′ u′ ek eu =
+      let (a, q) = something-there (nodeAt u n .asked) kept in
+      let right = answered-whole u (known .whole) n a q in
+      let also : nodeAt k n .asked ≡ some a = ap (λ (x : Node). x .asked) (same-node k u (thinner .alike) n) ∙ q in
+      let (is, targets) = answers-alike u steps nodes lanes thinner ghost cut base acts receipts crashes inv n (can .here) (can .stopped) a (right .is) (right .targets) in
+      subst (λ (x : Line). Thinner x u′) (sym (committed-by k n a is targets) ∙ ap (λ (o : Option Asked). committedBy n o k) (sym also) ∙ some-same ek)
+      (subst (Thinner (recovered n k)) (sym (committed-is u n a right) ∙ ap (λ (o : Option Asked). committedBy n o u) (sym q) ∙ some-same eu)
+      (recovered-thinner u steps nodes lanes thinner ghost cut base acts receipts crashes inv n (can .here) (can .stopped)))
+
   effect-thinner : {d : ℕ} (f : Frame) → Passed u d f → (k′ u′ : Line) → effect k f ≡ some k′ → effect u f ≡ some u′ → Thinner k′ u′
   effect-thinner (feed n r) p = feeds n r (can-feed p .here)
   effect-thinner (send b) p = sends b (can-send p)
@@ -149,6 +170,8 @@ module _ (u : Line) (known : Known u) (steps : List ℕ) (nodes : List Node) (la
   effect-thinner (crash n) p = crashes-both n (can-crash p .here)
   effect-thinner (recover n) p = recovers n (can-recover p .here) (can-recover p .stopped)
   effect-thinner (trim n) p = trims n (can-trim p)
+  effect-thinner (ask n) p = asks n (can-ask p)
+  effect-thinner (commit n) p = commits n (can-commit p) (p .answered)
 
   first-same : (b : ℕ) (q : List Message) → firstReceipt k b q ≡ firstReceipt u b q
   first-same b [] = refl
@@ -161,6 +184,8 @@ module _ (u : Line) (known : Known u) (steps : List ℕ) (nodes : List Node) (la
   receipt-same (crash n) = refl
   receipt-same (recover n) = refl
   receipt-same (trim n) = refl
+  receipt-same (ask n) = refl
+  receipt-same (commit n) = refl
 
 -- What a step does to both.
 pub record BothStep (k u : Line) (f : List ℕ) : Type 0 where
@@ -205,6 +230,8 @@ one-trim k u t known (send b) q p k′ e = absurd (true≢false (sym q))
 one-trim k u t known (take b) q p k′ e = absurd (true≢false (sym q))
 one-trim k u t known (crash n) q p k′ e = absurd (true≢false (sym q))
 one-trim k u t known (recover n) q p k′ e = absurd (true≢false (sym q))
+one-trim k u t known (ask n) q p k′ e = absurd (true≢false (sym q))
+one-trim k u t known (commit n) q p k′ e = absurd (true≢false (sym q))
 one-trim k u t known (trim n) q p k′ e = (trimmed-one n (can-trim p .here) k′ e, refl)
   where
     trimmed-one : (n : ℕ) → n < nodeCount (k .plan) → (k′ : Line) → effect k (trim n) ≡ some k′ → Thinner k′ u
@@ -246,17 +273,17 @@ unfolding told
 given-more s f z = ap (λ (n : ℕ). s .receipts ++ ifZero n (receiptOf (s .line) (frameOf f))) (step-accepted (s .line) f z .0)
 
 -- Both stories, step by step: the Trims put in are steps of the one alone.
-law : {with without : List (List ℕ)} → WithTrims with without → (s t : Story) → Thinner (s .line) (t .line) → s .receipts ≡ t .receipts → Known (t .line) → AllZero (s .line) with → AllZero (t .line) without → storyFrom s with .receipts ≡ storyFrom t without .receipts
+law : {with without : List (List ℕ)} → WithTrims with without → (s t : Story) → Thinner (s .line) (t .line) → s .receipts ≡ t .receipts → Known (t .line) → Each Bytes without → AllZero (s .line) with → AllZero (t .line) without → storyFrom s with .receipts ≡ storyFrom t without .receipts
 unfolding told
-law no-more s t thinner same known zs zt = same
-law (alike f more) s t thinner same known (z, zs) (y, zt) =
+law no-more s t thinner same known each zs zt = same
+law (alike f more) s t thinner same known (b, each) (z, zs) (y, zt) =
     let both = both-step (s .line) (t .line) thinner known f z y in
-    law more (told s f) (told t f) (both .lines) (given-more s f z ∙ (λ i. same i ++ both .given i) ∙ sym (given-more t f y)) (known-step (t .line) f known) zs zt
-law (put-in f q more) s t thinner same known (z, zs) zt =
+    law more (told s f) (told t f) (both .lines) (given-more s f z ∙ (λ i. same i ++ both .given i) ∙ sym (given-more t f y)) (known-step (t .line) f (frame-bytes f b) known) each zs zt
+law (put-in f q more) s t thinner same known each (z, zs) zt =
     let (lines, none-given) = trim-step (s .line) (t .line) thinner known f q z in
-    law more (told s f) t lines (given-more s f z ∙ ap (λ (x : List Receipt). s .receipts ++ x) none-given ∙ nil-right (s .receipts) ∙ same) known zs zt
+    law more (told s f) t lines (given-more s f z ∙ ap (λ (x : List Receipt). s .receipts ++ x) none-given ∙ nil-right (s .receipts) ∙ same) known each zs zt
 
 pub trims-change-nothing : TrimsChangeNothing
-trims-change-nothing plan before with without z more ks us =
+trims-change-nothing plan before with without bytes each-before each z more ks us =
     let l = storyFrom (startOf (initialLine (planOf plan))) before .line in
-    law more (startOf l) (startOf l) (self-thinner l) refl (known-all before (startOf (initialLine (planOf plan))) (known-start plan z)) (all-zero with l (sym (numbers-from with (startOf l)) ∙ ks)) (all-zero without l (sym (numbers-from without (startOf l)) ∙ us))
+    law more (startOf l) (startOf l) (self-thinner l) refl (known-all before (startOf (initialLine (planOf plan))) each-before (known-start plan bytes z)) each (all-zero with l (sym (numbers-from with (startOf l)) ∙ ks)) (all-zero without l (sym (numbers-from without (startOf l)) ∙ us))

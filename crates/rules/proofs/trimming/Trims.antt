@@ -1,24 +1,25 @@
 -- A Trim in the line that is trimmed more, and one in the other, which drops no more than is gone already.
-use Prim.Native.Nat.{ℕ, zero, suc, _<_, _≤_}
+use Prim.Native.Nat.{ℕ, _<_, _≤_}
 use mathlib.Core.Path.{_≡_, refl, sym, ap, subst, _∙_}
 use mathlib.Core.Logic.{_≢_, _⊎_, inl, inr}
 use mathlib.Core.Bool.{Bool, true, false, _&&_}
 use mathlib.Core.List.{List, [], _∷_, _++_, map, append-assoc, cons≢nil}
 use native.Mathlib.Omega.{arith}
 use native.Mathlib.Decide.{ℕ-discrete}
-use lib.ListN.{getD, set}
+use lib.Seq.{set-getD}
 use lib.Dec.{leb}
 use borrow.Author.Tests.{leb-true}
 use Rattle.basics.specs.Bools.{both-true}
 use Rattle.basics.specs.Update.{changed, changed-there, changed-else}
 use Rattle.plan.specs.Plan.{channelAt, nodeCount, channelCount, entering, leaving}
 use Rattle.rules.specs.Lists.{joined, leastOf}
-use Rattle.rules.specs.Line.{Origin, fed, made, Entry, up, Node, Lane, Line, freshNode, noLane, nodeAt, laneAt, parents, senderOf, receiverOf, withNode, withLane, withLanes}
+use Rattle.rules.specs.Line.{Origin, fed, made, Entry, up, Node, Lane, Line, noLane, nodeAt, laneAt, parents, senderOf, receiverOf, withNode, withLane, withLanes}
 use Rattle.rules.specs.Clock.{entryFor}
 use Rattle.rules.specs.Recover.{restored}
 use Rattle.rules.specs.Trim.{entriesFor, floorTime, senderBelow, droppable, leading, behind, lowBy, lowAfter, lowRaised, trimmedLine}
 use Rattle.rules.specs.Plain.{Act, Receipt}
 use Rattle.rules.proofs.lists.Members.{In, map-same, in-right, append-in}
+use Rattle.rules.proofs.line.LineLaws.{node-same}
 use Rattle.rules.proofs.histories.Ghost.{Ghost}
 use Rattle.rules.proofs.invariant.Inv.{Enters, Shape, UnmarkedChildren, Inv}
 use Rattle.rules.proofs.invariant.Stays.{moved}
@@ -29,25 +30,20 @@ use Rattle.rules.proofs.trimming.Alike.{bare, thin, strip, node-strip, 
 use Rattle.rules.proofs.trimming.Restores.{Thinner}
 use Rattle.rules.proofs.trimming.Phases.{shape-alike}
 
-set-same : {A : Type 0} (xs : List A) (i : ℕ) (d : A) → set xs i (getD xs i d) ≡ xs
-set-same [] i d = refl
-set-same (x ∷ xs) zero d = refl
-set-same {A} (x ∷ xs) (suc i) d = ap (λ (ys : List A). x ∷ ys) (set-same xs i d)
-
 -- A stripped line does not see a Trim.
 strip-same : (lower : ℕ → Lane → Lane) → ((b : ℕ) (s : Lane) → thin (lower b s) ≡ thin s) → (bs : List ℕ) (l : Line) → withLanes (λ (b : ℕ) (s : Lane). thin (lower b s)) bs (strip l) ≡ strip l
 unfolding withLane
 strip-same lower same [] l = refl
 strip-same lower same (b ∷ bs) l =
     ap (withLanes (λ (c : ℕ) (s : Lane). thin (lower c s)) bs)
-    (ap (λ (s : Lane). withLane b s (strip l)) (same b (laneAt (strip l) b) ∙ ap thin (lane-strip l b) ∙ sym (lane-strip l b)) ∙ ap (λ (ls : List Lane). record { plan = l .plan; steps = []; nodes = map bare (l .nodes); lanes = ls }) (set-same (map thin (l .lanes)) b noLane))
+    (ap (λ (s : Lane). withLane b s (strip l)) (same b (laneAt (strip l) b) ∙ ap thin (lane-strip l b) ∙ sym (lane-strip l b)) ∙ ap (λ (ls : List Lane). record { plan = l .plan; steps = []; nodes = map bare (l .nodes); lanes = ls }) (set-getD (map thin (l .lanes)) b noLane))
     ∙ strip-same lower same bs l
 
 pub strip-trimmed : (n : ℕ) (l : Line) → strip (trimmedLine n l) ≡ strip l
 unfolding trimmedLine lowRaised withNode
 strip-trimmed n l =
     strip-lanes (lower l n) (λ b s. refl) (entering (l .plan) n) (withNode n (nodeAfter l n) l) ∙ strip-same (lower l n) (λ b s. refl) (entering (l .plan) n) (withNode n (nodeAfter l n) l)
-    ∙ strip-node n (nodeAfter l n) l ∙ ap (λ (x : Node). withNode n x (strip l)) (sym (node-strip l n)) ∙ ap (λ (ns : List Node). record { plan = l .plan; steps = []; nodes = ns; lanes = map thin (l .lanes) }) (set-same (map bare (l .nodes)) n freshNode)
+    ∙ strip-node n (nodeAfter l n) l ∙ ap (λ (x : Node). withNode n x (strip l)) (sym (node-strip l n)) ∙ node-same n (strip l)
 
 -- Raised by one run and then by another.
 after-append : (ps : List ℕ) (s : ℕ) (xs ys : List Entry) (low : List ℕ) → lowAfter ps s (xs ++ ys) low ≡ lowAfter ps s ys (lowAfter ps s xs low)

@@ -8,7 +8,7 @@ use mathlib.Core.Option.{some}
 use native.Mathlib.Omega.{arith}
 use native.Mathlib.Decide.{ℕ-discrete}
 use Rattle.plan.specs.Plan.{Plan, nodeCount, channelAt}
-use Rattle.rules.specs.Line.{Origin, fed, made, up, replay, Node, Lane, Line, nodeAt, laneAt, parents, freshLane, counted, acceptedSteps}
+use Rattle.rules.specs.Line.{Origin, fed, made, up, Node, Lane, Line, nodeAt, laneAt, parents, freshLane, counted, acceptedSteps}
 use Rattle.rules.specs.Frame.{crash}
 use Rattle.rules.specs.Recover.{triples}
 use Rattle.rules.specs.Damaged.{pastHeard, workedOn}
@@ -17,13 +17,13 @@ use Rattle.rules.proofs.lists.Rising.{none, none-in}
 use Rattle.rules.proofs.lists.Members.{In, in-none}
 use Rattle.rules.proofs.undamaged.Crashed.{emptied, cleared, crashedAfter, crashed-is, crashed-node, crashed-else, crashed-shape, crashed-enters, crashed-leaves, crashed-beside}
 use Rattle.rules.proofs.invariant.Inv.{Ordered, Enters, Leaves}
-use Rattle.rules.proofs.invariant.InvLaws.{up-not-down, up-not-replay, replay-not-down, if-marked}
+use Rattle.rules.proofs.invariant.InvLaws.{up-not-down, replay-not-down, if-marked}
 use Rattle.rules.proofs.invariant.MarkedLaws.{at-ends}
 use Rattle.rules.proofs.theorem.Accepted.{Passed, CanCrash, can-crash}
-use Rattle.rules.proofs.lists.Options.{some-same}
+use Rattle.rules.proofs.lists.Options.{some-same, none-some}
 use Rattle.rules.specs.Damaged.{lowWrong}
-use Rattle.rules.proofs.undamaged.Standing.{NodeFits, NodeSound, Covers, LaneFits, ChannelSound, Standing, Replays, Sound}
-use Rattle.rules.proofs.undamaged.SoundStays.{node-stays, channel-stays, replays-stay, counted-sound}
+use Rattle.rules.proofs.undamaged.Standing.{NodeFits, NodeSound, Covers, LaneFits, ChannelSound, Standing, Stopped, Sound}
+use Rattle.rules.proofs.undamaged.SoundStays.{node-stays, channel-stays, stopped-same, counted-sound}
 use Rattle.rules.proofs.undamaged.StartSound.{fresh-fits, fresh-flows, fresh-cleared}
 use Rattle.rules.proofs.undamaged.Undamaged.{ordered-fit}
 
@@ -58,7 +58,7 @@ module _ (l : Line) (sound : Sound l) (n : ℕ) (can : CanCrash l n) where
         passed = λ h i. absurd (in-none i);
         unmarked = λ e. absurd (true≢false e);
         between = λ e. (can .no-source, can .no-sink);
-        empties = (refl, refl, refl, refl);
+        empties = (refl, refl, refl, λ e. refl);
       }
 
   node-crashed : NodeSound (crashedAfter l n) n
@@ -111,27 +111,27 @@ module _ (l : Line) (sound : Sound l) (n : ℕ) (can : CanCrash l n) where
         silent = λ e. ap (λ (x : Lane). x .queue) lane;
       }
 
-  module _ (m : ℕ) (h : m < nodeCount (l .plan)) (again : nodeAt (crashedAfter l n) m .status ≡ replay) where
-    other : m ≢ n
-    other q = replay-not-down (sym again ∙ ap (λ (x : ℕ). nodeAt (crashedAfter l n) x .status) q ∙ ap (λ (x : Node). x .status) (crashed-node l n ordered (s .shape) (can .here)))
+  module _ (m : ℕ) (h : m < nodeCount (l .plan)) (again : nodeAt (crashedAfter l n) m .status ≢ up) where
+    -- The node itself has nothing of a restart.
+    own-stopped : m ≡ n → Stopped (crashedAfter l n) m
+    own-stopped q =
+        let node : nodeAt (crashedAfter l n) m ≡ emptied = ap (nodeAt (crashedAfter l n)) q ∙ crashed-node l n ordered (s .shape) (can .here) in
+        record {
+          replays = λ e. absurd (replay-not-down (sym e ∙ ap (λ (x : Node). x .status) node));
+          answers = λ a e. none-some (sym (ap (λ (x : Node). x .asked) node) ∙ e);
+        }
 
-    was : nodeAt l m .status ≡ replay
-    was = sym (ap (λ (x : Node). x .status) ((crashed-else l n ordered (s .shape)) m other)) ∙ again
-
-    marked : nodeAt l m .crashed ≡ true
-    marked = stopped-marked l s m h (λ q. up-not-replay (sym q ∙ was))
-
-    -- No child of it crashes.
-    child-other : (c : ℕ) → Leaves (l .plan) m c → channelAt (l .plan) c .receiver ≢ n
-    child-other c (i, q) z = true≢false (sym marked ∙ ap (λ (x : ℕ). nodeAt l x .crashed) (sym q) ∙ can .parents c (i, z))
-
-    replays-on : Replays (crashedAfter l n) m
-    replays-on =
+    -- No child of another that is not up crashes.
+    other-stopped : m ≢ n → Stopped (crashedAfter l n) m
+    other-stopped other =
         let same : acceptedSteps l ≤ acceptedSteps l = omega arith in
         let node = (crashed-else l n ordered (s .shape)) m other in
-        replays-stay l (l .steps) ((crashedAfter l n) .nodes) ((crashedAfter l n) .lanes) same m (λ c j. ap (λ (x : Lane). x .taken) ((crashed-beside l n ordered (s .shape)) c (child-other c j) (λ q. other (sym (j .1) ∙ q))))
+        let was : nodeAt l m .status ≢ up = λ q. again (ap (λ (x : Node). x .status) node ∙ q) in
+        let marked = stopped-marked l s m h was in
+        let child-other : (c : ℕ) → Leaves (l .plan) m c → channelAt (l .plan) c .receiver ≢ n = λ c j z. true≢false (sym marked ∙ ap (λ (x : ℕ). nodeAt l x .crashed) (sym (j .1)) ∙ can .parents c (j .0, z)) in
+        stopped-same l (l .steps) ((crashedAfter l n) .nodes) ((crashedAfter l n) .lanes) same m (λ c j. ap (λ (x : Lane). x .taken) ((crashed-beside l n ordered (s .shape)) c (child-other c j) (λ q. other (sym (j .1) ∙ q))))
         (λ c j. ap (λ (x : Node). triples m (x .log)) ((crashed-else l n ordered (s .shape)) (channelAt (l .plan) c .receiver) (child-other c j)))
-        (λ c j. ap (λ (x : Lane). x .low) ((crashed-beside l n ordered (s .shape)) c (child-other c j) (λ q. other (sym (j .1) ∙ q)))) (ap (λ (x : Node). x .time) node) (ap (λ (x : Node). x .targets) node) (sound .replays m h was)
+        (λ c j. ap (λ (x : Lane). x .low) ((crashed-beside l n ordered (s .shape)) c (child-other c j) (λ q. other (sym (j .1) ∙ q)))) node (sound .stopped m h was)
 
   crashed-sound : Sound (crashedAfter l n)
   crashed-sound =
@@ -151,7 +151,7 @@ module _ (l : Line) (sound : Sound l) (n : ℕ) (can : CanCrash l n) where
               let to = (crashed-else l n ordered (s .shape)) (channelAt (l .plan) c .receiver) d in
               channel-stays l (l .steps) ((crashedAfter l n) .nodes) ((crashedAfter l n) .lanes) same c (ap (λ (x : Node). x .status) from) (ap (λ (x : Node). x .status) to) (ap (λ (x : Node). x .crashed) from) (ap (λ (x : Node). x .crashed) to) ((crashed-beside l n ordered (s .shape)) c d e) (s .channels c h)));
         };
-        replays = replays-on;
+        stopped = λ m h e. elim (ℕ-discrete m n) [ yes q ↦ own-stopped m h e q | no d ↦ other-stopped m h e d ];
       }
 
 pub crash-sound : (l : Line) → Sound l → (n : ℕ) {who : ℕ} → Passed l who (crash n) → (k : Line) → effect l (crash n) ≡ some k → Sound (counted who k)

@@ -3,6 +3,7 @@ use Prim.Native.Nat.{ℕ, _<_}
 use mathlib.Core.Path.{_≡_, _∙_}
 use mathlib.Core.Logic.{_≢_}
 use mathlib.Core.Bool.{true}
+use mathlib.Core.Option.{none}
 use mathlib.Core.List.{[]}
 use Rattle.plan.specs.Plan.{channelAt, nodeCount}
 use Rattle.rules.specs.Line.{down, Node, Lane, Line, nodeAt, laneAt, withNode, freshLane}
@@ -13,7 +14,7 @@ use Rattle.rules.proofs.invariant.Swept.{swept-line, swept-long, swept-
 use Rattle.rules.proofs.invariant.Inv.{Shape, Ordered, Enters, Leaves}
 
 abbrev pub emptied : Node
-emptied = record { status = down; crashed = true; time = 0; log = []; held = []; targets = [] }
+emptied = record { status = down; crashed = true; time = 0; log = []; held = []; targets = []; asked = none }
 
 -- A channel that leaves the node: its mark and queue are gone, the child's entries stay.
 abbrev pub cleared : Lane → Lane

@@ -23,8 +23,8 @@ use Rattle.rules.proofs.line.Joins.{leaving-in}
 use Rattle.rules.proofs.invariant.Inv.{Leaves}
 use Rattle.rules.proofs.invariant.InvLaws.{up-not-down, up-not-replay}
 use Rattle.rules.proofs.lists.Options.{some-same, none-some}
-use Rattle.rules.proofs.undamaged.Standing.{heldTime, heldFrom, EntryFits, NodeFits, Covers, NodeSound, Standing, Replays, Sound}
-use Rattle.rules.proofs.undamaged.SoundStays.{node-stays, channel-like, replays-stay}
+use Rattle.rules.proofs.undamaged.Standing.{heldTime, heldFrom, EntryFits, NodeFits, Covers, NodeSound, Standing, Stopped, Sound}
+use Rattle.rules.proofs.undamaged.SoundStays.{node-stays, channel-like, stopped-same}
 use Rattle.rules.proofs.undamaged.Undamaged.{rows-in}
 use Rattle.rules.proofs.undamaged.PlacedLog.{placed-from, log-placed}
 use Rattle.rules.proofs.undamaged.CrashSound.{stopped-marked}
@@ -43,7 +43,7 @@ high-within l s n = elim (greatest-in (childTimes l n)) [
 pub marked-apart : (l : Line) → Standing l → (m n : ℕ) → nodeAt l m .crashed ≡ true → nodeAt l n .crashed ≡ true → (c : ℕ) → Leaves (l .plan) m c → channelAt (l .plan) c .receiver ≢ n
 marked-apart l s m n from to c (i, q) z = true≢false (sym to ∙ ap (λ (y : ℕ). nodeAt l y .crashed) (sym z) ∙ s .channels c i .apart (ap (λ (y : ℕ). nodeAt l y .crashed) q ∙ from))
 
-module _ (l : Line) (s : Standing l) (n : ℕ) (inside : n < nodeCount (l .plan)) (again : nodeAt l n .status ≡ replay) (others : (m : ℕ) → m < nodeCount (l .plan) → m ≢ n → nodeAt l m .status ≡ replay → Replays l m) where
+module _ (l : Line) (s : Standing l) (n : ℕ) (inside : n < nodeCount (l .plan)) (again : nodeAt l n .status ≡ replay) (others : (m : ℕ) → m < nodeCount (l .plan) → m ≢ n → nodeAt l m .status ≢ up → Stopped l m) where
   abbrev x : Node
   x = nodeAt l n
 
@@ -100,7 +100,7 @@ module _ (l : Line) (s : Standing l) (n : ℕ) (inside : n < nodeCount (l .plan)
           passed = λ h i. absurd (in-none i);
           unmarked = λ e. refl;
           between = f .between;
-          empties = (refl, refl);
+          empties = (refl, refl, refl);
         }
 
     node-now : nodeAt after n ≡ placed
@@ -141,23 +141,15 @@ module _ (l : Line) (s : Standing l) (n : ℕ) (inside : n < nodeCount (l .plan)
           rows = λ b h. subst (λ (y : Node). Rises heldTime 0 (heldFrom (channelAt (l .plan) b .sender) (y .held))) (sym node-now) none;
         }
 
-    module _ (m : ℕ) (h : m < nodeCount (l .plan)) (replays : nodeAt after m .status ≡ replay) where
-      other : m ≢ n
-      other = still m (λ q. up-not-replay (sym q ∙ replays))
-
-      was : nodeAt l m .status ≡ replay
-      was = sym (ap (λ (y : Node). y .status) (node-other m other)) ∙ replays
-
-      child-other : (c : ℕ) → Leaves (l .plan) m c → channelAt (l .plan) c .receiver ≢ n
-      child-other = marked-apart l s m n (stopped-marked l s m h (λ e. up-not-replay (sym e ∙ was))) (stopped-marked l s n inside (λ e. up-not-replay (sym e ∙ again)))
-
-      replays-on : Replays after m
-      unfolding withNode
-      replays-on =
-          let same : acceptedSteps l ≤ acceptedSteps l = omega arith in
-          let node = node-other m other in
-          replays-stay l (l .steps) (after .nodes) (l .lanes) same m (λ c j. refl) (λ c j. ap (λ (y : Node). triples m (y .log)) (node-other (channelAt (l .plan) c .receiver) (child-other c j))) (λ c j. refl)
-          (ap (λ (y : Node). y .time) node) (ap (λ (y : Node). y .targets) node) (others m h other was)
+    stopped-on : (m : ℕ) → m < nodeCount (l .plan) → nodeAt after m .status ≢ up → Stopped after m
+    unfolding withNode
+    stopped-on m h d =
+        let other = still m d in
+        let node = node-other m other in
+        let was : nodeAt l m .status ≢ up = λ q. d (ap (λ (y : Node). y .status) node ∙ q) in
+        let child-other = marked-apart l s m n (stopped-marked l s m h was) (stopped-marked l s n inside (λ e. up-not-replay (sym e ∙ again))) in
+        let same : acceptedSteps l ≤ acceptedSteps l = omega arith in
+        stopped-same l (l .steps) (after .nodes) (l .lanes) same m (λ c j. refl) (λ c j. ap (λ (y : Node). triples m (y .log)) (node-other (channelAt (l .plan) c .receiver) (child-other c j))) (λ c j. refl) node (others m h other was)
 
     placed-sound : Sound after
     unfolding withNode
@@ -180,7 +172,7 @@ module _ (l : Line) (s : Standing l) (n : ℕ) (inside : n < nodeCount (l .plan)
                 (λ e. sym (ap (λ (y : Node). y .status) (node-other from (still from (λ q. up-not-replay (sym q ∙ e))))) ∙ e)
                 (mark-same from) (mark-same to) refl (s .channels c h));
           };
-          replays = replays-on;
+          stopped = stopped-on;
         }
 
   end-sound : (k : Line) → replayEnd n l ≡ some k → Sound k
@@ -194,10 +186,10 @@ module _ (l : Line) (s : Standing l) (n : ℕ) (inside : n < nodeCount (l .plan)
       go true (some columns) p e = subst Sound (some-same e) (placed-sound columns p)
 
   -- "When all rows are complete, in that same step": ended, or as it was.
-  pub ended-sound : (rowsComplete l n ≡ false → Replays l n) → (k : Line) → endedIfComplete n l ≡ some k → Sound k
+  pub ended-sound : (rowsComplete l n ≡ false → Stopped l n) → (k : Line) → endedIfComplete n l ≡ some k → Sound k
   unfolding endedIfComplete
   ended-sound own k = go (rowsComplete l n) refl
     where
       go : (complete : Bool) → rowsComplete l n ≡ complete → (elim complete [ true ↦ replayEnd n l | false ↦ some l ]) ≡ some k → Sound k
       go true c e = end-sound k e
-      go false c e = subst Sound (some-same e) (record { standing = s; replays = λ m h q. elim (ℕ-discrete m n) [ yes z ↦ subst (Replays l) (sym z) (own c) | no d ↦ others m h d q ] })
+      go false c e = subst Sound (some-same e) (record { standing = s; stopped = λ m h q. elim (ℕ-discrete m n) [ yes z ↦ subst (Stopped l) (sym z) (own c) | no d ↦ others m h d q ] })

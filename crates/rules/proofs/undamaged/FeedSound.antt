@@ -23,12 +23,13 @@ use Rattle.rules.proofs.undamaged.SoundStays.{channel-stays}
 use Rattle.rules.proofs.undamaged.RecordsWithin.{read-within, made-within}
 use Rattle.rules.proofs.undamaged.LogSound.{after, status-same, mark-same, log-sound}
 
-module _ (l : Line) (sound : Sound l) (n : ℕ) (r : List ℕ) (bytes : Bytes r) {who : ℕ} (p : Passed l who (feed n r)) where
-  source-up : n < nodeCount (l .plan) → isSource (l .plan) n ≡ true → nodeAt l n .status ≡ up
+module _ (l : Line) (sound : Sound l) (n : ℕ) where
+  pub source-up : n < nodeCount (l .plan) → isSource (l .plan) n ≡ true → nodeAt l n .status ≡ up
   source-up inside source =
       let f = sound .standing .nodes n inside .fits in
       f .unmarked (if-marked (nodeAt l n .crashed) (λ e. absurd (true≢false (sym source ∙ f .between e .0))) (λ e. e))
 
+module _ (l : Line) (sound : Sound l) (n : ℕ) (r : List ℕ) (bytes : Bytes r) {who : ℕ} (p : Passed l who (feed n r)) where
   fed-sound : Sound (counted who (fedLine n r l))
   unfolding counted fedLine withNode
   fed-sound =
@@ -36,7 +37,7 @@ module _ (l : Line) (sound : Sound l) (n : ℕ) (r : List ℕ) (bytes : Bytes r)
       let counts = sound .standing .counts in
       let fits = more-fit counts (p .console) (p .steps-left) in
       let rise = counts-rise counts (p .console) (p .steps-left) in
-      let is-up = source-up (can .here) (can .source) in
+      let is-up = source-up l sound n (can .here) (can .source) in
       let room : length (nodeAt l n .log) < logLimit = leb-false logLimit (length (nodeAt l n .log)) (p .space) in
       let what = madeBy l n (recordLayout .read r) in
       let chosen = setOf (l .plan) n what in

@@ -12,7 +12,7 @@ use lib.Dec.{leb, eqb}
 use borrow.Author.Tests.{leb-false, eqb-true}
 use Rattle.plan.specs.Plan.{channelAt}
 use Rattle.rules.specs.Lists.{keepOne}
-use Rattle.rules.specs.Line.{logLimit, heldLimit, Message, Entry, Held, Status, replay, Node, Line, nodeAt, laneAt, receiverOf, withNode, withLane, counted, isReplay, acceptedSteps}
+use Rattle.rules.specs.Line.{logLimit, heldLimit, Message, Entry, Held, Status, replay, Node, Line, nodeAt, laneAt, receiverOf, withNode, withLane, counted, isReplay, acceptedSteps, up}
 use Rattle.rules.specs.Frame.{take}
 use Rattle.rules.specs.Recover.{triples}
 use Rattle.rules.specs.Replay.{passedOn, holding, heldEntry, endedIfComplete}
@@ -26,8 +26,9 @@ use Rattle.rules.proofs.invariant.Stays.{moved}
 use Rattle.rules.proofs.invariant.Inv.{Enters}
 use Rattle.rules.proofs.theorem.Accepted.{Passed, CanTake}
 use Rattle.rules.proofs.undamaged.TestLaws.{unless}
+use Rattle.rules.proofs.invariant.InvLaws.{up-not-replay}
 use Rattle.rules.proofs.undamaged.Standing.{heldTime, heldFrom, EntryFits, Empties, NodeFits, Covers, NodeSound, Standing, Sound}
-use Rattle.rules.proofs.undamaged.SoundStays.{node-stays, replays-stay, counted-sound}
+use Rattle.rules.proofs.undamaged.SoundStays.{node-stays, stopped-stay, counted-sound}
 use Rattle.rules.proofs.undamaged.TakeSound.{now, lanes, inside, next, taken-entry, raised, own, lows, entries, channels}
 use Rattle.rules.proofs.undamaged.EndSound.{ended-sound}
 use Rattle.rules.proofs.theorem.Unmoved.{ended-steps}
@@ -64,7 +65,7 @@ module _ (l : Line) (sound : Sound l) (b : ℕ) {who : ℕ} (p : Passed l who (t
   goes = passedOn (l .plan) (channelAt (l .plan) b .receiver) (madeBy l (channelAt (l .plan) b .receiver) (can .message .what))
 
   abbrev heldNode : Node
-  heldNode = record { status = x .status; crashed = x .crashed; time = x .time; log = x .log; held = x .held ++ keepOne goes h []; targets = x .targets }
+  heldNode = record { status = x .status; crashed = x .crashed; time = x .time; log = x .log; held = x .held ++ keepOne goes h []; targets = x .targets; asked = x .asked }
 
   old : NodeSound l n
   old = s .nodes n (inside l sound b p can)
@@ -172,17 +173,17 @@ module _ (l : Line) (sound : Sound l) (b : ℕ) {who : ℕ} (p : Passed l who (t
             ];
             channels = channels l sound b p can (l .steps) nodes same status (same-part (λ (y : Node). y .crashed) refl);
           };
-          replays = λ j i q.
-              (let was : nodeAt l j .status ≡ replay = sym (status j) ∙ q in
-              replays-stay l (l .steps) nodes (lanes l sound b p can) same j (entries l sound b p can (l .steps) nodes j was) (λ c k. same-part (λ (y : Node). triples j (y .log)) refl (channelAt (l .plan) c .receiver)) (lows l sound b p can (l .steps) nodes j was)
-              (same-part (λ (y : Node). y .time) refl j) (same-part (λ (y : Node). y .targets) refl j) (sound .replays j i was));
+          stopped = λ j i q.
+              (let was : nodeAt l j .status ≢ up = λ z. q (status j ∙ z) in
+              stopped-stay l (l .steps) nodes (lanes l sound b p can) same j (entries l sound b p can (l .steps) nodes j was) (λ c k. same-part (λ (y : Node). triples j (y .log)) refl (channelAt (l .plan) c .receiver)) (lows l sound b p can (l .steps) nodes j was)
+              (status j) (same-part (λ (y : Node). y .time) refl j) (same-part (λ (y : Node). y .targets) refl j) (same-part (λ (y : Node). y .asked) refl j) (sound .stopped j i was));
         }
 
     goes-on : (k : Line) → endedIfComplete n after ≡ some k → Sound (counted who k)
     goes-on k e =
         let f = holds-sound in
         let still = status n ∙ again in
-        counted-sound k (p .console) (rw (ended-steps after n e) (p .steps-left)) (ended-sound after (f .standing) n (inside l sound b p can) still (λ j i d. f .replays j i) (λ _. f .replays n (inside l sound b p can) still) k e)
+        counted-sound k (p .console) (rw (ended-steps after n e) (p .steps-left)) (ended-sound after (f .standing) n (inside l sound b p can) still (λ j i d. f .stopped j i) (λ _. f .stopped n (inside l sound b p can) (λ q. up-not-replay (sym q ∙ still))) k e)
 
   abbrev left : Line
   left = takenReplaying b (can .message) (takenLane b (can .message) (can .rest) l)
@@ -191,7 +192,7 @@ module _ (l : Line) (sound : Sound l) (b : ℕ) {who : ℕ} (p : Passed l who (t
   unfolding takenReplaying takenLane withLane withNode holding
   from-held t k e =
       goes-on (set (l .nodes) n (holding h x)) (length-set (l .nodes) n (holding h x))
-      (node-there n (holding h x) l (rw (s .shape .nodes-long) (inside l sound b p can)) ∙ ap (λ (z : Bool). record { status = x .status; crashed = x .crashed; time = x .time; log = x .log; held = x .held ++ keepOne z h []; targets = x .targets }) (sym t))
+      (node-there n (holding h x) l (rw (s .shape .nodes-long) (inside l sound b p can)) ∙ ap (λ (z : Bool). record { status = x .status; crashed = x .crashed; time = x .time; log = x .log; held = x .held ++ keepOne z h []; targets = x .targets; asked = x .asked }) (sym t))
       (node-else n (holding h x) l) k (ap (endedIfComplete n) (sym held) ∙ e)
     where
       held : left ≡ moved l (l .steps) (set (l .nodes) n (holding h x)) (lanes l sound b p can)
@@ -201,7 +202,7 @@ module _ (l : Line) (sound : Sound l) (b : ℕ) {who : ℕ} (p : Passed l who (t
   unfolding takenReplaying takenLane withLane
   from-dropped t k e =
       goes-on (l .nodes) refl
-      (λ i. record { status = x .status; crashed = x .crashed; time = x .time; log = x .log; held = same i; targets = x .targets })
+      (λ i. record { status = x .status; crashed = x .crashed; time = x .time; log = x .log; held = same i; targets = x .targets; asked = x .asked })
       (λ j d. refl) k (ap (endedIfComplete n) (sym dropped) ∙ e)
     where
       same : x .held ≡ x .held ++ keepOne goes h []

@@ -8,7 +8,7 @@ use native.Mathlib.Decide.{ℕ-discrete}
 use lib.ListN.{length, length-append, set, length-set}
 use Rattle.plan.specs.declared.Record.{Record}
 use Rattle.plan.specs.Plan.{Plan, nodeCount, channelCount, channelAt}
-use Rattle.rules.specs.Line.{logLimit, acceptedSteps, Origin, Entry, Status, up, replay, Node, Lane, Line, nodeAt, laneAt, withNode}
+use Rattle.rules.specs.Line.{logLimit, acceptedSteps, Origin, Entry, Status, up, Node, Lane, Line, nodeAt, laneAt, withNode}
 use Rattle.plan.specs.Layout.{sumOf}
 use Rattle.plan.specs.Mask.{setOf}
 use Rattle.rules.specs.Recover.{triple, triples}
@@ -21,10 +21,9 @@ use Rattle.rules.proofs.line.LineLaws.{node-there, node-else}
 use Rattle.rules.proofs.line.Consoles.{CountsFit}
 use Rattle.rules.proofs.invariant.Stays.{moved}
 use Rattle.rules.proofs.invariant.Inv.{Enters, Leaves}
-use Rattle.rules.proofs.invariant.InvLaws.{up-not-replay}
 use Rattle.rules.proofs.ending.Targets.{triples-snoc}
 use Rattle.rules.proofs.undamaged.Standing.{entryTime, EntryFits, Empties, NodeFits, Covers, NodeSound, ChannelSound, Standing, Sound}
-use Rattle.rules.proofs.undamaged.SoundStays.{node-later, node-stays, replays-stay}
+use Rattle.rules.proofs.undamaged.SoundStays.{node-later, node-stays, stopped-same}
 
 -- One more of what was worked on.
 worked-more : (x : Node) (e : Entry) {d : Entry} → In d ((x .log ++ e ∷ []) ++ map heldEntry (x .held)) → (d ≡ e) ⊎ In d (workedOn x)
@@ -103,8 +102,8 @@ module _ (l : Line) (sound : Sound l) {counts : List ℕ} (counts-fit : CountsFi
 
   module _ (long : length lanes ≡ length (l .lanes)) (raised : (b : ℕ) → b < channelCount (l .plan) → (o bef : Origin) → Covers (l .plan) b (laneAt l b) o bef → Covers (l .plan) b (laneAt after b) o bef)
       (own : (b : ℕ) → Enters (l .plan) n b → Covers (l .plan) b (laneAt after b) origin before) (channels : (b : ℕ) → b < channelCount (l .plan) → ChannelSound after b)
-      (entries : (m : ℕ) → nodeAt l m .status ≡ replay → (c : ℕ) → Leaves (l .plan) m c → laneAt after c .taken ≡ laneAt l c .taken)
-      (others : (m : ℕ) → nodeAt l m .status ≡ replay → triple m origin before ≡ []) (lows : (m : ℕ) → nodeAt l m .status ≡ replay → (c : ℕ) → Leaves (l .plan) m c → laneAt after c .low ≡ laneAt l c .low) where
+      (entries : (m : ℕ) → nodeAt l m .status ≢ up → (c : ℕ) → Leaves (l .plan) m c → laneAt after c .taken ≡ laneAt l c .taken)
+      (others : (m : ℕ) → nodeAt l m .status ≢ up → triple m origin before ≡ []) (lows : (m : ℕ) → nodeAt l m .status ≢ up → (c : ℕ) → Leaves (l .plan) m c → laneAt after c .low ≡ laneAt l c .low) where
     node-logs : NodeSound after n
     unfolding logged
     node-logs =
@@ -133,9 +132,8 @@ module _ (l : Line) (sound : Sound l) {counts : List ℕ} (counts-fit : CountsFi
             ];
             channels = channels;
           };
-          replays = λ m h e.
-              (let old : nodeAt l m .status ≡ replay = sym (status-same m) ∙ e in
-              let d : m ≢ n = λ q. up-not-replay (sym is-up ∙ ap (λ (z : ℕ). nodeAt l z .status) (sym q) ∙ old) in
-              replays-stay l counts (after .nodes) lanes later m (entries m old) (λ c _. triples-stay m (others m old) (channelAt (l .plan) c .receiver)) (lows m old)
-              (ap (λ (x : Node). x .time) (node-other m d)) (ap (λ (x : Node). x .targets) (node-other m d)) (sound .replays m h old));
+          stopped = λ m h e.
+              (let old : nodeAt l m .status ≢ up = λ q. e (status-same m ∙ q) in
+              let d : m ≢ n = λ q. old (ap (λ (z : ℕ). nodeAt l z .status) q ∙ is-up) in
+              stopped-same l counts (after .nodes) lanes later m (entries m old) (λ c _. triples-stay m (others m old) (channelAt (l .plan) c .receiver)) (lows m old) (node-other m d) (sound .stopped m h old));
         }

@@ -21,14 +21,14 @@ use Rattle.rules.proofs.lists.Rising.{Rises, none, none-in}
 use Rattle.rules.proofs.lists.Members.{In, in-none, in-first, in-drop, in-left}
 use Rattle.rules.proofs.ending.Targets.{triples-at-in, low-high, restored-cases, targets-from}
 use Rattle.rules.proofs.invariant.Inv.{Ordered, Enters, Leaves}
-use Rattle.rules.proofs.invariant.InvLaws.{up-not-down, up-not-replay, replay-not-down, if-marked}
+use Rattle.rules.proofs.invariant.InvLaws.{up-not-down, replay-not-down, if-marked}
 use Rattle.rules.proofs.invariant.MarkedLaws.{at-ends}
 use Rattle.rules.proofs.theorem.Accepted.{Passed, CanRecover, can-recover}
 use Rattle.rules.proofs.lists.Options.{some-same, none-some}
 use Rattle.rules.specs.Damaged.{lowWrong}
 use Rattle.rules.proofs.undamaged.LowLaws.{low-within, entry-within}
-use Rattle.rules.proofs.undamaged.Standing.{heldTime, heldFrom, OriginFits, BeforeFits, TargetFits, Empties, NodeFits, Covers, NodeSound, LaneFits, Flows, ChannelSound, Standing, Replays, Sound}
-use Rattle.rules.proofs.undamaged.SoundStays.{node-stays, channel-stays, low-kept, targets-kept, rows-kept, replays-stay, counted-sound}
+use Rattle.rules.proofs.undamaged.Standing.{heldTime, heldFrom, OriginFits, BeforeFits, TargetFits, Empties, NodeFits, Covers, NodeSound, LaneFits, Flows, ChannelSound, Standing, Replays, Stopped, Sound}
+use Rattle.rules.proofs.undamaged.SoundStays.{node-stays, channel-stays, low-kept, targets-kept, rows-kept, stopped-same, counted-sound}
 use Rattle.rules.proofs.undamaged.StartSound.{fresh-fits, fresh-flows}
 use Rattle.rules.proofs.undamaged.Undamaged.{ordered-fit}
 use Rattle.rules.proofs.undamaged.Restored.{restoredNode, restoredLine, recovered-is, restored-node, restored-else, restored-shape, restored-enters, restored-leaves, restored-beside, restored-complete}
@@ -36,7 +36,7 @@ use Rattle.rules.proofs.undamaged.CrashSound.{covers-like, stopped-mark
 use Rattle.rules.proofs.undamaged.EndSound.{high-within, marked-apart, ended-sound}
 use Rattle.rules.proofs.theorem.Unmoved.{effect-steps}
 
-status-not-down : (ts : List Target) → statusOf ts ≢ down
+pub status-not-down : (ts : List Target) → statusOf ts ≢ down
 status-not-down [] e = up-not-down e
 status-not-down (t ∷ ts) e = replay-not-down e
 
@@ -54,7 +54,7 @@ module _ (l : Line) (s : Standing l) (n : ℕ) where
   ordered = ordered-fit (l .plan) (s .plan-fits)
 
   -- A triple names a parent, and its times are not past the steps.
-  triple-fits : (u : Target) → In u (childTriples l n) → TargetFits (l .plan) (acceptedSteps l) n u
+  pub triple-fits : (u : Target) → In u (childTriples l n) → TargetFits (l .plan) (acceptedSteps l) n u
   triple-fits u i =
       let p = l .plan in
       let t = triples-at-in l n u i in
@@ -77,9 +77,9 @@ module _ (l : Line) (s : Standing l) (n : ℕ) where
         | inr (inr (u, i, _, _, q)) ↦ omega (arith, q, triple-fits u i .parent-time)
       ]
 
-  restored-empties : (ts : List Target) → Empties (statusOf ts) (record { status = statusOf ts; crashed = true; time = lowOf l n; log = []; held = []; targets = ts })
-  restored-empties [] = (refl, refl)
-  restored-empties (t ∷ ts) = refl
+  restored-empties : (ts : List Target) → Empties (statusOf ts) (record { status = statusOf ts; crashed = true; time = lowOf l n; log = []; held = []; targets = ts; asked = none })
+  restored-empties [] = (refl, refl, refl)
+  restored-empties (t ∷ ts) = (refl, refl)
 
   module _ (can : CanRecover l n) (few : length (targetsOf l n) ≤ targetLimit) where
     abbrev r : Line
@@ -227,15 +227,15 @@ module _ (l : Line) (s : Standing l) (n : ℕ) where
               (restored-beside l n ordered (s .shape) c d e) (s .channels c h)));
         }
 
-    -- Another node that replays is not joined to this one.
-    replays-other : ((m : ℕ) → m < nodeCount (l .plan) → nodeAt l m .status ≡ replay → Replays l m) → (m : ℕ) → m < nodeCount (l .plan) → m ≢ n → nodeAt r m .status ≡ replay → Replays r m
-    replays-other replays m h d e =
+    -- Another node that is not up is not joined to this one.
+    stopped-other : ((m : ℕ) → m < nodeCount (l .plan) → nodeAt l m .status ≢ up → Stopped l m) → (m : ℕ) → m < nodeCount (l .plan) → m ≢ n → nodeAt r m .status ≢ up → Stopped r m
+    stopped-other stopped m h d e =
         let same : acceptedSteps l ≤ acceptedSteps l = omega arith in
         let node = node-other m d in
-        let was : nodeAt l m .status ≡ replay = sym (ap (λ (x : Node). x .status) node) ∙ e in
-        let apart = marked-apart l s m n (stopped-marked l s m h (λ q. up-not-replay (sym q ∙ was))) marked in
-        replays-stay l (l .steps) (r .nodes) (r .lanes) same m (λ c j. ap (λ (x : Lane). x .taken) (restored-beside l n ordered (s .shape) c (apart c j) (λ q. d (sym (j .1) ∙ q))))
-        (λ c j. ap (λ (x : Node). triples m (x .log)) (node-other (channelAt (l .plan) c .receiver) (apart c j))) (λ c j. ap (λ (x : Lane). x .low) (restored-beside l n ordered (s .shape) c (apart c j) (λ q. d (sym (j .1) ∙ q)))) (ap (λ (x : Node). x .time) node) (ap (λ (x : Node). x .targets) node) (replays m h was)
+        let was : nodeAt l m .status ≢ up = λ q. e (ap (λ (x : Node). x .status) node ∙ q) in
+        let apart = marked-apart l s m n (stopped-marked l s m h was) marked in
+        stopped-same l (l .steps) (r .nodes) (r .lanes) same m (λ c j. ap (λ (x : Lane). x .taken) (restored-beside l n ordered (s .shape) c (apart c j) (λ q. d (sym (j .1) ∙ q))))
+        (λ c j. ap (λ (x : Node). triples m (x .log)) (node-other (channelAt (l .plan) c .receiver) (apart c j))) (λ c j. ap (λ (x : Lane). x .low) (restored-beside l n ordered (s .shape) c (apart c j) (λ q. d (sym (j .1) ∙ q)))) node (stopped m h was)
 
     replays-own : conflict (targetsOf l n) ≡ false → isEmpty (targetsOf l n) ≡ false → rowsComplete r n ≡ false → Replays r n
     replays-own agreed there waiting =
@@ -251,36 +251,40 @@ module _ (l : Line) (s : Standing l) (n : ℕ) where
           open-row = rows-kept l (l .steps) (r .nodes) (r .lanes) same n taken-kept log-kept low-kept-too ∙ sym (restored-complete l n ordered (s .shape) (can .here)) ∙ ap (λ (k : Line). rowsComplete k n) (recovered-is l n ordered (s .shape)) ∙ waiting;
         }
 
-    recovered-sound : ((m : ℕ) → m < nodeCount (l .plan) → nodeAt l m .status ≡ replay → Replays l m) → (k : Line) → recoveredLine n l ≡ some k → Sound k
+    -- It has no kept answer.
+    own-stopped : (nodeAt r n .status ≡ replay → Replays r n) → Stopped r n
+    own-stopped f = record { replays = f; answers = λ a e. none-some (sym (ap (λ (x : Node). x .asked) node-now) ∙ e) }
+
+    pub recovered-sound : ((m : ℕ) → m < nodeCount (l .plan) → nodeAt l m .status ≢ up → Stopped l m) → (k : Line) → recoveredLine n l ≡ some k → Sound k
     unfolding recoveredLine
-    recovered-sound replays k = go (conflict (targetsOf l n)) (isEmpty (targetsOf l n)) refl refl
+    recovered-sound stopped k = go (conflict (targetsOf l n)) (isEmpty (targetsOf l n)) refl refl
       where
-        others : (m : ℕ) → m < nodeCount (l .plan) → m ≢ n → nodeAt r m .status ≡ replay → Replays r m
-        others = replays-other replays
+        others : (m : ℕ) → m < nodeCount (l .plan) → m ≢ n → nodeAt r m .status ≢ up → Stopped r m
+        others = stopped-other stopped
 
         is : recovered n l ≡ r
         is = recovered-is l n ordered (s .shape)
 
-        without : isEmpty (targetsOf l n) ≡ true → (m : ℕ) → m < nodeCount (l .plan) → nodeAt r m .status ≡ replay → Replays r m
+        without : isEmpty (targetsOf l n) ≡ true → (m : ℕ) → m < nodeCount (l .plan) → nodeAt r m .status ≢ up → Stopped r m
         without e m h q = elim (ℕ-discrete m n) [
-          | yes z ↦ absurd (empty-up (targetsOf l n) e (sym status-now ∙ ap (λ (x : ℕ). nodeAt r x .status) (sym z) ∙ q))
+          | yes z ↦ absurd (q (ap (λ (x : ℕ). nodeAt r x .status) z ∙ status-now ∙ empty-up (targetsOf l n) e))
           | no d ↦ others m h d q
         ]
           where
-            empty-up : (ts : List Target) → isEmpty ts ≡ true → statusOf ts ≡ replay → ⊥
-            empty-up [] x y = up-not-replay y
-            empty-up (t ∷ ts) x y = true≢false (sym x)
+            empty-up : (ts : List Target) → isEmpty ts ≡ true → statusOf ts ≡ up
+            empty-up [] x = refl
+            empty-up (t ∷ ts) x = absurd (true≢false (sym x))
 
         go : (clash empty : Bool) → conflict (targetsOf l n) ≡ clash → isEmpty (targetsOf l n) ≡ empty
             → (elim clash [ true ↦ none | false ↦ elim empty [ true ↦ some (recovered n l) | false ↦ endedIfComplete n (recovered n l) ] ]) ≡ some k → Sound k
         go true empty c e q = none-some q
-        go false true c e q = let same = sym is ∙ some-same q in subst Sound same (record { standing = restored-standing; replays = without e })
+        go false true c e q = let same = sym is ∙ some-same q in subst Sound same (record { standing = restored-standing; stopped = without e })
         go false false c e q =
             let ends : endedIfComplete n r ≡ some k = ap (endedIfComplete n) (sym is) ∙ q in
-            ended-sound r restored-standing n (can .here) (status-now ∙ status-replays (targetsOf l n) e) others (replays-own c e) k ends
+            ended-sound r restored-standing n (can .here) (status-now ∙ status-replays (targetsOf l n) e) others (λ waiting. own-stopped (λ _. replays-own c e waiting)) k ends
 
 pub recover-sound : (l : Line) → Sound l → (n : ℕ) {who : ℕ} → Passed l who (recover n) → (k : Line) → effect l (recover n) ≡ some k → Sound (counted who k)
 unfolding effect
 recover-sound l sound n {who} p k e =
-    let after = recovered-sound l (sound .standing) n (can-recover p) (ltb-false targetLimit (length (targetsOf l n)) (p .space)) (sound .replays) k e in
+    let after = recovered-sound l (sound .standing) n (can-recover p) (ltb-false targetLimit (length (targetsOf l n)) (p .space)) (sound .stopped) k e in
     counted-sound k (p .console) (rw (effect-steps l (recover n) e) (p .steps-left)) after

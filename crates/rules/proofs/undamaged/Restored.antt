@@ -2,16 +2,17 @@
 use Prim.Native.Nat.{ℕ, _<_}
 use mathlib.Core.Path.{_≡_, refl, sym, ap, _∙_}
 use mathlib.Core.Logic.{_≢_}
-use mathlib.Core.Bool.{Bool, true, false, _&&_}
+use mathlib.Core.Bool.{Bool, true, false, not, _&&_, _||_, true≢false}
 use mathlib.Core.List.{List, [], _∷_}
 use mathlib.Core.Option.{Option, none, some}
 use lib.ListN.{length}
 use lib.Dec.{leb}
 use Rattle.plan.specs.Plan.{channelAt, nodeCount, entering}
-use Rattle.rules.specs.Lists.{allOf, joined}
-use Rattle.rules.specs.Line.{Held, up, Node, Lane, Line, nodeAt, laneAt, withNode, freshLane}
-use Rattle.rules.specs.Recover.{lowOf, highOf, targetsOf, restored, recovered, statusOf, rowGoal, rowComplete, rowsComplete}
-use Rattle.rules.specs.Replay.{heldByRow, isHeld, itemsByRow, placing, nodePlaced, replayEnd}
+use Rattle.rules.specs.Lists.{allOf, isEmpty, joined}
+use Rattle.rules.specs.Line.{Held, Target, up, Node, Lane, Line, nodeAt, laneAt, withNode, freshLane}
+use Rattle.rules.specs.Recover.{lowOf, highOf, targetsOf, restored, conflict, recovered, statusOf, rowGoal, rowComplete, rowsComplete}
+use Rattle.rules.specs.Replay.{heldByRow, isHeld, itemsByRow, placing, nodePlaced, replayEnd, endedIfComplete}
+use Rattle.rules.specs.Step.{isNothing, recoveredLine}
 use Rattle.rules.proofs.lists.Members.{In, here, there}
 use Rattle.rules.proofs.line.LineLaws.{node-there, node-else, nodes-long}
 use Rattle.rules.proofs.line.Joins.{entering-in}
@@ -19,7 +20,7 @@ use Rattle.rules.proofs.invariant.Stays.{moved}
 use Rattle.rules.proofs.invariant.Swept.{swept-line, swept-long, swept-enters, swept-leaves, swept-else}
 use Rattle.rules.proofs.invariant.Inv.{Shape, Ordered, Enters, Leaves}
 use Rattle.rules.proofs.lists.Options.{some-same, none-some}
-use Rattle.rules.proofs.undamaged.Standing.{restoredComplete}
+use Rattle.rules.proofs.undamaged.Standing.{restoredComplete, stuck}
 
 pub all-same : {A : Type 0} (f g : A → Bool) (xs : List A) → ((x : A) → In x xs → f x ≡ g x) → allOf f xs ≡ allOf g xs
 all-same f g [] h = refl
@@ -27,7 +28,7 @@ all-same f g (x ∷ xs) h = ap (λ (t : Bool). t && allOf f xs) (h x here) ∙ a
 
 module _ (l : Line) (n : ℕ) where
   abbrev pub restoredNode : Node
-  restoredNode = record { status = statusOf (targetsOf l n); crashed = true; time = lowOf l n; log = []; held = []; targets = targetsOf l n }
+  restoredNode = record { status = statusOf (targetsOf l n); crashed = true; time = lowOf l n; log = []; held = []; targets = targetsOf l n; asked = none }
 
   abbrev left : ℕ → Lane → Lane
   left c s = record { mark = s .taken; taken = s .taken; heard = s .heard; queue = s .queue; low = s .low }
@@ -95,3 +96,50 @@ module _ (l : Line) (n : ℕ) (inside : n < length (l .nodes)) where
       go false chosen e = none-some e
       go true none e = none-some e
       go true (some columns) e = ap (λ (x : Line). nodeAt x n .status) (sym (some-same e)) ∙ placed-up columns
+
+-- A line, or nothing where a test says so.
+abbrev pub unless : Bool → Line → Option Line
+unless true l = none
+unless false l = some l
+
+module _ (l : Line) (ordered : Ordered (l .plan)) (shape : Shape l) (n : ℕ) (inside : n < nodeCount (l .plan)) where
+  node-is : nodeAt (recovered n l) n ≡ restoredNode l n
+  node-is = ap (λ (x : Line). nodeAt x n) (recovered-is l n ordered shape) ∙ restored-node l n ordered shape inside
+
+  end-none : isEmpty (targetsOf l n) ≡ false → replayEnd n (recovered n l) ≡ none
+  unfolding replayEnd
+  end-none e = rw (not-held, replayEnd)
+    where
+      none-held : (ts : List Target) → isEmpty ts ≡ false → allOf (isHeld []) ts ≡ false
+      none-held [] q = absurd (true≢false q)
+      none-held (t ∷ ts) q = refl
+
+      not-held : allOf (isHeld (nodeAt (recovered n l) n .held)) (nodeAt (recovered n l) n .targets) ≡ false
+      not-held = ap (λ (x : Node). allOf (isHeld (x .held)) (x .targets)) node-is ∙ none-held (targetsOf l n) e
+
+  pub recovers-by : recoveredLine n l ≡ unless (stuck l n) (recovered n l)
+  unfolding recoveredLine endedIfComplete stuck
+  recovers-by = go (conflict (targetsOf l n)) (isEmpty (targetsOf l n)) refl (rowsComplete (recovered n l) n) (restored-complete l n ordered shape inside)
+    where
+      ends : Bool → Option Line
+      ends t = elim t [ true ↦ replayEnd n (recovered n l) | false ↦ some (recovered n l) ]
+
+      tried : Bool → Bool → Bool → Option Line
+      tried clash empty t = elim clash [ true ↦ none | false ↦ elim empty [ true ↦ some (recovered n l) | false ↦ ends t ] ]
+
+      ended : isEmpty (targetsOf l n) ≡ false → (t : Bool) → ends t ≡ unless t (recovered n l)
+      ended e true = end-none e
+      ended e false = refl
+
+      go : (clash empty : Bool) → isEmpty (targetsOf l n) ≡ empty → (t : Bool) → t ≡ restoredComplete l n → tried clash empty t ≡ unless (clash || (not empty && restoredComplete l n)) (recovered n l)
+      go true empty e t q = refl
+      go false true e t q = refl
+      go false false e t q = ended e t ∙ ap (λ (x : Bool). unless x (recovered n l)) q
+
+pub nothing-unless : (t : Bool) (l : Line) → isNothing (unless t l) ≡ t
+nothing-unless true l = refl
+nothing-unless false l = refl
+
+pub unless-some : (t : Bool) (l : Line) {k : Line} → unless t l ≡ some k → (t ≡ false) × (unless t l ≡ some l)
+unless-some true l e = none-some e
+unless-some false l e = (refl, refl)

@@ -26,7 +26,7 @@ use Rattle.rules.proofs.theorem.Accepted.{Passed, CanSend, can-send}
 use Rattle.rules.proofs.lists.Options.{some-same, none-some}
 use Rattle.rules.specs.Damaged.{lowWrong}
 use Rattle.rules.proofs.undamaged.Standing.{entryTime, Empties, Covers, LaneFits, MessageFits, Flows, ChannelSound, Standing, Sound}
-use Rattle.rules.proofs.undamaged.SoundStays.{node-stays, channel-stays, replays-stay, counted-sound}
+use Rattle.rules.proofs.undamaged.SoundStays.{node-stays, channel-stays, stopped-same, counted-sound}
 use Rattle.rules.proofs.undamaged.Undamaged.{ordered-fit}
 
 -- What is sent next is logged, and later than the mark.
@@ -146,7 +146,7 @@ module _ (l : Line) (sound : Sound l) (b : ℕ) {who : ℕ} (p : Passed l who (s
 
   -- The sender has a log, so it does not replay.
   not-replaying : nodeAt l n .status ≡ replay → ⊥
-  not-replaying q = in-none (subst (λ (x : List Entry). In e x) (subst (λ (x : Status). Empties x (nodeAt l n)) q (s .nodes n inside .fits .empties)) (is-next .0))
+  not-replaying q = in-none (subst (λ (x : List Entry). In e x) (subst (λ (x : Status). Empties x (nodeAt l n)) q (s .nodes n inside .fits .empties) .0) (is-next .0))
 
   sent-channel : ChannelSound after b
   unfolding withLane
@@ -175,7 +175,7 @@ module _ (l : Line) (sound : Sound l) (b : ℕ) {who : ℕ} (p : Passed l who (s
             | no d ↦ channel-stays l (l .steps) (l .nodes) (after .lanes) same c refl refl refl refl (beside c d) (s .channels c h)
           ];
         };
-        replays = λ m h q. replays-stay l (l .steps) (l .nodes) (after .lanes) same m (λ c j. taken-same c) (λ c j. refl) (λ c j. low-same c) refl refl (sound .replays m h q);
+        stopped = λ m h q. stopped-same l (l .steps) (l .nodes) (after .lanes) same m (λ c j. taken-same c) (λ c j. refl) (λ c j. low-same c) refl (sound .stopped m h q);
       }
 
   pub send-sound : (k : Line) → effect l (send b) ≡ some k → Sound (counted who k)

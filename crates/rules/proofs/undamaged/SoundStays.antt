@@ -1,24 +1,25 @@
 -- What is sound stays sound where a change does not reach, and as the steps go on.
-use Prim.Native.Nat.{ℕ, _<_, _≤_}
+use Prim.Native.Nat.{ℕ, _-_, _<_, _≤_}
 use mathlib.Core.Path.{_≡_, refl, sym, ap, subst, _∙_}
-use mathlib.Core.Bool.{_||_}
-use mathlib.Core.List.{List, _∷_}
+use mathlib.Core.Bool.{not, _&&_, _||_}
+use mathlib.Core.List.{List, _∷_, _++_}
+use lib.ListN.{length, replicate}
 use native.Mathlib.Omega.{arith}
 use lib.Dec.{leb}
 use Rattle.plan.specs.Plan.{Plan, channelAt, entering}
 use Rattle.plan.specs.Layout.{sumOf}
 use Rattle.rules.specs.Lists.{isEmpty}
-use Rattle.rules.specs.Line.{stepLimit, consoleCount, stepsFrom, acceptedSteps, Origin, fed, made, Message, Entry, Target, down, replay, Node, Lane, Line, nodeAt, laneAt, oneMore, counted, isDown}
-use Rattle.rules.specs.Recover.{triples, targetsOf, lowOf, restored, conflict, rowGoal, childTriples}
+use Rattle.rules.specs.Line.{stepLimit, consoleCount, stepsFrom, acceptedSteps, Origin, fed, made, Message, Entry, Target, down, replay, Asked, Node, Lane, Line, nodeAt, laneAt, oneMore, counted, isDown}
+use Rattle.rules.specs.Recover.{triples, targetsOf, lowOf, restored, conflict, rowGoal, childTriples, answerOf}
 use Rattle.rules.specs.Step.{endDown}
 use Rattle.rules.specs.Damaged.{workedOn}
 use Rattle.rules.proofs.lists.Rising.{Rises}
-use Rattle.rules.proofs.lists.Members.{In}
+use Rattle.rules.proofs.lists.Members.{In, map-same}
 use Rattle.rules.proofs.line.Consoles.{more-fit, counts-rise}
 use Rattle.rules.proofs.invariant.Stays.{moved}
 use Rattle.rules.proofs.invariant.Inv.{Enters, Leaves}
-use Rattle.rules.proofs.ending.Targets.{low-same, triples-same, targets-same, restored-same, lows-same}
-use Rattle.rules.proofs.undamaged.Standing.{heldTime, OriginFits, BeforeFits, EntryFits, MessageFits, TargetFits, NodeFits, Covers, heldFrom, NodeSound, LaneFits, Flows, ChannelSound, restoredComplete, Replays, Sound}
+use Rattle.rules.proofs.ending.Targets.{low-same, high-same, triples-same, targets-same, restored-same, lows-same}
+use Rattle.rules.proofs.undamaged.Standing.{heldTime, OriginFits, BeforeFits, EntryFits, MessageFits, TargetFits, NodeFits, Covers, heldFrom, NodeSound, LaneFits, Flows, ChannelSound, restoredComplete, Replays, stuck, Answers, Stopped, Sound}
 use Rattle.rules.proofs.undamaged.Restored.{all-same}
 
 -- More steps.
@@ -126,8 +127,22 @@ module _ (l : Line) (steps : List ℕ) (nodes : List Node) (lanes : List Lane) (
         all-same (λ (c : ℕ). leb (rowGoal (targetsOf k n) (channelAt p c .sender)) (restored k n (channelAt p c .sender))) (λ (c : ℕ). leb (rowGoal (targetsOf l n) (channelAt p c .sender)) (restored l n (channelAt p c .sender))) (entering p n)
         (λ c i. rw (targets-kept, restored-same l k n low-kept triples-kept (channelAt p c .sender) (lows-same l k n refl (λ d on leaves. lows d (on, leaves)) (channelAt p c .sender))))
 
+    pub answer-kept : answerOf k n ≡ answerOf l n
+    unfolding answerOf
+    answer-kept =
+        let p = l .plan in
+        λ i. record {
+          low = low-kept i;
+          high = high-same l k n refl (λ c on leaves. entries c (on, leaves)) i;
+          entries = map-same (λ (c : ℕ). restored k n (channelAt p c .sender)) (λ (c : ℕ). restored l n (channelAt p c .sender)) (entering p n) (λ c j. restored-same l k n low-kept triples-kept (channelAt p c .sender) (lows-same l k n refl (λ d on leaves. lows d (on, leaves)) (channelAt p c .sender))) i ++ replicate (4 - length (entering p n)) 0;
+        }
+
+    pub stuck-kept : stuck k n ≡ stuck l n
+    unfolding stuck
+    stuck-kept = λ i. conflict (targets-kept i) || (not (isEmpty (targets-kept i)) && rows-kept i)
+
     -- A replay whose node is as it was, too.
-    pub replays-stay : nodeAt k n .time ≡ nodeAt l n .time → nodeAt k n .targets ≡ nodeAt l n .targets → Replays l n → Replays k n
+    replays-stay : nodeAt k n .time ≡ nodeAt l n .time → nodeAt k n .targets ≡ nodeAt l n .targets → Replays l n → Replays k n
     replays-stay time targets f =
         record {
           time = time ∙ f .time ∙ sym low-kept;
@@ -137,6 +152,17 @@ module _ (l : Line) (steps : List ℕ) (nodes : List Node) (lanes : List Lane) (
           some = ap isEmpty targets-kept ∙ f .some;
           open-row = rows-kept ∙ f .open-row;
         }
+
+    answers-stay : nodeAt k n .targets ≡ nodeAt l n .targets → (a : Asked) → Answers l n a → Answers k n a
+    answers-stay targets a f = record { is = f .is ∙ sym answer-kept; targets = targets ∙ f .targets ∙ sym targets-kept; few = rw targets-kept (f .few); goes = stuck-kept ∙ f .goes }
+
+    -- What a node that is not up has of its restart stays right.
+    pub stopped-stay : nodeAt k n .status ≡ nodeAt l n .status → nodeAt k n .time ≡ nodeAt l n .time → nodeAt k n .targets ≡ nodeAt l n .targets → nodeAt k n .asked ≡ nodeAt l n .asked → Stopped l n → Stopped k n
+    stopped-stay status time targets asked f = record { replays = λ e. replays-stay time targets (f .replays (sym status ∙ e)); answers = λ a e. answers-stay targets a (f .answers a (sym asked ∙ e)) }
+
+    -- The same, of a node that is as it was.
+    pub stopped-same : nodeAt k n ≡ nodeAt l n → Stopped l n → Stopped k n
+    stopped-same node = stopped-stay (ap (λ (x : Node). x .status) node) (ap (λ (x : Node). x .time) node) (ap (λ (x : Node). x .targets) node) (ap (λ (x : Node). x .asked) node)
 
 -- One more step counted, of a console that has steps left.
 pub counted-sound : (l : Line) {c : ℕ} → c < consoleCount → stepsFrom l c < stepLimit → Sound l → Sound (counted c l)
@@ -153,5 +179,5 @@ counted-sound l {c} inside left f =
         nodes = λ n i. node-stays l steps (l .nodes) (l .lanes) later n refl (λ b j o before c. c) (s .nodes n i);
         channels = λ b i. channel-stays l steps (l .nodes) (l .lanes) later b refl refl refl refl refl (s .channels b i);
       };
-      replays = λ n i e. replays-stay l steps (l .nodes) (l .lanes) later n (λ c j. refl) (λ c j. refl) (λ c j. refl) refl refl (f .replays n i e);
+      stopped = λ n i e. stopped-same l steps (l .nodes) (l .lanes) later n (λ c j. refl) (λ c j. refl) (λ c j. refl) refl (f .stopped n i e);
     }

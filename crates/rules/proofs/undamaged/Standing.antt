@@ -1,7 +1,9 @@
 -- What an undamaged line is: of every node, of every channel and of every replay, the facts whose failure is a condition of Damaged.
 use Prim.Native.Nat.{ℕ, suc, _<_, _≤_}
 use mathlib.Core.Path.{_≡_}
-use mathlib.Core.Bool.{Bool, true, false}
+use mathlib.Core.Logic.{_≢_}
+use mathlib.Core.Option.{none, some}
+use mathlib.Core.Bool.{Bool, true, false, not, _&&_, _||_}
 use mathlib.Core.List.{List, [], _∷_}
 use lib.ListN.{length}
 use lib.Dec.{leb, eqb}
@@ -9,8 +11,8 @@ use Rattle.plan.specs.Plan.{Plan, nodeCount, channelCount, channelAt, entering,
 use Rattle.plan.specs.Check.{planFits}
 use Rattle.plan.specs.Mask.{setOf}
 use Rattle.rules.specs.Lists.{isEmpty, keep, allOf}
-use Rattle.rules.specs.Line.{logLimit, queueLimit, heldLimit, targetLimit, acceptedSteps, Origin, fed, made, Message, Entry, Held, Target, Status, up, down, replay, Node, Lane, Line, nodeAt, laneAt, parents, senderOf, receiverOf}
-use Rattle.rules.specs.Recover.{lowOf, targetsOf, restored, conflict, rowGoal}
+use Rattle.rules.specs.Line.{logLimit, queueLimit, heldLimit, targetLimit, acceptedSteps, Origin, fed, made, Message, Entry, Held, Target, Status, up, down, replay, Asked, Node, Lane, Line, nodeAt, laneAt, parents, senderOf, receiverOf}
+use Rattle.rules.specs.Recover.{lowOf, targetsOf, restored, conflict, rowGoal, answerOf}
 use Rattle.rules.specs.Replay.{passedOn}
 use Rattle.rules.specs.Step.{endDown}
 use Rattle.rules.specs.Damaged.{lowWrong, workedOn, recordPastLimits, isParent, isFed, pastHeard}
@@ -52,9 +54,9 @@ pub record TargetFits (p : Plan) (steps n : ℕ) (t : Target) : Type 0 where
 
 -- What is empty at a node, by its status.
 abbrev pub Empties : Status → Node → Type 0
-Empties up x = (x .held ≡ []) × (x .targets ≡ [])
-Empties down x = (x .time ≡ 0) × (x .log ≡ []) × (x .held ≡ []) × (x .targets ≡ [])
-Empties replay x = x .log ≡ []
+Empties up x = (x .held ≡ []) × (x .targets ≡ []) × (x .asked ≡ none)
+Empties down x = (x .time ≡ 0) × (x .log ≡ []) × (x .held ≡ []) × (x .asked ≡ none → x .targets ≡ [])
+Empties replay x = (x .log ≡ []) × (x .asked ≡ none)
 
 -- A node n by itself.
 pub record NodeFits (p : Plan) (steps n : ℕ) (x : Node) : Type 0 where
@@ -133,6 +135,22 @@ pub record Replays (l : Line) (n : ℕ) : Type 0 where
   pub some : isEmpty (targetsOf l n) ≡ false
   pub open-row : restoredComplete l n ≡ false
 
+-- Recover would be refused with 24: targets conflict, or there are some and every row is complete at once, with nothing held.
+unfoldable pub stuck : Line → ℕ → Bool
+stuck l n = conflict (targetsOf l n) || (not (isEmpty (targetsOf l n)) && restoredComplete l n)
+
+-- A kept answer is what Recover gives, which would not be refused.
+pub record Answers (l : Line) (n : ℕ) (a : Asked) : Type 0 where
+  pub is : a ≡ answerOf l n
+  pub targets : nodeAt l n .targets ≡ targetsOf l n
+  pub few : length (targetsOf l n) ≤ targetLimit
+  pub goes : stuck l n ≡ false
+
+-- A node that is not up: what it has of its restart is what Recover gives.
+pub record Stopped (l : Line) (n : ℕ) : Type 0 where
+  pub replays : nodeAt l n .status ≡ replay → Replays l n
+  pub answers : (a : Asked) → nodeAt l n .asked ≡ some a → Answers l n a
+
 pub record Sound (l : Line) : Type 0 where
   pub standing : Standing l
-  pub replays : (n : ℕ) → n < nodeCount (l .plan) → nodeAt l n .status ≡ replay → Replays l n
+  pub stopped : (n : ℕ) → n < nodeCount (l .plan) → nodeAt l n .status ≢ up → Stopped l n

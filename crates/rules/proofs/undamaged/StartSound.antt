@@ -78,7 +78,7 @@ module _ (p : Plan) (fits : planFits p ≡ true) where
         passed = λ h i. absurd (in-none i);
         unmarked = λ e. refl;
         between = λ e. absurd (true≢false (sym e));
-        empties = (refl, refl);
+        empties = (refl, refl, refl);
       }
 
   start-node : (n : ℕ) → n < nodeCount p → NodeSound l n
@@ -115,7 +115,7 @@ module _ (p : Plan) (fits : planFits p ≡ true) where
       nodes = start-node;
       channels = start-channel;
     };
-    replays = λ n h e. absurd (up-not-replay (ap (λ (x : Node). x .status) (sym (node-fresh n h)) ∙ e));
+    stopped = λ n h e. absurd (e (ap (λ (x : Node). x .status) (node-fresh n h)));
   }
 
 pub start-undamaged : (s : List ℕ) → Bytes s → planRefusal s ≡ 0 → damaged (initialLine (planOf s)) ≡ false

@@ -1,7 +1,7 @@
 -- Take keeps a line sound: the channel, and a receiver that is up.
 use Prim.Native.Nat.{ℕ, suc, max, _<_, _≤_}
 use mathlib.Core.Path.{_≡_, refl, sym, ap, subst, _∙_}
-use mathlib.Core.Logic.{_≢_}
+use mathlib.Core.Logic.{_≢_, inl, inr}
 use mathlib.Core.Bool.{true, false, cond, _&&_, true≢false}
 use mathlib.Core.List.{List, [], _∷_}
 use mathlib.Core.Option.{some}
@@ -11,7 +11,7 @@ use lib.ListN.{length, set, length-set}
 use lib.Dec.{leb, eqb}
 use borrow.Author.Tests.{leb-false, eq-eqb, ne-eqb}
 use Rattle.plan.specs.Plan.{Plan, nodeCount, channelCount, channelAt}
-use Rattle.rules.specs.Line.{logLimit, heldLimit, Origin, fed, made, Message, Status, up, replay, Node, Lane, Line, nodeAt, laneAt, parents, withNode, withLane, oneMore, counted, isReplay, acceptedSteps}
+use Rattle.rules.specs.Line.{logLimit, heldLimit, Origin, fed, made, Message, Status, up, Node, Lane, Line, nodeAt, laneAt, parents, withNode, withLane, oneMore, counted, isReplay, acceptedSteps}
 use Rattle.plan.specs.Layout.{sumOf}
 use Rattle.plan.specs.Mask.{setOf}
 use Rattle.rules.specs.Frame.{take}
@@ -19,7 +19,8 @@ use Rattle.rules.specs.Recover.{triple}
 use Rattle.rules.specs.Clock.{raiseHeard, takenFrom}
 use Rattle.rules.specs.Step.{firstRecord, toHold, takeLacks, madeBy, takenUp, takenLane, takenFirst, takenLine, effect}
 use Rattle.rules.specs.Damaged.{isParent, pastHeard}
-use Rattle.rules.proofs.theorem.StepInv.{first-up}
+use Rattle.rules.proofs.invariant.InvLaws.{up-not-replay}
+use Rattle.rules.proofs.theorem.StepInv.{first-up, up-or-replay}
 use Rattle.rules.proofs.lists.Rising.{Rises, more, Within, within-first}
 use Rattle.rules.proofs.lists.Members.{In, here, there, in-map}
 use Rattle.rules.proofs.line.Consoles.{more-fit, counts-rise}
@@ -145,8 +146,11 @@ module _ (l : Line) (sound : Sound l) (b : ℕ) {who : ℕ} (p : Passed l who (t
   covers-here q = (omega arith, raise-covers (parents (l .plan) from) (was .heard) (m .origin))
 
   -- The sender is neither down nor replaying, and a replaying node's channels are others.
-  pub not-silent : (k : ℕ) → nodeAt l k .status ≡ replay → from ≢ k
-  not-silent k q z = empty-not (sym (old .silent (ap (λ (x : ℕ). nodeAt l x .status) z ∙ q)) ∙ can .first)
+  pub not-silent : (k : ℕ) → nodeAt l k .status ≢ up → from ≢ k
+  not-silent k d z = elim (up-or-replay (nodeAt l from .status) (can .sender)) [
+    | inl q ↦ d (ap (λ (x : ℕ). nodeAt l x .status) (sym z) ∙ q)
+    | inr q ↦ empty-not (sym (old .silent q) ∙ can .first)
+  ]
 
   module _ (steps : List ℕ) (nodes : List Node) where
     abbrev k : Line
@@ -172,10 +176,10 @@ module _ (l : Line) (sound : Sound l) (b : ℕ) {who : ℕ} (p : Passed l who (t
       | no d ↦ absurd (d (ordered .alone c b h (can .here) z q))
     ]
 
-    pub lows : (j : ℕ) → nodeAt l j .status ≡ replay → (c : ℕ) → Leaves (l .plan) j c → laneAt k c .low ≡ laneAt l c .low
+    pub lows : (j : ℕ) → nodeAt l j .status ≢ up → (c : ℕ) → Leaves (l .plan) j c → laneAt k c .low ≡ laneAt l c .low
     lows j q c (h, e) = ap (λ (x : Lane). x .low) (lane-beside c (λ z. not-silent j q (ap (λ (x : ℕ). channelAt (l .plan) x .sender) (sym z) ∙ e)))
 
-    pub entries : (j : ℕ) → nodeAt l j .status ≡ replay → (c : ℕ) → Leaves (l .plan) j c → laneAt k c .taken ≡ laneAt l c .taken
+    pub entries : (j : ℕ) → nodeAt l j .status ≢ up → (c : ℕ) → Leaves (l .plan) j c → laneAt k c .taken ≡ laneAt l c .taken
     entries j q c (h, e) = ap (λ (x : Lane). x .taken) (lane-beside c (λ z. not-silent j q (ap (λ (x : ℕ). channelAt (l .plan) x .sender) (sym z) ∙ e)))
 
     module _ (later : acceptedSteps l ≤ sumOf steps) (status : (j : ℕ) → nodeAt k j .status ≡ nodeAt l j .status) (mark : (j : ℕ) → nodeAt k j .crashed ≡ nodeAt l j .crashed) where
@@ -187,7 +191,7 @@ module _ (l : Line) (sound : Sound l) (b : ℕ) {who : ℕ} (p : Passed l who (t
             apart = λ q. mark n ∙ old .apart (sym (mark from) ∙ q);
             stopped = λ q. absurd (true≢false (sym q ∙ ends-same l steps nodes lanes later b (status from) (status n) ∙ p .right-status));
             cleared = λ q. absurd (can .receiver (sym (status n) ∙ q));
-            silent = λ q. absurd (not-silent from (sym (status from) ∙ q) refl);
+            silent = λ q. absurd (not-silent from (λ z. up-not-replay (sym z ∙ sym (status from) ∙ q)) refl);
           }
 
       pub channels : (c : ℕ) → c < channelCount (l .plan) → ChannelSound k c

@@ -19,7 +19,6 @@ use Rattle.rules.proofs.lists.Rising.{Rises, none, more, Within, none-i
 use Rattle.rules.proofs.lists.Members.{In, in-left, in-right, append-in}
 use Rattle.rules.proofs.lists.Options.{some-same}
 use Rattle.rules.proofs.invariant.Inv.{Enters, Shape}
-use Rattle.rules.proofs.invariant.InvLaws.{up-not-replay}
 use Rattle.rules.proofs.invariant.Trimmed.{leading-behind, run, rest, lower, nodeAfter, trimmed, trimmed-is, trimmed-shape, trimmed-node, trimmed-else, trimmed-enters, trimmed-beside, node-same}
 use Rattle.rules.proofs.invariant.Lows.{after-long}
 use Rattle.rules.proofs.theorem.Accepted.{Passed, CanTrim, can-trim}
@@ -173,7 +172,7 @@ module _ (l : Line) (sound : Sound l) (n : ℕ) (can : CanTrim l n) where
           ];
           channels = channel;
         };
-        replays = λ m h e. absurd (up-not-replay (sym (can .all-up m h) ∙ sym (statuses m) ∙ e));
+        stopped = λ m h d. absurd (d (statuses m ∙ can .all-up m h));
       }
 
 pub trim-sound : (l : Line) → Sound l → (n : ℕ) {who : ℕ} → Passed l who (trim n) → (k : Line) → effect l (trim n) ≡ some k → Sound (counted who k)

@@ -1,6 +1,6 @@
 -- A line is not damaged exactly if it is sound: each condition of Damaged is the failure of a fact.
 use Prim.Native.Nat.{ℕ, zero, suc, _<_, _≤_}
-use mathlib.Core.Path.{_≡_, refl, sym, ap, _∙_}
+use mathlib.Core.Path.{_≡_, refl, sym, ap, subst, _∙_}
 use mathlib.Core.Logic.{inl, inr}
 use mathlib.Core.Bool.{Bool, true, false, not, _&&_, _||_, true≢false}
 use mathlib.Core.List.{List, [], _∷_, map}
@@ -8,17 +8,17 @@ use mathlib.Core.Option.{Option, none, some}
 use native.Mathlib.Omega.{arith}
 use lib.ListN.{length, getD}
 use lib.Dec.{ltb, eqb}
-use borrow.Author.Tests.{ltb-false, le-ltb, eqb-true, eq-eqb, not-false}
+use borrow.Author.Tests.{ltb-false, le-ltb, eqb-true, eq-eqb, not-false, not-true}
 use Rattle.basics.specs.Bools.{both-true, neither-true}
 use Rattle.plan.specs.Plan.{Plan, nodeCount, channelCount, channelAt, entering}
 use Rattle.plan.specs.Check.{planFits}
 use Rattle.plan.proofs.FitsLaws.{fitting}
 use Rattle.rules.specs.Lists.{isEmpty, anyOf}
-use Rattle.rules.specs.Line.{targetLimit, stepLimit, consoleCount, stepsFrom, acceptedSteps, Origin, fed, made, Entry, Held, Target, replay, Node, Line, nodeAt, laneAt, parents, senderOf, nodeNumbers, channelNumbersOf, isReplay}
-use Rattle.rules.specs.Recover.{sameTarget, targetsOf, conflict, recovered, statusOf, rowsComplete}
+use Rattle.rules.specs.Line.{targetLimit, stepLimit, consoleCount, stepsFrom, acceptedSteps, Origin, fed, made, Entry, Held, Target, Status, up, down, replay, Asked, Node, Line, nodeAt, laneAt, parents, senderOf, nodeNumbers, channelNumbersOf, isReplay}
+use Rattle.rules.specs.Recover.{sameTarget, targetsOf, conflict, answerOf, recovered, statusOf, rowsComplete}
 use Rattle.rules.specs.Replay.{heldByRow, replayEnd, endedIfComplete}
-use Rattle.rules.specs.Step.{replaying, recoveredLine, recoverGives}
-use Rattle.rules.specs.Damaged.{someNode, someChannel, planBroken, misshapen, workedOn, stepsPast, nodePastLimits, nodeWrongParent, nodeTimePast, nodeTimeZero, nodeMakerWrong, rises, logWrong, setWrong, pastHeard, pastLane, pastClock, heldWrong, heldNotPassed, markMissing, markOnEnd, sameTargets, replaysAs, replayWrong, nodeHolds, nodeDamaged, channelDamaged, damaged}
+use Rattle.rules.specs.Step.{isNothing, replaying, recoveredLine, recoverGives}
+use Rattle.rules.specs.Damaged.{someNode, someChannel, planBroken, misshapen, workedOn, stepsPast, nodePastLimits, nodeWrongParent, nodeTimePast, nodeTimeZero, nodeMakerWrong, rises, logWrong, setWrong, pastHeard, pastLane, pastClock, heldWrong, heldNotPassed, markMissing, markOnEnd, sameTargets, replaysAs, replayWrong, nodeHolds, nodeDamaged, channelDamaged, damaged, sameTimes, sameAnswer, answersAs, answerWrong}
 use Rattle.rules.proofs.ending.Targets.{same-target}
 use Rattle.rules.proofs.lists.Rising.{Rises}
 use Rattle.rules.proofs.lists.Members.{In, here, there, in-none, in-first, in-up-to, none-any}
@@ -26,8 +26,10 @@ use Rattle.rules.proofs.line.Joins.{in-entering, entering-in}
 use Rattle.rules.proofs.invariant.Inv.{Shape, Ordered, Enters}
 use Rattle.rules.proofs.steps.PlanOrder.{ordered-channels}
 use Rattle.rules.proofs.undamaged.TestLaws.{is-replay, none-by, up-to-in, all-false, unless, by-unless, rises-of, of-rises}
-use Rattle.rules.proofs.undamaged.Standing.{heldTime, Covers, heldFrom, NodeSound, Replays, Sound}
-use Rattle.rules.proofs.undamaged.Restored.{restoredNode, recovered-is, restored-node, restored-shape, restored-complete, ended-up}
+use Rattle.rules.proofs.undamaged.Standing.{heldTime, Covers, heldFrom, NodeSound, Replays, Empties, stuck, Answers, Stopped, Sound}
+use Rattle.rules.proofs.undamaged.Restored.{restoredNode, recovered-is, restored-node, restored-shape, restored-complete, ended-up, recovers-by, nothing-unless}
+use Rattle.rules.proofs.lists.Options.{none-some}
+use Rattle.rules.proofs.invariant.InvLaws.{up-not-down, up-not-replay}
 use Rattle.rules.proofs.undamaged.UndamagedChannel.{channel-sound, sound-channel}
 use Rattle.rules.proofs.undamaged.UndamagedNode.{node-fits, few-enough, right-parents, within-steps, above-zero, right-makers, log-right, right-sets, held-passed, mark-there, end-bare, holds-none}
 
@@ -166,7 +168,48 @@ module _ (l : Line) (n : ℕ) (ordered : Ordered (l .plan)) (shape : Shape l) (i
         targets-alike ts,
       )
 
--- A node with its clock, its rows and its replay.
+-- A kept answer.
+same-times : (ts us : List ℕ) → sameTimes ts us ≡ true → ts ≡ us
+same-times [] [] e = refl
+same-times [] (u ∷ us) e = absurd (true≢false (sym e))
+same-times (t ∷ ts) [] e = absurd (true≢false (sym e))
+same-times (t ∷ ts) (u ∷ us) e = let (a, b) = both-true (eqb t u) (sameTimes ts us) e in λ i. eqb-true t u a i ∷ same-times ts us b i
+
+times-alike : (ts : List ℕ) → sameTimes ts ts ≡ true
+times-alike [] = refl
+times-alike (t ∷ ts) = rw (eq-eqb t t refl) (times-alike ts)
+
+same-answer : (a b : Asked) → sameAnswer a b ≡ true → a ≡ b
+same-answer a b e =
+    let (xy, z) = both-true (eqb (a .low) (b .low) && eqb (a .high) (b .high)) (sameTimes (a .entries) (b .entries)) e in
+    let (x, y) = both-true (eqb (a .low) (b .low)) (eqb (a .high) (b .high)) xy in
+    λ i. record { low = eqb-true (a .low) (b .low) x i; high = eqb-true (a .high) (b .high) y i; entries = same-times (a .entries) (b .entries) z i }
+
+answer-alike : (a : Asked) → sameAnswer a a ≡ true
+answer-alike a = rw (eq-eqb (a .low) (a .low) refl, eq-eqb (a .high) (a .high) refl, times-alike (a .entries))
+
+module _ (l : Line) (n : ℕ) (ordered : Ordered (l .plan)) (shape : Shape l) (inside : n < nodeCount (l .plan)) where
+  gives-by : isNothing (recoverGives l n) ≡ (ltb targetLimit (length (targetsOf l n)) || stuck l n)
+  unfolding recoverGives
+  gives-by = one (ltb targetLimit (length (targetsOf l n)))
+    where
+      one : (t : Bool) → isNothing {A = Line} (elim t [ true ↦ none | false ↦ recoveredLine n l ]) ≡ (t || stuck l n)
+      one true = refl
+      one false = ap isNothing (recovers-by l ordered shape n inside) ∙ nothing-unless (stuck l n) (recovered n l)
+
+  answers-of : (a : Asked) → answersAs l n (some a) ≡ true → Answers l n a
+  answers-of a e =
+      let gives : Bool = not (isNothing (recoverGives l n)) in
+      let same : Bool = sameAnswer a (answerOf l n) in
+      let (xy, z) = both-true (gives && same) (sameTargets (nodeAt l n .targets) (targetsOf l n)) e in
+      let (x, y) = both-true gives same xy in
+      let (few, goes) = neither-true (ltb targetLimit (length (targetsOf l n))) (stuck l n) (sym gives-by ∙ not-true (isNothing (recoverGives l n)) x) in
+      record { is = same-answer a (answerOf l n) y; targets = same-targets (nodeAt l n .targets) (targetsOf l n) z; few = ltb-false targetLimit (length (targetsOf l n)) few; goes = goes }
+
+  of-answers : (a : Asked) → Answers l n a → answersAs l n (some a) ≡ true
+  of-answers a f = rw (gives-by, le-ltb targetLimit (length (targetsOf l n)) (f .few), f .goes, f .is, answer-alike (answerOf l n), f .targets, targets-alike (targetsOf l n))
+
+-- A node with its clock, its rows and its restart.
 module _ (l : Line) (n : ℕ) (ordered : Ordered (l .plan)) (shape : Shape l) (inside : n < nodeCount (l .plan)) where
   replaying-right : replayWrong l n ≡ false → nodeAt l n .status ≡ replay → Replays l n
   unfolding replayWrong
@@ -176,16 +219,28 @@ module _ (l : Line) (n : ℕ) (ordered : Ordered (l .plan)) (shape : Shape l) (i
   unfolding replayWrong
   right-replaying f = by-unless (replaying l n) (not (replaysAs n (nodeAt l n) (recoverGives l n))) (λ q. ap not (of-replays l n ordered shape inside (f (is-replay (nodeAt l n .status) q))))
 
-  node-sound : nodeDamaged l n ≡ false → NodeSound l n × (nodeAt l n .status ≡ replay → Replays l n)
+  answering-right : answerWrong l n ≡ false → (a : Asked) → nodeAt l n .asked ≡ some a → Answers l n a
+  unfolding answerWrong
+  answering-right e a q = answers-of l n ordered shape inside a (ap (answersAs l n) (sym q) ∙ not-false (answersAs l n (nodeAt l n .asked)) e)
+
+  pub right-answering : ((a : Asked) → nodeAt l n .asked ≡ some a → Answers l n a) → answerWrong l n ≡ false
+  unfolding answerWrong
+  right-answering f = ap not (one (nodeAt l n .asked) f)
+    where
+      one : (o : Option Asked) → ((a : Asked) → o ≡ some a → Answers l n a) → answersAs l n o ≡ true
+      one none g = refl
+      one (some a) g = of-answers l n ordered shape inside a (g a refl)
+
+  node-sound : nodeDamaged l n ≡ false → NodeSound l n × Stopped l n
   unfolding nodeDamaged
   node-sound e =
       let p = l .plan in
       let x = nodeAt l n in
-      let (few, (parent, (past, (zeros, (maker, (log, (set, (clock, (rows, (passed, (mark, (end, (again, (holds, _)))))))))))))) =
-      all-false (nodePastLimits x) (nodeWrongParent p n x ∷ nodeTimePast (acceptedSteps l) x ∷ nodeTimeZero x ∷ nodeMakerWrong p n x ∷ logWrong x ∷ setWrong p n x ∷ pastClock l n ∷ heldWrong l n ∷ heldNotPassed p n x ∷ markMissing x ∷ markOnEnd p n x ∷ replayWrong l n ∷ nodeHolds x ∷ []) e in
-      (record { fits = node-fits p (acceptedSteps l) n x few parent past zeros maker log set passed mark end holds; clock = clock-of l n clock; rows = rows-of l n rows }, replaying-right again)
+      let (few, (parent, (past, (zeros, (maker, (log, (set, (clock, (rows, (passed, (mark, (end, (again, (answer, (holds, _))))))))))))))) =
+      all-false (nodePastLimits x) (nodeWrongParent p n x ∷ nodeTimePast (acceptedSteps l) x ∷ nodeTimeZero x ∷ nodeMakerWrong p n x ∷ logWrong x ∷ setWrong p n x ∷ pastClock l n ∷ heldWrong l n ∷ heldNotPassed p n x ∷ markMissing x ∷ markOnEnd p n x ∷ replayWrong l n ∷ answerWrong l n ∷ nodeHolds x ∷ []) e in
+      (record { fits = node-fits p (acceptedSteps l) n x few parent past zeros maker log set passed mark end holds; clock = clock-of l n clock; rows = rows-of l n rows }, record { replays = replaying-right again; answers = answering-right answer })
 
-  sound-node : NodeSound l n → (nodeAt l n .status ≡ replay → Replays l n) → nodeDamaged l n ≡ false
+  sound-node : NodeSound l n → Stopped l n → nodeDamaged l n ≡ false
   unfolding nodeDamaged
   sound-node f again =
       let p = l .plan in
@@ -203,7 +258,8 @@ module _ (l : Line) (n : ℕ) (ordered : Ordered (l .plan)) (shape : Shape l) (i
         held-passed p (acceptedSteps l) n x (f .fits),
         mark-there p (acceptedSteps l) n x (f .fits),
         end-bare p (acceptedSteps l) n x (f .fits),
-        right-replaying again,
+        right-replaying (again .replays),
+        right-answering (again .answers),
         holds-none p (acceptedSteps l) n x (f .fits),
       )
 
@@ -220,6 +276,15 @@ above-none (k ∷ ks) h = rw (le-ltb stepLimit k (h 0)) (above-none ks (λ c. h 
 -- The line.
 pub ordered-fit : (p : Plan) → planFits p ≡ true → Ordered p
 ordered-fit p e = ordered-channels p (fitting p e .channels)
+
+-- So it is of every node.
+pub stopped-all : (l : Line) → Sound l → (n : ℕ) → n < nodeCount (l .plan) → Stopped l n
+stopped-all l f n h = one (nodeAt l n .status) refl
+  where
+    one : (s : Status) → nodeAt l n .status ≡ s → Stopped l n
+    one up q = record { replays = λ e. absurd (up-not-replay (sym q ∙ e)); answers = λ a e. none-some (sym (subst (λ (s : Status). Empties s (nodeAt l n)) q (f .standing .nodes n h .fits .empties) .2) ∙ e) }
+    one down q = f .stopped n h (λ z. up-not-down (sym z ∙ q))
+    one replay q = f .stopped n h (λ z. up-not-replay (sym z ∙ q))
 
 module _ (l : Line) where
   abbrev wrongLength : ℕ → Bool
@@ -283,7 +348,7 @@ module _ (l : Line) where
       let (plan, (shapes, (steps, (nodes, (channels, _))))) = all-false (planBroken l) (misshapen l ∷ stepsPast l ∷ someNode l (nodeDamaged l) ∷ someChannel l (channelDamaged l) ∷ []) e in
       let fits = fits-plan plan in
       let (four, shape, long) = shaped shapes in
-      let node : (n : ℕ) (h : n < nodeCount (l .plan)) → NodeSound l n × (nodeAt l n .status ≡ replay → Replays l n) =
+      let node : (n : ℕ) (h : n < nodeCount (l .plan)) → NodeSound l n × Stopped l n =
       λ n h. node-sound l n (ordered-fit (l .plan) fits) shape h (none-any (nodeDamaged l) nodes (in-up-to 0 (nodeCount (l .plan)) n (omega arith) (omega arith))) in
       record {
         standing = record {
@@ -293,7 +358,7 @@ module _ (l : Line) where
           nodes = λ n h. node n h .0;
           channels = λ b h. channel-sound l b (long b h .0) (long b h .1) (none-any (channelDamaged l) channels (in-up-to 0 (channelCount (l .plan)) b (omega arith) (omega arith)));
         };
-        replays = λ n h. node n h .1;
+        stopped = λ n h _. node n h .1;
       }
 
   pub sound-undamaged : Sound l → damaged l ≡ false
@@ -305,6 +370,6 @@ module _ (l : Line) where
         of-shaped (s .counts .four) (s .shape) (λ b h. (s .channels b h .fits .heard-long, s .channels b h .fits .low-long)),
         within-limit (s .counts .within),
         none-by (nodeDamaged l) (nodeNumbers l)
-            (λ n i. (let h : n < nodeCount (l .plan) = omega (arith, up-to-in 0 (nodeCount (l .plan)) n i) in sound-node l n (ordered-fit (l .plan) (s .plan-fits)) (s .shape) h (s .nodes n h) (f .replays n h))),
+            (λ n i. (let h : n < nodeCount (l .plan) = omega (arith, up-to-in 0 (nodeCount (l .plan)) n i) in sound-node l n (ordered-fit (l .plan) (s .plan-fits)) (s .shape) h (s .nodes n h) (stopped-all l f n h))),
         none-by (channelDamaged l) (channelNumbersOf l) (λ b i. (let h : b < channelCount (l .plan) = omega (arith, up-to-in 0 (channelCount (l .plan)) b i) in sound-channel l b (s .channels b h))),
       )

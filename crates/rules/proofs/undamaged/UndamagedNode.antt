@@ -1,6 +1,7 @@
 -- The conditions of Damaged that are of a node by itself, and the facts of which they are the failure.
 use Prim.Native.Nat.{ℕ, _<_, _≤_}
-use mathlib.Core.Path.{_≡_, refl, sym, ap, subst}
+use mathlib.Core.Path.{_≡_, refl, sym, ap, subst, _∙_}
+use mathlib.Core.Option.{Option, none, some}
 use mathlib.Core.Logic.{_⊎_, inl, inr}
 use mathlib.Core.Bool.{Bool, true, false, not, _&&_, _||_, true≢false}
 use mathlib.Core.List.{List, [], _∷_, _++_, map}
@@ -12,12 +13,14 @@ use Rattle.basics.specs.Bools.{both-true, neither-true}
 use Rattle.plan.specs.Plan.{Plan, isSource, isSink}
 use Rattle.plan.specs.Mask.{setOf}
 use Rattle.rules.specs.Lists.{isEmpty, anyOf}
-use Rattle.rules.specs.Line.{logLimit, heldLimit, targetLimit, Origin, fed, made, Entry, Held, Target, Status, up, down, replay, Node, isUp}
+use Rattle.rules.specs.Line.{logLimit, heldLimit, targetLimit, Origin, fed, made, Entry, Held, Target, Status, up, down, replay, Asked, Node, isUp}
 use Rattle.rules.specs.Replay.{passedOn}
 use Rattle.rules.specs.Damaged.{workedOn, recordPastLimits, nodePastLimits, isParent, notParent, beforeNotParent, nodeWrongParent, originTimes, nodeNamedTimes, nodeOtherTimes, nodeTimePast, nodeTimeZero, originWrong, isFed, beforeWrong, nodeMakerWrong, risesTo, logWrong, setWrong, heldNotPassed, markMissing, markOnEnd, holdsByStatus, nodeHolds}
+use Rattle.rules.specs.Step.{isNothing}
 use Rattle.rules.proofs.lists.Rising.{Rises, Within}
 use Rattle.rules.proofs.lists.Members.{In, here, there, in-none, in-first, in-left, in-right, append-in, in-map, map-in, in-joined, joined-in, rises-in, within-in, none-any}
 use Rattle.rules.proofs.invariant.InvLaws.{up-not-down, up-not-replay}
+use Rattle.rules.proofs.lists.Options.{nothing-none}
 use Rattle.rules.proofs.lists.ListLaws.{empty-none}
 use Rattle.rules.proofs.undamaged.TestLaws.{none-by, all-false, unless, by-unless, to-of, of-to}
 use Rattle.rules.proofs.undamaged.Standing.{entryTime, OriginFits, BeforeFits, TargetFits, Empties, NodeFits}
@@ -95,24 +98,38 @@ says-mark down false f = absurd (up-not-down (sym (f refl)))
 says-mark replay true f = refl
 says-mark replay false f = absurd (up-not-replay (sym (f refl)))
 
+-- A down node has no targets, or a kept answer with them.
+down-targets : (ts : List Target) (o : Option Asked) → (isEmpty ts || not (isNothing o)) ≡ true → o ≡ none → ts ≡ []
+down-targets [] o e q = refl
+down-targets (t ∷ ts) o e q = absurd (true≢false (sym e ∙ ap (λ (x : Option Asked). not (isNothing x)) q))
+
+targets-down : (ts : List Target) (o : Option Asked) → (o ≡ none → ts ≡ []) → (isEmpty ts || not (isNothing o)) ≡ true
+targets-down ts none f = rw (f refl)
+targets-down [] (some a) f = refl
+targets-down (t ∷ ts) (some a) f = refl
+
 empties-of : (s : Status) (x : Node) → holdsByStatus s x ≡ false → Empties s x
 empties-of up x e =
-    let (a, b) = both-true (isEmpty (x .held)) (isEmpty (x .targets)) (not-false (isEmpty (x .held) && isEmpty (x .targets)) e) in
-    (empty-none (x .held) a, empty-none (x .targets) b)
+    let (ab, c) = both-true (isEmpty (x .held) && isEmpty (x .targets)) (isNothing (x .asked)) (not-false (isEmpty (x .held) && isEmpty (x .targets) && isNothing (x .asked)) e) in
+    let (a, b) = both-true (isEmpty (x .held)) (isEmpty (x .targets)) ab in
+    (empty-none (x .held) a, empty-none (x .targets) b, nothing-none (x .asked) c)
 empties-of down x e =
     let zero : Bool = eqb (x .time) 0 in
     let log : Bool = isEmpty (x .log) in
     let held : Bool = isEmpty (x .held) in
-    let (abc, d) = both-true (zero && log && held) (isEmpty (x .targets)) (not-false (zero && log && held && isEmpty (x .targets)) e) in
+    let left : Bool = isEmpty (x .targets) || not (isNothing (x .asked)) in
+    let (abc, d) = both-true (zero && log && held) left (not-false (zero && log && held && left) e) in
     let (ab, c) = both-true (zero && log) held abc in
     let (a, b) = both-true zero log ab in
-    (eqb-true (x .time) 0 a, empty-none (x .log) b, empty-none (x .held) c, empty-none (x .targets) d)
-empties-of replay x e = empty-none (x .log) (not-false (isEmpty (x .log)) e)
+    (eqb-true (x .time) 0 a, empty-none (x .log) b, empty-none (x .held) c, down-targets (x .targets) (x .asked) d)
+empties-of replay x e =
+    let (a, b) = both-true (isEmpty (x .log)) (isNothing (x .asked)) (not-false (isEmpty (x .log) && isNothing (x .asked)) e) in
+    (empty-none (x .log) a, nothing-none (x .asked) b)
 
 of-empties : (s : Status) (x : Node) → Empties s x → holdsByStatus s x ≡ false
-of-empties up x (a, b) = rw (a, b)
-of-empties down x (a, b, c, d) = rw (a, b, c, d)
-of-empties replay x a = rw a
+of-empties up x (a, b, c) = rw (a, b, c)
+of-empties down x (a, b, c, d) = rw (a, b, c, targets-down (x .targets) (x .asked) d)
+of-empties replay x (a, b) = rw (a, b)
 
 -- A node by itself.
 module _ (p : Plan) (steps n : ℕ) (x : Node) where

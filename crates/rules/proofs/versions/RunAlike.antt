@@ -9,7 +9,7 @@ use lib.Dec.{leb}
 use Rattle.plan.specs.Plan.{Plan}
 use Rattle.plan.specs.Versions.{SameButVersion}
 use Rattle.rules.specs.Line.{stepLimit, Message, Line, freshNode, initialLine, laneAt, oneMore, counted}
-use Rattle.rules.specs.Frame.{Frame, feed, send, take, crash, recover, trim, frameConsole, frameOf, badFrameLength, badFrameVersion, badKind, badConsole}
+use Rattle.rules.specs.Frame.{Frame, feed, send, take, crash, recover, trim, ask, commit, frameConsole, frameOf, badFrameLength, badFrameVersion, badKind, badConsole}
 use Rattle.rules.specs.Step.{noStepsLeft, lineRefusal, effect, accepted, refusal, step}
 use Rattle.rules.specs.Claim.{firstReceipt, receiptOf, feedOf, crashOf, Story, startOf, ifZero, told, storyFrom}
 use Rattle.rules.specs.Versions.{LineAlike, StoryAlike, RunAlike}
@@ -71,6 +71,8 @@ receipt-reheaded newer counts l (take b) = one (laneAt l b .queue)
 receipt-reheaded newer counts l (crash n) = refl
 receipt-reheaded newer counts l (recover n) = refl
 receipt-reheaded newer counts l (trim n) = refl
+receipt-reheaded newer counts l (ask n) = refl
+receipt-reheaded newer counts l (commit n) = refl
 
 same-receipt : (k l : Line) (f : Frame) → LineAlike k l → receiptOf k f ≡ receiptOf l f
 same-receipt k l f same = ap (λ (m : Line). receiptOf m f) (is-headed k l same) ∙ receipt-reheaded (λ v. k .plan .version) (k .steps) l f

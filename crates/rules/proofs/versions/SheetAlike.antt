@@ -12,7 +12,7 @@ use Rattle.plan.specs.Check.{planRefusal}
 use Rattle.plan.specs.Versions.{inVersionTwo}
 use Rattle.plan.proofs.CheckLaws.{accepted}
 use Rattle.plan.proofs.VersionLaws.{first-is-widened}
-use Rattle.rules.specs.Line.{Line, initialLine}
+use Rattle.rules.specs.Line.{Line, initialLine, parents}
 use Rattle.rules.specs.Step.{step}
 use Rattle.rules.specs.Sheet.{opening, answerLine, clockText, nodeText, lineText, lengthField, frameCut, framesText, planText, sheet}
 use Rattle.rules.specs.Versions.{LineAlike, SheetAlike, WidenedAlike}
@@ -20,7 +20,7 @@ use Rattle.rules.proofs.console.Recounted.{reheaded}
 use Rattle.rules.proofs.versions.RunAlike.{is-headed, step-alike, initial-alike}
 
 text-reheaded : (newer : ℕ → ℕ) (counts : List ℕ) (l : Line) → lineText (reheaded newer counts l) ≡ lineText l
-unfolding lineText nodeText clockText entering
+unfolding lineText nodeText clockText entering parents
 text-reheaded newer counts l = refl
 
 same-text : (k l : Line) → LineAlike k l → lineText k ≡ lineText l

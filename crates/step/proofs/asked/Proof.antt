@@ -26,10 +26,20 @@ returns-5 c g asks = same-asked (subst (λ (f : Frame). Asks f g) (c .before .be
 returns-6 : tie.Need-returns-6
 returns-6 c g asks = same-asked (subst (λ (f : Frame). Asks f g) (c .before .before .before .before .before .f6 .given .1) asks) (c .before .before .trim .ensures)
 
+returns-7 : tie.Need-returns-7
+returns-7 c g asks = same-asked (subst (λ (f : Frame). Asks f g) (c .before .before .before .before .before .f7 .given .1) asks) (c .before .before .ask .ensures)
+
+returns-8 : tie.Need-returns-8
+returns-8 c g asks = same-asked (subst (λ (f : Frame). Asks f g) (c .before .before .before .before .before .f8 .given .1) asks) (c .before .before .commit .ensures)
+
 pub asked-spec : {M : Type 1} → statement M
 asked-spec =
     tie.close
     (tie.spec
+    (λ c. search needs)
+    (λ c κs. c .before .before .before .before .before .pre)
+    (λ c. search needs)
+    (λ c κs. c .before .before .before .before .before .pre)
     (λ c. search needs)
     (λ c κs. c .before .before .before .before .before .pre)
     (λ c. search needs)
@@ -53,4 +63,8 @@ asked-spec =
     (λ c. search needs)
     returns-5
     (λ c. search needs)
-    returns-6)
+    returns-6
+    (λ c. search needs)
+    returns-7
+    (λ c. search needs)
+    returns-8)

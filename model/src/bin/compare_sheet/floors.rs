@@ -43,6 +43,8 @@ pub const PIECES: [(&str, usize); 5] = [
 pub const IN_BOTH: &str = "written alike with the plan in the other version";
 pub const AFTER_ANOTHERS_LAST: &str = "after 12 from another console";
 pub const TRIM: &str = "Trims, from any";
+pub const ASK: &str = "Asks, from any";
+pub const COMMIT: &str = "Commits, from any";
 pub const TICK: &str = "a tick, accepted";
 /// By the field for which it is none.
 pub const ALMOST: [&str; FIELDS.len()] = [
@@ -73,6 +75,16 @@ pub mod line {
         }),
         ("L of a source", |line| line.contains(" - - ")),
         ("L made from a message", |line| line.starts_with("L ")),
+        ("Q without targets", |line| {
+            line.starts_with("Q ") && !line.contains('[')
+        }),
+        ("Q of over 16 targets", |line| {
+            line.starts_with("Q ") && line.matches('[').count() > 16
+        }),
+        ("Q of two entries or more and targets", |line| {
+            line.starts_with("Q ") && line.matches(':').count() > line.matches('[').count() + 1
+        }),
+        ("Q of one entry and targets", |line| line.starts_with("Q ")),
         ("T of one layer", |line| layers(line) == Some(1)),
         ("T of two layers", |line| layers(line) == Some(2)),
         ("T of three layers", |line| layers(line) == Some(3)),
@@ -98,7 +110,7 @@ pub fn all() -> Vec<Floor> {
         ],
     );
     floors.extend(under(section::SHEETS, 200, [kind::LIMITS, kind::LONG]));
-    floors.extend(under(section::SHEETS, 240, [kind::KEPT]));
+    floors.extend(under(section::SHEETS, 280, [kind::KEPT]));
     floors.extend(under(section::SHEETS, SHIFTS, [kind::MANY]));
     floors.extend(under(section::SHEETS, 1, [kind::MILLION]));
     floors.extend(under(section::PIECES, 20_000, [WHOLE]));
@@ -109,17 +121,20 @@ pub fn all() -> Vec<Floor> {
     floors.extend(under(
         section::ANSWERS,
         20,
-        (1..=7).chain(9..=21).chain([25, 26]).map(answer),
+        (1..=7).chain(9..=21).chain(25..=27).map(answer),
     ));
     let callers = Caller::ALL.iter().map(Caller::to_string);
     floors.extend(under(section::CALLERS, 20_000, callers));
     floors.extend(under(section::CALLERS, 20, [AFTER_ANOTHERS_LAST]));
     floors.extend(under(section::CALLERS, 20_000, [TRIM]));
+    floors.extend(under(section::CALLERS, 3_000, [ASK, COMMIT]));
     floors.extend(under(section::TICKS, 20_000, [TICK]));
     floors.extend(under(section::TICKS, 200, ALMOST));
     let sets = [set::NONE, set::SOME, set::ALL, set::SINK];
     floors.extend(under(section::SETS, 20_000, sets));
     let lines = line::KINDS.iter().map(|(name, _)| *name);
-    floors.extend(under(section::LINES, 1_000, lines));
+    let (kept, others): (Vec<_>, Vec<_>) = lines.partition(|name| name.starts_with('Q'));
+    floors.extend(under(section::LINES, 1_000, others));
+    floors.extend(under(section::LINES, 100, kept));
     floors
 }

@@ -21,7 +21,8 @@ use model::sheet::vectors::answers;
 use model::sheet::{parts, practice, sheet, sheet_in_place, sheet_told};
 
 use floors::{
-    kind, line, section, set, AFTER_ANOTHERS_LAST, ALMOST, IN_BOTH, PIECES, TICK, TRIM, WHOLE,
+    kind, line, section, set, AFTER_ANOTHERS_LAST, ALMOST, ASK, COMMIT, IN_BOTH, PIECES, TICK,
+    TRIM, WHOLE,
 };
 
 /// Each has its share of the sheets.
@@ -213,8 +214,14 @@ impl Work<'_> {
             return;
         }
         self.counts.add(section::CALLERS, caller.to_string());
-        if matches!(asked, Frame::Trim { .. }) {
-            self.counts.add(section::CALLERS, TRIM);
+        let row = match asked {
+            Frame::Trim { .. } => Some(TRIM),
+            Frame::Ask { .. } => Some(ASK),
+            Frame::Commit { .. } => Some(COMMIT),
+            _ => None,
+        };
+        if let Some(row) = row {
+            self.counts.add(section::CALLERS, row);
         }
         if is_one_used_up {
             self.counts.add(section::CALLERS, AFTER_ANOTHERS_LAST);

@@ -3,10 +3,12 @@
 use std::collections::BTreeSet;
 
 use model::compare::{answer, under, Floor};
+use model::line::Line;
 use model::plan::practice::CASES;
 use model::plan::Version;
 use model::state::practice::{
-    places, staged, Kind, AFTER_A_SET, CLAUSES, FEATURES, HARMLESS, OTHER_SETS, SCRAMBLES, SHUFFLES,
+    kept_places, places, staged, Kind, Place, AFTER_A_SET, CLAUSES, FEATURES, HARMLESS, OTHER_SETS,
+    SCRAMBLES, SHUFFLES,
 };
 
 use crate::section;
@@ -25,6 +27,7 @@ const KINDS: &[(Kind, [usize; 2])] = &[
     (Kind::Shuffled, [2_000, 15_000]),
     (Kind::Scrambled, [0, 20_000]),
     (Kind::Set, [0, 10_000]),
+    (Kind::Kept, [0, 50_000]),
     (Kind::Unused, [0, 100_000]),
     (Kind::Length, [0, 15_000]),
 ];
@@ -42,6 +45,7 @@ pub fn all() -> Vec<Floor> {
     let others = OTHER_SETS.iter().map(|other| other.name);
     floors.extend(under(section::SETS, 400, others));
     floors.extend(under(section::SETS, 2_000, [AFTER_A_SET]));
+    floors.extend(under(section::KEPT, 3, kept_names()));
     let shuffles = SHUFFLES.iter().map(|shuffle| shuffle.name);
     floors.extend(under(section::SHUFFLES, 500, shuffles));
     let scrambles = SCRAMBLES.iter().map(|scramble| scramble.name);
@@ -64,15 +68,26 @@ fn kinds() -> Vec<Floor> {
 fn reached() -> Vec<Floor> {
     let mut floors = under(section::REACHED, 10_000, [DIFFERENT]);
     let features = FEATURES.iter().map(|feature| feature.name);
-    floors.extend(under(section::REACHED, 400, features));
+    floors.extend(under(section::REACHED, 300, features));
     floors
 }
 
-/// One of the staged lines has every field.
 fn field_names() -> BTreeSet<&'static str> {
-    let places = places(&staged::mixed()).into_iter();
-    let used = places.filter(|place| place.is_used);
-    used.map(|place| place.name).collect()
+    let used = |place: &Place| place.is_used;
+    staged_places(places)
+        .filter(used)
+        .map(|place| place.name)
+        .collect()
+}
+
+fn kept_names() -> BTreeSet<&'static str> {
+    staged_places(kept_places).map(|place| place.name).collect()
+}
+
+/// One of these staged lines has every field but those of kept targets, the other these.
+fn staged_places(places: fn(&Line) -> Vec<Place>) -> impl Iterator<Item = Place> {
+    let lines = [staged::mixed(), staged::all_asked()];
+    lines.into_iter().flat_map(move |line| places(&line))
 }
 
 fn calls() -> Vec<Floor> {

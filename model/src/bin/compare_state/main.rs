@@ -13,7 +13,7 @@ use model::state::practice::staged;
 
 use run::Run;
 
-const RUNS: u64 = 3_600;
+const RUNS: u64 = 4_200;
 const DAMAGED_RUNS: u64 = 300;
 const LAST_RUNS: u64 = 500;
 const LOADS: u64 = 60_000;

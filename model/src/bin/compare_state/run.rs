@@ -63,12 +63,15 @@ impl Run {
     pub fn damage_staged(&mut self) {
         let mut random = Random::new(0);
         practice::staged(&mut random, &mut |case| self.check(0, case));
-        for line in [staged::fresh(), staged::replaying()] {
+        for line in [staged::fresh(), staged::mixed(), staged::replaying()] {
             practice::unused(&mut random, &line, &mut |case| self.check(0, case));
         }
         for line in [staged::mixed(), staged::full(), staged::half_heard()] {
             let line = staged::by_piece(line);
             practice::other_sets(&line, &mut |case| self.check(0, case));
+        }
+        for line in [staged::mixed(), staged::all_asked()] {
+            practice::kept_bytes(&mut random, &line, &mut |case| self.check(0, case));
         }
     }
 
@@ -94,6 +97,7 @@ impl Run {
             Kind::Shuffled => self.counts.add(section::SHUFFLES, case.name),
             Kind::Scrambled => self.counts.add(section::SCRAMBLES, case.name),
             Kind::Set => self.counts.add(section::SETS, case.name),
+            Kind::Kept => self.counts.add(section::KEPT, case.name),
             Kind::Disturbed | Kind::Byte | Kind::Bit | Kind::Unused | Kind::Length => {}
         }
     }

@@ -6,6 +6,7 @@ pub const REACHED: &str = "states that frames lead to";
 pub const HARMLESS: &str = "no damage";
 pub const FIELDS: &str = "one field changed";
 pub const SETS: &str = "each log entry's set changed";
+pub const KEPT: &str = "each byte of a node that keeps an answer changed";
 pub const SHUFFLES: &str = "slots and blocks moved";
 pub const SCRAMBLES: &str = "random bytes";
 pub const LOAD: &str = "Load";

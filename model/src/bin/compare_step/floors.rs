@@ -19,6 +19,8 @@ pub mod section {
     pub const PLANS: &str = "the same, by the version of the plan";
     pub const BOTH: &str = "the same step with the plan in either version";
     pub const FROM_ALL: &str = "the same step from every caller";
+    pub const RESTARTS: &str = "Commit and Recover on the same state";
+    pub const BETWEEN: &str = "Commits, by the accepted steps since the Ask";
     pub const EVENTS: &str = "what steps do and why they are refused";
     pub const REFILLED: &str = "accepted where the log has been full and was trimmed";
     pub const HARMLESS: &str = "undamaged states that no run leads to, each with every frame";
@@ -63,7 +65,7 @@ pub fn all() -> Vec<Floor> {
     floors.extend(under(
         section::ANSWERS,
         1_000,
-        (8..=21).chain(24..=26).map(answer),
+        (8..=21).chain(24..=27).map(answer),
     ));
     floors.extend(under(section::VERSIONS, 1_000, VERSIONS.map(version)));
     floors.extend(under(section::VERSIONS, 1_000, [OTHER_VERSION]));
@@ -81,6 +83,8 @@ pub fn all() -> Vec<Floor> {
     floors.extend(under(section::PLANS, 100_000, outcomes));
     floors.extend(under(section::BOTH, 5_000, [true, false].map(both)));
     floors.extend(under(section::FROM_ALL, 1_000, FROM_ALL));
+    floors.extend(under(section::RESTARTS, 2_000, [true, false].map(restarts)));
+    floors.extend(under(section::BETWEEN, 100, BETWEEN));
     let events = EVENTS.iter().map(|event| event.name);
     floors.extend(under(section::EVENTS, 100, events));
     let [feed, take] = REFILLED;
@@ -127,7 +131,9 @@ pub const FROM_ALL: [&str; 4] = [
 /// Of a source and of a sink: no Crash empties their logs.
 pub const REFILLED: [&str; 2] = ["a Feed", "a Take of a sink"];
 
-const KINDS: [&str; 6] = ["Feed", "Send", "Take", "Crash", "Recover", "Trim"];
+const KINDS: [&str; 8] = [
+    "Feed", "Send", "Take", "Crash", "Recover", "Trim", "Ask", "Commit",
+];
 
 pub fn kind(frame: &Frame, is_accepted: bool) -> String {
     let kind = match frame {
@@ -137,6 +143,8 @@ pub fn kind(frame: &Frame, is_accepted: bool) -> String {
         Frame::Crash { .. } => 3,
         Frame::Recover { .. } => 4,
         Frame::Trim { .. } => 5,
+        Frame::Ask { .. } => 6,
+        Frame::Commit { .. } => 7,
     };
     outcome(KINDS[kind], is_accepted)
 }
@@ -147,6 +155,20 @@ pub fn plan(version: Version, is_accepted: bool) -> String {
 
 pub fn both(is_accepted: bool) -> String {
     outcome("in both", is_accepted)
+}
+
+pub fn restarts(is_accepted: bool) -> String {
+    outcome("both", is_accepted)
+}
+
+const BETWEEN: [&str; 3] = ["none", "1 to 7", "8 or more"];
+
+pub fn between(steps: u32) -> &'static str {
+    BETWEEN[match steps {
+        0 => 0,
+        1..8 => 1,
+        _ => 2,
+    }]
 }
 
 pub fn outcome(of: impl Display, is_accepted: bool) -> String {

@@ -1,7 +1,8 @@
 // Compares the engine's Step, and the model's own step in place, with the
 // model's step on lines: on runs from Load and from late times, on undamaged
 // states that no run leads to, and on damaged ones; and the engine's Step with
-// itself, on the same step from every caller and with the plan in either version.
+// itself, on the same step from every caller and with the plan in either version, and
+// on a Commit beside a Recover.
 // Run in model/:
 //   cargo run --release --offline --features engine-state --bin compare_step [seed]
 

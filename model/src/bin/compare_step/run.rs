@@ -1,15 +1,17 @@
 // Calls on states and frames as they are drawn, counted.
 
 use model::answer::{ACCEPTED, FRAME_LENGTH, NO_REPLAY, STATE};
-use model::compare::{self, from_all, in_both_versions, Counts};
+use model::compare::{self, as_recover, from_all, in_both_versions, Counts};
 use model::engine;
 use model::line::practice::{
-    age, cut_frames, every_frame, random_frames, stray, torn, Practice, Stepped, EVENTS,
+    age, caller, cut_frames, every_frame, random_frames, stray, torn, Practice, Stepped, EVENTS,
 };
 use model::line::{stepped, Frame, Line};
 use model::plan::practice::any_plan;
 use model::random::Random;
-use model::state::practice::{self, call, replay_on, staged, trim_all, Case, Kind, Played};
+use model::state::practice::{
+    self, call, replay_on, restart, staged, trim_all, Case, Kind, Played,
+};
 use model::state::{self, direct, line_bytes};
 
 use crate::floors::{self, on, section, with};
@@ -22,6 +24,8 @@ const WRONG: usize = 8;
 /// One call in so many is made from every caller, one with the plan in either
 /// version.
 const AGAIN: u32 = 64;
+/// One with a kept answer in so many: a Commit of it and a Recover are made.
+const RESTARTED: u32 = 8;
 
 pub struct Run {
     /// Of what is drawn for the calls, the practice's draws aside.
@@ -160,7 +164,17 @@ impl Run {
         }
         let mut playing = self.playing(states, on::TORN);
         let node = router as u8;
-        call(&mut random, &mut playing, Frame::Recover { node });
+        if !random.one_in(4) {
+            call(&mut random, &mut playing, Frame::Ask { node });
+            let frames = random.pick(&[0, 4, 16]);
+            play_on(&mut random, &mut playing, frames);
+        }
+        let keeps = playing.line().nodes[router].kept.is_some();
+        let frame = match keeps && random.one_in(2) {
+            true => Frame::Commit { node },
+            false => Frame::Recover { node },
+        };
+        call(&mut random, &mut playing, frame);
         for _ in 0..random.pick(&[8, 150, 150]) {
             let taken = replay_on(&mut random, &mut playing);
             if taken.is_none_or(|answer| answer == NO_REPLAY) {
@@ -174,7 +188,7 @@ impl Run {
     }
 
     /// The staged lines in both versions and with channels by piece, with every frame;
-    /// their replays to the end, a Trim of each node and some steps more.
+    /// most nodes restarted, replays to the end, a Trim of each node and some steps more.
     pub fn stage(&mut self) {
         self.seed = 0;
         let mut random = Random::new(0);
@@ -188,6 +202,8 @@ impl Run {
             staged::half_heard(),
             staged::heard_by_all(),
             staged::trimmed(),
+            staged::asked(),
+            staged::all_asked(),
         ];
         let by_mass = lines.clone().map(staged::by_mass);
         let by_piece = lines.clone().map(staged::by_piece);
@@ -199,7 +215,9 @@ impl Run {
                 let states = States::of(&mut self.random, &state);
                 let mut playing = self.playing(states, on::STAGED);
                 for node in 0..line.nodes.len() as u8 {
-                    call(&mut random, &mut playing, Frame::Recover { node });
+                    if !random.one_in(4) {
+                        restart(&mut random, &mut playing, node);
+                    }
                 }
                 while replay_on(&mut random, &mut playing).is_some() {}
                 trim_all(&mut random, &mut playing);
@@ -288,6 +306,13 @@ impl Run {
             });
             if after.is_ok() {
                 self.count_refilled(states, before, asked);
+                if let Frame::Commit { node } = asked {
+                    let row = floors::between(states.since_ask(node.into()));
+                    self.counts.add(section::BETWEEN, row);
+                }
+            }
+            if self.random.one_in(RESTARTED) {
+                self.call_as_recover(before, &states.bytes);
             }
             if self.random.one_in(AGAIN) {
                 self.call_from_all(before, &states.bytes, asked);
@@ -297,7 +322,7 @@ impl Run {
             }
         }
         match after {
-            Ok((line, bytes)) if goes_on => states.go_on(line, bytes),
+            Ok((line, bytes)) if goes_on => states.go_on(line, bytes, frame),
             Ok(_) => states.go_back(),
             Err(_) => {}
         }
@@ -333,6 +358,24 @@ impl Run {
             if let Some(answer) = answer {
                 let row = floors::both(answer == ACCEPTED);
                 self.counts.add(section::BOTH, row);
+            }
+        }
+    }
+
+    /// Of each node that keeps an answer: the engine does the same by a Commit as by a
+    /// Recover, and so does the model.
+    fn call_as_recover(&mut self, line: &Line, bytes: &[u8]) {
+        let keeping = (0..line.nodes.len()).filter(|&node| line.nodes[node].kept.is_some());
+        for node in keeping {
+            let caller = caller(&mut self.random, line);
+            for step in [engine::step, direct::step, state::step] {
+                let answer = as_recover(step, bytes, caller, node as u8);
+                let answer = answer.unwrap_or_else(|wrong| {
+                    let told = format!("seed {}, a restart of {node}, {caller}", self.seed);
+                    compare::fail(&told, &wrong, bytes)
+                });
+                let row = floors::restarts(answer == ACCEPTED);
+                self.counts.add(section::RESTARTS, row);
             }
         }
     }

@@ -4,7 +4,7 @@
 use model::answer::{ACCEPTED, STATE};
 use model::compare::{same_answers, Compared, Lent};
 use model::engine;
-use model::line::{stepped, Line};
+use model::line::{stepped, Frame, Line};
 use model::plan::Plan;
 use model::random::Random;
 use model::state::{self, direct, line_bytes, undamaged, LENGTH};
@@ -41,6 +41,8 @@ pub struct States {
     lent: Vec<Lent>,
     /// A bit for each node whose log has been full.
     full: u32,
+    /// Of each node, the accepted steps since an Ask of it, or since there are these states.
+    since_ask: [u32; Plan::MOST_NODES],
 }
 
 /// The line after an accepted step with its bytes, or the refusal.
@@ -65,6 +67,7 @@ impl States {
             bytes,
             lent: loaded,
             full: 0,
+            since_ask: [0; Plan::MOST_NODES],
         })
     }
 
@@ -76,6 +79,7 @@ impl States {
             full: line.as_ref().map_or(0, full),
             line,
             bytes: bytes.to_vec(),
+            since_ask: [0; Plan::MOST_NODES],
         }
     }
 
@@ -109,8 +113,18 @@ impl States {
         (self.full & !full) >> node & 1 == 1
     }
 
-    pub fn go_on(&mut self, line: Line, bytes: Vec<u8>) {
+    pub fn since_ask(&self, node: usize) -> u32 {
+        self.since_ask[node]
+    }
+
+    pub fn go_on(&mut self, line: Line, bytes: Vec<u8>, frame: &[u8]) {
         self.full |= full(&line);
+        for steps in &mut self.since_ask {
+            *steps += 1;
+        }
+        if let Ok((_, Frame::Ask { node })) = Frame::read(frame) {
+            self.since_ask[usize::from(node)] = 0;
+        }
         self.line = Some(line);
         self.bytes = bytes;
     }

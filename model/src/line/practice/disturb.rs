@@ -38,7 +38,7 @@ pub fn disturb(random: &mut Random, line: &mut Line) {
     let entry = random.draw() as usize % node.log.len().max(1);
     let held = random.draw() as usize % node.buffered.len().max(1);
     let message = random.draw() as usize % queue.messages.len().max(1);
-    match random.index(16) {
+    match random.index(17) {
         0 => node.clock.time = time,
         1 | 2 => {
             let parts = node.clock.parents.len();
@@ -116,6 +116,17 @@ pub fn disturb(random: &mut Random, line: &mut Line) {
                 *low = random.pick(&[any, any, entries[place], entries[place] + 1]);
             }
         }
+        15 => {
+            if let Some(kept) = &mut node.kept {
+                let entry = random.index(kept.restored.len());
+                let number = match random.index(3) {
+                    0 => &mut kept.low,
+                    1 => &mut kept.high,
+                    _ => &mut kept.restored[entry].time,
+                };
+                *number = random.pick(&[time, *number + 1, number.saturating_sub(1)]);
+            }
+        }
         _ => {
             // What two entries' inputs were made from, exchanged.
             if entry < node.log.len() {
@@ -137,13 +148,17 @@ pub fn give_sets(line: &mut Line) {
     }
 }
 
-/// Gives replaying nodes the time and targets of their children's new logs.
+/// Gives replaying nodes the time and targets of their children's new logs, and nodes that
+/// keep an answer the new one.
 pub fn retarget(line: &mut Line) {
     for number in 0..line.nodes.len() {
-        if line.nodes[number].status == Status::Replaying {
+        let (status, keeps) = (line.nodes[number].status, line.nodes[number].kept.is_some());
+        if status == Status::Replaying {
             let told = restart(line, number);
             line.nodes[number].clock.time = told.low;
             line.nodes[number].targets = told.targets;
+        } else if keeps {
+            line.nodes[number].kept = Some(restart(line, number));
         }
     }
 }

@@ -1,5 +1,6 @@
 //! What a step may do, and why it may be refused, that a practice must not miss.
 
+mod asks;
 mod sets;
 mod ticks;
 mod trims;
@@ -7,7 +8,9 @@ mod trims;
 use std::collections::BTreeSet;
 
 use super::FIELDS;
-use crate::answer::{NOTHING_THERE, NO_REPLAY, NO_SPACE, NO_SUCH_PLACE, STEPS_USED_UP};
+use crate::answer::{
+    NOTHING_THERE, NO_REPLAY, NO_SPACE, NO_SUCH_PLACE, SOME_NOT_UP, STEPS_USED_UP, WRONG_STATUS,
+};
 use crate::line::replay::placed;
 use crate::line::{
     restart, stepped, Buffered, Caller, Entry, Frame, Line, Node, Origin, Restart, Status, Target,
@@ -16,6 +19,7 @@ use crate::placing::Item;
 use crate::plan::practice::{all_leaving, is_partial, refuses_by_mass};
 use crate::plan::{Channel, Plan, Window};
 use crate::record::{Record, MATERIALS};
+use asks::do_entries_differ;
 use sets::has_partial;
 use ticks::{is_tick, lets_go_by_ticks};
 use trims::past;
@@ -374,6 +378,117 @@ pub const EVENTS: &[Event] = &[
         step.trims(|line, node, run| {
             run > 0 && has_partial(&line.plan, node, &line.nodes[node].log[run..])
         })
+    }),
+    event("Ask that finds no targets", |step| {
+        step.asked(|kept| kept.targets.is_empty())
+    }),
+    event("Ask that finds targets", |step| {
+        step.asked(|kept| !kept.targets.is_empty())
+    }),
+    event("Ask that finds 64 targets", |step| {
+        step.asked(|kept| kept.targets.len() == Line::MOST_TARGETS)
+    }),
+    event("Ask that finds entries that differ", |step| {
+        step.asked(do_entries_differ)
+    }),
+    event("Ask that finds four entries", |step| {
+        step.asked(|kept| kept.restored.len() == Plan::MOST_AT_A_NODE)
+    }),
+    event("Ask repeated", |step| step.keeps_before(step.to_ask())),
+    event("Ask beside another kept answer", |step| {
+        step.to_ask().is_some() && step.leaves_kept()
+    }),
+    event("21: Ask of over 64 targets", |step| {
+        step.after == Err(NO_SPACE) && step.to_ask().is_some()
+    }),
+    event("24: Ask of targets that conflict", |step| {
+        step.after == Err(NO_REPLAY)
+            && step
+                .to_ask()
+                .is_some_and(|node| restart(step.before, node).check_targets().is_err())
+    }),
+    event("24: Ask of rows complete at once", |step| {
+        step.after == Err(NO_REPLAY)
+            && step
+                .to_ask()
+                .is_some_and(|node| restart(step.before, node).check_targets().is_ok())
+    }),
+    event("15: Ask of a node that is not down", |step| {
+        step.after == Err(WRONG_STATUS) && step.to_ask().is_some()
+    }),
+    event("12: Ask of a node that keeps an answer", |step| {
+        let kept = step.to_ask().and_then(|node| step.kept_before(node));
+        step.after == Err(STEPS_USED_UP) && kept.is_some()
+    }),
+    event("12: Commit of a kept answer", |step| {
+        let kept = step.to_commit().and_then(|node| step.kept_before(node));
+        step.after == Err(STEPS_USED_UP) && kept.is_some()
+    }),
+    event("Commit leaves the node up", |step| {
+        step.committed(|kept| kept.targets.is_empty())
+    }),
+    event("Commit begins a replay", |step| {
+        step.committed(|kept| !kept.targets.is_empty())
+    }),
+    event("Commit begins a replay with 64 targets", |step| {
+        step.committed(|kept| kept.targets.len() == Line::MOST_TARGETS)
+    }),
+    event("Commit of entries that differ", |step| {
+        step.committed(do_entries_differ)
+    }),
+    event("Commit with low above 0 and below high", |step| {
+        step.committed(|kept| 0 < kept.low && kept.low < kept.high)
+    }),
+    event("Commit beside another kept answer", |step| {
+        step.to_commit().is_some() && step.leaves_kept()
+    }),
+    event("27: the node is down", |step| {
+        step.commits_nothing(Status::Down)
+    }),
+    event("15: Commit, and the node is up", |step| {
+        step.commits_nothing(Status::Up)
+    }),
+    event("15: Commit, and the node replays", |step| {
+        step.commits_nothing(Status::Replaying)
+    }),
+    event("Recover discards a kept answer", |step| {
+        step.keeps_before(step.to_recover())
+    }),
+    event("the same, and the node is up at once", |step| {
+        step.recovered() == Some(Status::Up) && step.keeps_before(step.to_recover())
+    }),
+    event("15: Crash of a node that keeps an answer", |step| {
+        let Frame::Crash { node } = step.frame else {
+            return false;
+        };
+        step.after == Err(WRONG_STATUS) && step.kept_before(node.into()).is_some()
+    }),
+    event("Feed while an answer is kept", |step| {
+        step.feeds() && step.leaves_kept()
+    }),
+    event("Send while an answer is kept", |step| {
+        matches!(step.frame, Frame::Send { .. }) && step.leaves_kept()
+    }),
+    event("Take while an answer is kept", |step| {
+        step.receiver(Status::Up).is_some() && step.leaves_kept()
+    }),
+    event("Take of a child of a node that keeps an answer", |step| {
+        step.receiver(Status::Up).is_some_and(|child| {
+            let mut parents = step.before.plan.parents(child);
+            parents.any(|parent| step.kept_before(parent).is_some())
+        }) && step.leaves_kept()
+    }),
+    event("Crash while another answer is kept", |step| {
+        step.crashed().is_some() && step.leaves_kept()
+    }),
+    event("Recover while another answer is kept", |step| {
+        step.recovered().is_some() && step.leaves_kept()
+    }),
+    event("replay ended while an answer is kept", |step| {
+        step.ended().is_some() && step.leaves_kept()
+    }),
+    event("26: Trim while an answer is kept", |step| {
+        step.after == Err(SOME_NOT_UP) && step.before.nodes.iter().any(|node| node.kept.is_some())
     }),
 ];
 

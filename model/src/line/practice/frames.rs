@@ -48,7 +48,7 @@ pub fn stray(random: &mut Random, line: &Line) -> Vec<u8> {
         }
         2 => bytes.push(random.draw() as u8),
         3 => bytes[2] = random.pick(&[0, 1, 2, 3, 255]),
-        4 => bytes[3] = random.pick(&[0, 7, 9, 255]),
+        4 => bytes[3] = random.pick(&[0, 9, 10, 255]),
         5 => {
             // As long as its field says, whatever the kind.
             let length = random.pick(&[5, 6, 13, 14]);
@@ -103,7 +103,7 @@ pub fn is_tick_but_for(field: Range<usize>, record: [u8; Record::LENGTH]) -> boo
 }
 
 /// One of each kind.
-fn frames_at(place: u8, record: [u8; Record::LENGTH]) -> [Frame; 6] {
+fn frames_at(place: u8, record: [u8; Record::LENGTH]) -> [Frame; 8] {
     [
         Frame::Feed {
             node: place,
@@ -114,6 +114,8 @@ fn frames_at(place: u8, record: [u8; Record::LENGTH]) -> [Frame; 6] {
         Frame::Crash { node: place },
         Frame::Recover { node: place },
         Frame::Trim { node: place },
+        Frame::Ask { node: place },
+        Frame::Commit { node: place },
     ]
 }
 

@@ -106,7 +106,15 @@ pub(super) fn each_time(line: &mut Line, visit: &mut dyn FnMut(usize, &mut u32))
                 visit(origin.sender, &mut origin.time);
             }
         }
-        for target in &mut node.targets {
+        if let Some(kept) = &mut node.kept {
+            visit(number, &mut kept.low);
+            visit(number, &mut kept.high);
+            for entry in &mut kept.restored {
+                visit(entry.sender, &mut entry.time);
+            }
+        }
+        let kept = node.kept.iter_mut().flat_map(|kept| &mut kept.targets);
+        for target in node.targets.iter_mut().chain(kept) {
             visit(number, &mut target.time);
             visit(target.parent, &mut target.parent_time);
         }

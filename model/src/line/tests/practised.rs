@@ -13,7 +13,7 @@ use crate::random::Random;
 /// How often each answer was given and each event met.
 #[derive(Debug, Default)]
 struct Seen {
-    answers: [usize; 27],
+    answers: [usize; 28],
     events: BTreeMap<&'static str, usize>,
 }
 
@@ -65,7 +65,7 @@ fn practised_lines_stay_undamaged() {
         }
     }
     println!("{seen:?}");
-    for answer in (9..=21).chain([0, 25, 26]) {
+    for answer in (9..=21).chain([0, 25, 26, 27]) {
         assert!(seen.answers[answer] >= 20, "{answer} too seldom: {seen:?}");
     }
     assert_eq!(seen.answers[NO_REPLAY as usize], 0);
@@ -86,6 +86,15 @@ fn practised_lines_stay_undamaged() {
         (100, "Feed of what some channels take, and not all"),
         (100, "Take of what some channels take, and not all"),
         (50, "replay ended with what some take, and not all"),
+        (100, "Ask that finds targets"),
+        (100, "Ask repeated"),
+        (100, "Commit begins a replay"),
+        (100, "Commit leaves the node up"),
+        (50, "Commit of entries that differ"),
+        (50, "Recover discards a kept answer"),
+        (100, "Take while an answer is kept"),
+        (20, "Crash while another answer is kept"),
+        (50, "26: Trim while an answer is kept"),
     ] {
         assert!(seen.events[event] > least, "{event} too seldom: {seen:?}");
     }
@@ -97,7 +106,7 @@ fn practised_lines_stay_undamaged() {
 fn undamaged_lines_stay_undamaged() {
     let mut random = Random::new(7);
     let mut starts = 0;
-    let mut answers = [0; 27];
+    let mut answers = [0; 28];
     for _ in 0..300 {
         let mut line = Line::of(any_plan(&mut random));
         if random.one_in(2) {
@@ -146,7 +155,7 @@ fn undamaged_lines_stay_undamaged() {
 fn windows_do_as_masks() {
     let mut random = Random::new(13);
     let mut seen = Seen::default();
-    for _ in 0..300 {
+    for _ in 0..400 {
         let mut plan = any_plan(&mut random);
         plan.version = Version::First;
         plan.rules.fill(crate::rule::Rule::Keep);

@@ -1,4 +1,4 @@
-//! Refusals 9 to 21, 25 and 26 that frames alone can lead to, in the order of the
+//! Refusals 9 to 21, 25 to 27 that frames alone can lead to, in the order of the
 //! checks.
 
 use super::*;
@@ -28,7 +28,7 @@ fn frames() {
         assert_eq!(refuse(&line, &[0, 6, version, 2, 0, 0]), 10);
     }
     assert_eq!(refuse(&line, &[0, 5, 1, 0, 0]), 11);
-    assert_eq!(refuse(&line, &[0, 5, 1, 7, 0]), 11);
+    assert_eq!(refuse(&line, &[0, 5, 1, 9, 0]), 11);
     assert_eq!(refuse(&line, &[0, 5, 1, 1, 0]), 11);
     assert_eq!(refuse(&line, &[0, 6, 1, 2, 0, 0]), 11);
     let mut long_send = feed(0, 1, 1);
@@ -55,7 +55,7 @@ fn frames_of_version_two() {
     assert_eq!(refuse(&line, &[0, 5, 2, 2, 0]), 11);
     assert_eq!(refuse(&line, &[0, 7, 2, 2, 0, 0, 0]), 11);
     assert_eq!(refuse(&line, &[0, 6, 2, 0, 0, 0]), 11);
-    assert_eq!(refuse(&line, &[0, 6, 2, 7, 0, 0]), 11);
+    assert_eq!(refuse(&line, &[0, 6, 2, 9, 0, 0]), 11);
     assert_eq!(refuse(&line, &[0, 6, 2, 1, 0, 0]), 11);
     for (version, length) in [(1, 14), (2, 13), (2, 15)] {
         let mut other = bytes.clone();
@@ -72,8 +72,10 @@ fn consoles() {
     for _ in 0..2 {
         for console in [4, 5, 127, 128, 255] {
             assert_eq!(refuse(&line, &[0, 6, 2, 2, console, 24]), 25);
-            assert_eq!(refuse(&line, &[0, 6, 2, 6, console, 24]), 25);
-            assert_eq!(refuse(&line, &[0, 6, 2, 7, console, 24]), 11);
+            for kind in [6, 7, 8] {
+                assert_eq!(refuse(&line, &[0, 6, 2, kind, console, 24]), 25);
+            }
+            assert_eq!(refuse(&line, &[0, 6, 2, 9, console, 24]), 11);
             assert_eq!(refuse(&line, &[0, 5, 2, 2, console]), 11);
         }
         assert_eq!(refuse(&line, &[0, 6, 2, 2, 3, 0]), 18);
@@ -94,6 +96,8 @@ fn steps_used_up() {
         Frame::Send { channel: 24 },
         Frame::Crash { node: 2 },
         Frame::Trim { node: 2 },
+        Frame::Ask { node: 2 },
+        Frame::Commit { node: 2 },
     ];
     for caller in Caller::ALL {
         let console = caller.console();
@@ -112,7 +116,7 @@ fn steps_used_up() {
     }
     let mut line = ninth_line();
     line.steps[0] = Line::MOST_STEPS;
-    assert_eq!(refuse(&line, &[0, 5, 1, 7, 0]), 11);
+    assert_eq!(refuse(&line, &[0, 5, 1, 9, 0]), 11);
     assert_eq!(refuse(&line, &crash(2)), 12);
     accept(
         &mut line,
@@ -141,6 +145,10 @@ fn places() {
         take(255),
         crash(5),
         recover(255),
+        ask(5),
+        ask(255),
+        commit(5),
+        commit(255),
         trim(5),
         trim(255),
     ] {
@@ -151,7 +159,9 @@ fn places() {
     }
     for node in [0, 1, 3, 4] {
         assert_eq!(refuse(&line, &crash(node)), 14);
-        assert_eq!(refuse(&line, &recover(node)), 14);
+        for frame in [recover(node), ask(node), commit(node)] {
+            assert_eq!(refuse(&line, &frame), 14);
+        }
     }
 }
 

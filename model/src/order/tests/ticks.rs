@@ -72,13 +72,14 @@ impl Followed {
     }
 }
 
-/// A Recover of each node, some Trims, ticks at some sources or at none, and a few
+/// A Recover or a Commit of each node, some Trims, ticks at some sources or at none, and a few
 /// Sends and Takes on each channel.
 fn calm(random: &mut Random, line: &Line) -> Vec<Frame> {
     let ticks = random.pick(&[2, 1_000]);
     let mut frames = Vec::new();
     for node in 0..line.nodes.len() as u8 {
-        frames.push(Frame::Recover { node });
+        frames.push(Frame::Ask { node });
+        frames.push(random.pick(&[Frame::Recover { node }, Frame::Commit { node }]));
         if random.one_in(4) {
             frames.push(Frame::Trim { node });
         }

@@ -14,7 +14,7 @@ struct Trimmed {
     drops: bool,
     crashes: bool,
     replays: bool,
-    /// Recovers of nodes whose children have low clocks.
+    /// Restarts of nodes whose children have low clocks.
     low_clocks: bool,
 }
 
@@ -43,7 +43,7 @@ impl Trimmed {
         self.drops |= trimmed(before, frame, after) > 0;
         match Frame::read(frame) {
             Ok((_, Frame::Crash { .. })) => self.crashes |= self.drops,
-            Ok((_, Frame::Recover { node })) if self.drops => {
+            Ok((_, Frame::Recover { node } | Frame::Commit { node })) if self.drops => {
                 let node = usize::from(node);
                 self.replays |= after.nodes[node].status == Status::Replaying;
                 let mut children = after.plan.children(node);

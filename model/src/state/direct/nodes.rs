@@ -1,10 +1,13 @@
-//! A node's time, log and held records. Targets stand in `replay`.
+//! A node's time, log and held records. Targets and kept answers stand in `recovered`.
 
 use super::*;
 
 impl View<'_> {
     pub(super) fn is_node_sound(&self, number: usize) -> bool {
         let block = self.node(number);
+        if has(self.keeping, number) {
+            return is_zero(&block[TIME..TARGETS.count]) && is_zero(&block[KEPT.end()..]);
+        }
         if has(self.down, number) {
             return is_zero(&block[TIME..]);
         }

@@ -10,15 +10,16 @@ use super::super::layout::*;
 use super::is_undamaged;
 use super::sets::Sets;
 use crate::answer::{
-    ACCEPTED, CHANNEL_FULL, CRASHED_NEIGHBOUR, NOTHING_THERE, NO_REPLAY, NO_SPACE, NO_SUCH_PLACE,
-    ROW_COMPLETE, SOME_NOT_UP, STATE, STEPS_USED_UP, WRONG_PLACE, WRONG_RECORD, WRONG_STATUS,
+    ACCEPTED, CHANNEL_FULL, CRASHED_NEIGHBOUR, NOTHING_KEPT, NOTHING_THERE, NO_REPLAY, NO_SPACE,
+    NO_SUCH_PLACE, ROW_COMPLETE, SOME_NOT_UP, STATE, STEPS_USED_UP, WRONG_PLACE, WRONG_RECORD,
+    WRONG_STATUS,
 };
 use crate::line::{Frame, Line};
 use crate::plan::{Channel, Plan, Version};
 use crate::record::Record;
 use crate::rule::Rule;
 
-/// "Step 8 to 21 and then 24", with 25 after 11 and 26 after 13.
+/// "Step 8 to 21 and then 24", with 25 after 11, 26 after 13 and 27 after 16.
 pub fn step(state: &mut [u8], frame: &[u8]) -> u32 {
     match <&mut [u8; LENGTH]>::try_from(state) {
         Ok(state) if is_undamaged(state) => step_unchecked(state, frame),
@@ -61,6 +62,8 @@ impl InPlace<'_> {
             Frame::Crash { node } => self.crash(node.into()),
             Frame::Recover { node } => self.recover(node.into()),
             Frame::Trim { node } => self.trim(node.into()),
+            Frame::Ask { node } => self.ask(node.into()),
+            Frame::Commit { node } => self.commit(node.into()),
         }?;
         put_number(self.state, count, accepted + 1);
         Ok(())

@@ -5,7 +5,7 @@ use super::fields::{self, Fields};
 use super::{places, Case, Kind, Place, Visit, CLAUSES, HARMLESS, SCRAMBLES, SHUFFLES};
 use crate::answer::{ACCEPTED, STATE};
 use crate::line::practice::{disturb, reach, retarget};
-use crate::line::Line;
+use crate::line::{Line, Node};
 use crate::random::Random;
 use crate::state::{check, line_bytes, LENGTH};
 
@@ -175,11 +175,11 @@ pub fn disturbed(random: &mut Random, line: &Line, visit: Visit) -> Line {
         if random.one_in(2) {
             retarget(&mut next);
         }
-        if next
-            .nodes
-            .iter()
-            .any(|node| node.targets.len() > Line::MOST_TARGETS)
-        {
+        let has_too_many = |node: &Node| {
+            let kept = node.kept.as_ref().map_or(0, |kept| kept.targets.len());
+            node.targets.len().max(kept) > Line::MOST_TARGETS
+        };
+        if next.nodes.iter().any(has_too_many) {
             continue;
         }
         let state = line_bytes(&next);

@@ -1,4 +1,4 @@
-//! The paragraph "Damaged" of document 01 and requests 2026-04 and 2026-06, clause by
+//! The paragraph "Damaged" of document 01 and requests 2026-04, 2026-06 and 2026-07, clause by
 //! clause: ways to damage a line or its bytes, each with other places and values as it is
 //! drawn.
 
@@ -11,7 +11,7 @@ mod low_clocks;
 mod made_from;
 mod plan;
 mod queues;
-pub mod replays;
+pub mod recovered;
 mod rows;
 mod senders;
 mod sets;
@@ -117,7 +117,10 @@ pub const CLAUSES: &[Clause] = &[
     rows::NOT_TAKEN,
     queues::UNSOUND,
     crash_marks::WRONG,
-    replays::NOT_RECOVERED,
+    recovered::NOT_RECOVERED,
+    recovered::UP_AT_ONCE,
+    recovered::STALE,
+    recovered::KEPT_NUMBERS,
     emptied::HOLDING,
     unused::NOT_ZERO,
 ];

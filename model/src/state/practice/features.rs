@@ -1,9 +1,9 @@
 //! What a line may have in it that a practice must not miss.
 
 use crate::line::practice::greatest_time;
-use crate::line::{Entry, Line, Node, Status};
+use crate::line::{Entry, Line, Node, Restart, Status};
 use crate::plan::practice::{all_leaving, is_partial, refuses_by_mass};
-use crate::plan::Version;
+use crate::plan::{Plan, Version};
 
 pub struct Feature {
     pub name: &'static str,
@@ -27,6 +27,36 @@ pub const FEATURES: &[Feature] = &[
     }),
     feature("a node replaying", |line| {
         has_node(line, |node| node.status == Status::Replaying)
+    }),
+    feature("a kept answer", |line| has_kept(line, |_| true)),
+    feature("a kept answer that has targets", |line| {
+        has_kept(line, |kept| !kept.targets.is_empty())
+    }),
+    feature("a kept answer that has none", |line| {
+        has_kept(line, |kept| kept.targets.is_empty())
+    }),
+    feature("a kept answer of over 16 targets", |line| {
+        has_kept(line, |kept| kept.targets.len() > 16)
+    }),
+    feature("a kept answer whose entries differ", |line| {
+        has_kept(line, |kept| {
+            let mut entries = kept.restored.windows(2);
+            entries.any(|pair| pair[0].time != pair[1].time)
+        })
+    }),
+    feature("a kept answer of four parents", |line| {
+        has_kept(line, |kept| kept.restored.len() == Plan::MOST_AT_A_NODE)
+    }),
+    feature("two kept answers", |line| {
+        line.nodes.iter().filter(|node| node.kept.is_some()).count() > 1
+    }),
+    feature("a kept answer above time 1,000,000", |line| {
+        has_kept(line, |kept| kept.low > 1_000_000)
+    }),
+    feature("a node down that keeps none", |line| {
+        has_node(line, |node| {
+            node.status == Status::Down && node.kept.is_none()
+        })
     }),
     feature("over 16 targets", |line| {
         has_node(line, |node| node.targets.len() > 16)
@@ -135,6 +165,10 @@ pub const FEATURES: &[Feature] = &[
 
 fn has_node(line: &Line, is_such: impl Fn(&Node) -> bool) -> bool {
     line.nodes.iter().any(is_such)
+}
+
+fn has_kept(line: &Line, is_such: impl Fn(&Restart) -> bool) -> bool {
+    has_node(line, |node| node.kept.as_ref().is_some_and(&is_such))
 }
 
 /// A log entry, with its node's number.

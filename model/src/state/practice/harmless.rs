@@ -1,12 +1,13 @@
 //! What the paragraph "Damaged" does not list is no damage: changes after which
 //! a line is still undamaged.
 
-use super::conditions::replays::made::{complete_rows, greatest_target, trim_rows};
+use super::conditions::recovered::made::{complete_rows, greatest_target, trim_rows};
+use super::conditions::recovered::tell_otherwise;
 use super::runs::any_record;
 use super::{pick, staged};
 use crate::clock::Clock;
 use crate::line::practice::{drawn_steps, give_sets, greatest_time, reach};
-use crate::line::{restart, Line, Status};
+use crate::line::{restart, Line, Node, Status};
 use crate::plan::practice::{in_other_version, MASSES};
 use crate::plan::{Version, Window};
 use crate::random::Random;
@@ -301,6 +302,24 @@ pub const HARMLESS: &[Harmless] = &[
         line.nodes[node].low_clock = Clock::empty(&line.plan, node);
         Some(())
     }),
+    harmless("an answer asked for", |random, line| {
+        let asked = pick::node(random, line, |number, node| {
+            node.status == Status::Down && node.kept.is_none() && line.recovers(number)
+        })?;
+        line.nodes[asked].kept = Some(restart(line, asked));
+        Some(())
+    }),
+    harmless("no kept answer", |random, line| {
+        let node = pick::keeping(random, line, |_| true)?;
+        line.nodes[node].kept = None;
+        Some(())
+    }),
+    harmless("another answer, and kept", |random, line| {
+        let node = pick::keeping(random, line, |_| true)?;
+        tell_otherwise(random, line, node)?;
+        line.nodes[node].kept = Some(restart(line, node));
+        line.recovers(node).then_some(())
+    }),
     harmless("64 held records", hold_most),
     harmless("entry for a parent lower", |random, line| {
         // As low as what was made from it lets it be.
@@ -336,17 +355,22 @@ fn incomplete_row(random: &mut Random, line: &Line) -> Option<(usize, usize)> {
     let incomplete = told
         .restored
         .iter()
-        .filter(|entry| entry.time < greatest_target(line, node, entry.sender))
+        .filter(|entry| entry.time < greatest_target(&told, entry.sender))
         .map(|entry| entry.sender);
     Some((node, pick::any(random, incomplete)?))
 }
 
-/// One that has heard of something; no parent's replay reads its low clock.
+/// Whether what its children tell must stay: it replays by that, or keeps it.
+fn is_told(node: &Node) -> bool {
+    node.status == Status::Replaying || node.kept.is_some()
+}
+
+/// One that has heard of something; no parent is told by its low clock.
 fn lowered_node(random: &mut Random, line: &Line) -> Option<usize> {
     pick::node(random, line, |number, node| {
         let mut parents = line.plan.parents(number);
         node.clock.parents.iter().any(|part| part.time > 0)
-            && parents.all(|parent| line.nodes[parent].status != Status::Replaying)
+            && parents.all(|parent| !is_told(&line.nodes[parent]))
     })
 }
 

@@ -1,6 +1,6 @@
 //! Places in a line, drawn among those that will do.
 
-use crate::line::{Entry, Line, Node, Status};
+use crate::line::{Entry, Line, Node, Restart, Status};
 use crate::random::Random;
 
 pub fn any(random: &mut Random, choices: impl Iterator<Item = usize>) -> Option<usize> {
@@ -22,6 +22,17 @@ pub fn node(
 
 pub fn node_that_is(random: &mut Random, line: &Line, status: Status) -> Option<usize> {
     node(random, line, |_, node| node.status == status)
+}
+
+/// A node that keeps such an answer.
+pub fn keeping(
+    random: &mut Random,
+    line: &Line,
+    will_do: impl Fn(&Restart) -> bool,
+) -> Option<usize> {
+    node(random, line, |_, node| {
+        node.kept.as_ref().is_some_and(&will_do)
+    })
 }
 
 pub fn channel(random: &mut Random, line: &Line, will_do: impl Fn(usize) -> bool) -> Option<usize> {

@@ -2,7 +2,7 @@
 
 use std::ops::Range;
 
-use crate::line::{Line, Node, Origin, Queue};
+use crate::line::{Line, Node, Origin, Queue, Restart};
 use crate::plan::{Plan, Version};
 use crate::record::Record;
 
@@ -30,6 +30,14 @@ const STEPS: [&str; Line::CONSOLES] = [
 ];
 
 pub const LOW_OF_NONE: &str = "low clock for parents that a sender lacks";
+pub const KEPT_OF_NONE: &str = "kept entries of parents that a node lacks";
+
+const TARGET: [&str; 3] = ["target: time", "target: parent's time", "target: parent"];
+const KEPT_TARGET: [&str; 3] = [
+    "kept target: time",
+    "kept target: parent's time",
+    "kept target: parent",
+];
 
 pub fn places(line: &Line) -> Vec<Place> {
     let mut walk = Walk {
@@ -137,14 +145,32 @@ impl Walk {
         }
         self.unused("free held records", 20 * (64 - node.buffered.len()));
         self.used("targets: count", 4);
-        for _ in &node.targets {
-            self.used("target: time", 4);
-            self.used("target: parent's time", 4);
-            self.used("target: parent", 1);
+        let (targets, names) = match &node.kept {
+            None => (&node.targets, TARGET),
+            Some(kept) => (&kept.targets, KEPT_TARGET),
+        };
+        for _ in targets {
+            self.used(names[0], 4);
+            self.used(names[1], 4);
+            self.used(names[2], 1);
             self.unused("after a target", 3);
         }
-        self.unused("free targets", 12 * (64 - node.targets.len()));
-        self.unused("after a node's targets", 492);
+        self.unused("free targets", 12 * (64 - targets.len()));
+        self.used("kept: count", 4);
+        match &node.kept {
+            None => self.unused("no kept answer", 24),
+            Some(kept) => self.kept(kept),
+        }
+        self.unused("after a node's kept answer", 464);
+    }
+
+    fn kept(&mut self, kept: &Restart) {
+        self.used("kept: low", 4);
+        self.used("kept: high", 4);
+        for _ in &kept.restored {
+            self.used("kept: restored entry", 4);
+        }
+        self.unused(KEPT_OF_NONE, 4 * (4 - kept.restored.len()));
     }
 
     fn channel(&mut self, queue: &Queue, senders_parents: usize) {

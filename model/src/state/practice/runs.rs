@@ -5,7 +5,7 @@ use std::cmp::Reverse;
 use super::{pick, staged};
 use crate::answer::ACCEPTED;
 use crate::line::practice::{age, caller, or_tick, tear, Practice};
-use crate::line::{step, Frame, Line, Status};
+use crate::line::{step, Frame, Line, Node, Status};
 use crate::plan::practice::{any_plan, MASSES};
 use crate::random::Random;
 use crate::record::Record;
@@ -75,9 +75,10 @@ fn practised(random: &mut Random, played: &mut dyn Played) -> Vec<Line> {
     for _ in 0..random.between(0, most) {
         let frame = practice.frame(random, played.line());
         played.step(&frame);
-        // More often while something is held.
+        // More often while something is held or kept.
         let line = played.line();
-        let holds = line.nodes.iter().any(|node| !node.buffered.is_empty());
+        let holds = |node: &Node| !node.buffered.is_empty() || node.kept.is_some();
+        let holds = line.nodes.iter().any(holds);
         if random.one_in(if holds { most / 16 } else { most / 4 }) {
             lines.push(line.clone());
         }
@@ -88,7 +89,7 @@ fn practised(random: &mut Random, played: &mut dyn Played) -> Vec<Line> {
 
 /// Fed, sent and taken until nothing more can be, save on channels that are
 /// never taken on; then logs are trimmed and filled again, and routers crash and
-/// replay.
+/// replay; what is still kept is committed, and they crash and are asked for once more.
 fn filled(random: &mut Random, played: &mut dyn Played) -> Vec<Line> {
     let lazy = (random.draw() & random.draw()) as u32;
     let lazy = random.pick(&[0, lazy, lazy]);
@@ -100,18 +101,12 @@ fn filled(random: &mut Random, played: &mut dyn Played) -> Vec<Line> {
         lines.push(played.line().clone());
         fill(random, played, lazy, ticks);
     }
-    let mut nodes = shuffled(random, played.line().nodes.len());
-    if !random.one_in(4) {
-        nodes.sort_by_key(|&node| Reverse(tear(played.line(), node)));
-    }
-    for node in nodes {
-        if random.one_in(8) {
-            continue;
+    for node in crash_most(random, played) {
+        if random.one_in(2) {
+            call(random, played, Frame::Ask { node });
         }
-        let node = node as u8;
-        let crashed = call(random, played, Frame::Crash { node }) == ACCEPTED;
-        if crashed && !random.one_in(4) {
-            call(random, played, Frame::Recover { node });
+        if !random.one_in(4) {
+            restart(random, played, node);
         }
     }
     lines.push(played.line().clone());
@@ -123,7 +118,40 @@ fn filled(random: &mut Random, played: &mut dyn Played) -> Vec<Line> {
     }
     fill(random, played, lazy, ticks);
     lines.push(played.line().clone());
+    for node in 0..played.line().nodes.len() {
+        if played.line().nodes[node].kept.is_some() {
+            call(random, played, Frame::Commit { node: node as u8 });
+        }
+    }
+    for node in crash_most(random, played) {
+        call(random, played, Frame::Ask { node });
+    }
+    lines.push(played.line().clone());
     lines
+}
+
+/// The nodes that crash, mostly those first whose children have parted most.
+fn crash_most(random: &mut Random, played: &mut dyn Played) -> Vec<u8> {
+    let mut nodes = shuffled(random, played.line().nodes.len());
+    if !random.one_in(4) {
+        nodes.sort_by_key(|&node| Reverse(tear(played.line(), node)));
+    }
+    let mut crashed = Vec::new();
+    for node in nodes.into_iter().map(|node| node as u8) {
+        if !random.one_in(8) && call(random, played, Frame::Crash { node }) == ACCEPTED {
+            crashed.push(node);
+        }
+    }
+    crashed
+}
+
+/// A Recover, or an Ask and a Commit. The answer to the last.
+pub fn restart(random: &mut Random, played: &mut dyn Played, node: u8) -> u32 {
+    if random.one_in(2) {
+        return call(random, played, Frame::Recover { node });
+    }
+    call(random, played, Frame::Ask { node });
+    call(random, played, Frame::Commit { node })
 }
 
 /// Each node once.

@@ -133,7 +133,7 @@ pub struct List {
 /// With at least so many slots used.
 pub fn any_list(random: &mut Random, line: &Line, state: &[u8], least: usize) -> Option<List> {
     let nodes = (0..line.nodes.len())
-        .flat_map(|number| [LOG, BUFFERED, TARGETS].map(|slots| (node(number), slots)));
+        .flat_map(|number| [LOG, BUFFERED, TARGETS, KEPT].map(|slots| (node(number), slots)));
     let channels = (0..line.queues.len()).map(|number| (channel(number), QUEUE));
     let mut lists: Vec<List> = nodes
         .chain(channels)

@@ -20,7 +20,8 @@ pub fn fresh<T: Staged>() -> T {
 }
 
 /// A little of everything, of version 2: node 3 replays and holds a tick and a record
-/// from node 1, a tick waits before it, node 7 is down, messages wait before node 11.
+/// from node 1, a tick waits before it, node 7 is down and asked, messages wait before node
+/// 11.
 pub fn mixed<T: Staged>() -> T {
     let replay = [(0, 1), (1, 3), (2, 3), (3, 4), (3, 5)];
     let others = [(6, 7), (7, 8), (9, 10), (10, 11)];
@@ -44,7 +45,9 @@ pub fn mixed<T: Staged>() -> T {
     accept(&mut line, Frame::Send { channel: 2 });
     feed(&mut line, 6, piece(5));
     pass(&mut line, 5);
+    pass(&mut line, 6);
     accept(&mut line, Frame::Crash { node: 7 });
+    accept(&mut line, Frame::Ask { node: 7 });
     for number in 6..=9 {
         feed(&mut line, 9, piece(number));
         pass(&mut line, 7);
@@ -139,6 +142,32 @@ pub fn down<T: Staged>() -> T {
     line
 }
 
+/// The same, asked: it keeps the 64 targets.
+pub fn asked<T: Staged>() -> T {
+    let mut line = down();
+    accept(&mut line, Frame::Ask { node: 4 });
+    line
+}
+
+/// All four are down and keep what was asked. Of each, one sink has taken 54 and the other
+/// 10: so 44 targets, and entries that are not alike.
+pub fn all_asked<T: Staged>() -> T {
+    let mut line: T = filled_routers();
+    for router in 4..8 {
+        for (sink, count) in [(router + 4, 54), (8 + (router + 1) % 4, 10)] {
+            let channel = channel_between(line.line(), router, sink);
+            for _ in 0..count {
+                pass(&mut line, channel);
+            }
+        }
+    }
+    for node in 4..8 {
+        accept(&mut line, Frame::Crash { node });
+        accept(&mut line, Frame::Ask { node });
+    }
+    line
+}
+
 /// The routers replay with 64 targets each, of which so many are held. The
 /// sources' and sinks' logs are full, and so are the channels that enter the
 /// routers.
@@ -154,17 +183,25 @@ pub fn holding_by_rows<T: Staged>(held: usize) -> T {
 /// The sources', routers' and sinks' logs are full, and a Trim drops nothing: of each
 /// router one sink has taken all, the other nothing.
 pub fn half_heard<T: Staged>() -> T {
+    let mut line: T = filled_routers();
+    for router in 4..8 {
+        // To its own sink only, so that the other one has heard nothing.
+        let own = channel_between(line.line(), router, router + 4);
+        for _ in 0..Line::MOST_ENTRIES {
+            pass(&mut line, own);
+        }
+    }
+    line
+}
+
+/// The sources' and the routers' logs are full.
+fn filled_routers<T: Staged>() -> T {
     let mut line: T = routers_plan().into();
     for source in 0..4 {
         fill_source(&mut line, source);
     }
     for router in 4..8 {
         take_in_turn(&mut line, router, Line::MOST_ENTRIES);
-        // To its own sink only, so that the other one has heard nothing.
-        let own = channel_between(line.line(), router, router + 4);
-        for _ in 0..Line::MOST_ENTRIES {
-            pass(&mut line, own);
-        }
     }
     line
 }

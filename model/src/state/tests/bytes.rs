@@ -21,7 +21,14 @@ fn places_of_the_layout() {
         (layout::BUFFERED.count, layout::TARGETS.count),
         (1548, 2832)
     );
-    assert_eq!(layout::TARGETS.end(), 3604);
+    assert_eq!((layout::KEPT.count, layout::KEPT.end()), (3604, 3632));
+    let kept = [
+        layout::KEPT_LOW,
+        layout::KEPT_HIGH,
+        layout::kept_restored(0),
+    ];
+    assert_eq!(kept.map(|at| layout::KEPT.slot(0) + at), [3608, 3612, 3616]);
+    assert_eq!(layout::kept_restored(3) - layout::kept_restored(0), 12);
     assert_eq!((layout::QUEUE.count, layout::QUEUE.end()), (24, 188));
     assert_eq!((layout::LOW, layout::LOW_END), (188, 208));
     assert_eq!([0, 1, 2, 3].map(layout::low_heard), [192, 196, 200, 204]);

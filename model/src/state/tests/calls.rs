@@ -2,7 +2,7 @@
 //! from every caller, and with the plan in either version.
 
 use crate::compare::{from_all, in_both_versions};
-use crate::line::practice::every_frame;
+use crate::line::practice::{caller, every_frame, torn};
 use crate::line::{Frame, Line};
 use crate::plan::practice::{any_plan, mutate, plan};
 use crate::plan::Plan;
@@ -103,6 +103,42 @@ fn same_step_in_place() {
     }
     println!("{seen:?}");
     assert!(seen.iter().all(|&times| times > 1_000), "{seen:?}");
+}
+
+/// The same of a restart from what no run leaves a router's children: by Recover, and by
+/// Ask and Commit.
+#[test]
+fn same_restart_in_place() {
+    let mut answers = [0; 28];
+    for seed in 0..4_000 {
+        let (line, router) = torn(&mut Random::new(seed));
+        let node = router as u8;
+        let caller = caller(&mut Random::new(seed), &line);
+        for frames in [
+            vec![Frame::Recover { node }],
+            vec![
+                Frame::Ask { node },
+                Frame::Ask { node },
+                Frame::Commit { node },
+            ],
+        ] {
+            let mut states = [line_bytes(&line), line_bytes(&line)];
+            for frame in frames {
+                let frame = frame.sent_by(caller);
+                let [state, in_place] = &mut states;
+                let answer = step(state, &frame);
+                assert_eq!(direct::step(in_place, &frame), answer, "{frame:?} {line:?}");
+                assert!(in_place == state, "{frame:?} {line:?}");
+                answers[answer as usize] += 1;
+            }
+        }
+    }
+    println!("{answers:?}");
+    assert!(
+        [0, 24, 27].iter().all(|&answer| answers[answer] > 200),
+        "{answers:?}"
+    );
+    assert!(answers[21] > 20, "{answers:?}");
 }
 
 #[test]

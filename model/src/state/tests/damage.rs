@@ -70,7 +70,7 @@ fn practised_states() {
 }
 
 /// Each byte but those of the plan, the steps, the two nodes' statuses, marks,
-/// times and counts, and the channel's mark, entry, count and low clock.
+/// times and counts (of kept answers too), and the channel's mark, entry, count and low clock.
 #[test]
 fn every_unused_byte() {
     let mut counts = Counts::new();
@@ -79,7 +79,7 @@ fn every_unused_byte() {
         compare(case, &mut counts)
     });
     let cases: usize = counts.values().map(|(cases, _)| cases).sum();
-    assert_eq!(cases, LENGTH - 19 - 16 - 2 * 18 - 16);
+    assert_eq!(cases, LENGTH - 19 - 16 - 2 * 22 - 16);
 }
 
 /// Of every log entry, the channels alike or not, with a tick among them.
@@ -97,6 +97,19 @@ fn every_set() {
         let (cases, accepted) = counts[&(Kind::Set, "", name)];
         assert!(cases > 100 && accepted == 0, "{name}: {cases}");
     }
+}
+
+/// Of nodes that keep an answer, with and without targets.
+#[test]
+fn every_kept_byte() {
+    let mut counts = Counts::new();
+    let mut random = Random::new(3);
+    for line in [staged::mixed(), staged::all_asked()] {
+        assert_eq!(check_both(&line), 0);
+        practice::kept_bytes(&mut random, &line, &mut |case| compare(case, &mut counts));
+    }
+    let cases: usize = counts.values().map(|(cases, _)| cases).sum();
+    assert_eq!(cases, 5 * 3 * 4096);
 }
 
 /// A step count above the limit is damage even where no time needs it and the

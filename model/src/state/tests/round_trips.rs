@@ -55,6 +55,14 @@ fn lines_that_hold_most() {
             assert_eq!(trimmed.nodes[usize::from(node)].log.len(), left);
         }
     }
+    for (asked, routers, targets) in [(staged::asked(), 4..5, 64), (staged::all_asked(), 4..8, 44)]
+    {
+        assert_round_trip(&asked);
+        for router in routers {
+            let kept = asked.nodes[router].kept.as_ref().expect("a kept answer");
+            assert_eq!(kept.targets.len(), targets);
+        }
+    }
     let replaying = staged::replaying();
     assert_round_trip(&replaying);
     assert_round_trip(&staged::by_piece(replaying.clone()));

@@ -1,7 +1,7 @@
 use borrow.Author.Tests.{not-true, not-false}
 use borrow.Author.Needs.{needs}
 use Rattle.buffer.specs.Table.{emptyTable}
-use Rattle.line.proofs.CheckLaws.{found-wrong, found-replays, found-pages}
+use Rattle.line.proofs.CheckLaws.{found-wrong, found-restarts, found-pages}
 use Rattle.line.proofs.whole.parts_ok.Statement.{statement}
 use Rattle.line.proofs.whole.parts_ok.Tie as tie
 
@@ -20,8 +20,8 @@ returns c =
     found-wrong (a .s .now) (a .n) (a .m) (p .1) (p .2) (p .3) (p .4) (rest .rest-ok .ensures) (pages .pages-ok .ensures) (channels .channels-ok .ensures)
     (not-true _ (c .if1 .taken))
 
-replays-ok-requires : tie.Need-replays-ok-requires
-replays-ok-requires c κs =
+restarts-ok-requires : tie.Need-restarts-ok-requires
+restarts-ok-requires c κs =
     let channels = c .before in
     let pages = channels .before .before in
     let rest = pages .before .before .before .before in
@@ -42,8 +42,8 @@ returns-2 c =
     let entry = rest .before .before in
     let a = entry .args in
     let p = entry .pre in
-    found-replays (a .s .now) (a .n) (a .m) (p .1) (p .2) (p .3) (p .4) (rest .rest-ok .ensures) (pages .pages-ok .ensures) (channels .channels-ok .ensures)
-    (not-false _ (c .before .if1 .left)) (c .replays-ok .ensures)
+    found-restarts (a .s .now) (a .n) (a .m) (p .1) (p .2) (p .3) (p .4) (rest .rest-ok .ensures) (pages .pages-ok .ensures) (channels .channels-ok .ensures)
+    (not-false _ (c .before .if1 .left)) (c .restarts-ok .ensures)
 
 pub parts-ok-spec : {M : Type 1} → statement M
 parts-ok-spec =
@@ -54,5 +54,5 @@ parts-ok-spec =
     (λ c κs. search needs)
     (λ c κs. search needs)
     returns
-    replays-ok-requires
+    restarts-ok-requires
     returns-2)

@@ -3,7 +3,8 @@ use mathlib.Core.Path.{refl, sym, subst, _∙_}
 use native.Mathlib.Omega.{arith}
 use borrow.Fn.Kinds.{In}
 use borrow.Fn.PlainCycle.{Measures, is, falls, and}
-use Rattle.report.proofs.ClockLaws.{Listing, listing-none, listing-start, listing-four, listing-separator, listing-room, listing-same, listing-less, listing-turn, listing-end, node-few, root-most}
+use Rattle.report.proofs.ClockLaws.{Listing, listing-none, listing-start, listing-four, listing-separator, listing-room, listing-same, listing-less, listing-turn, listing-end, root-most}
+use Rattle.report.proofs.ParentLaws.{node-few}
 use Rattle.report.proofs.clock.listed.Reads as listed
 use Rattle.report.proofs.clock.listed.Kinds as listed-kinds
 use Rattle.report.proofs.clock.+listed.Lts-listed as listed-lts
@@ -31,7 +32,7 @@ abbrev μ-loop : listed-lts.MeasureT-loop
 μ-loop s layers n t h out₀ at to₀ left₀ place₀ out to left place = left
 
 listed-node-and-time-requires : (t : ℕ) → listed-lts.Need-node-and-time-requires (node-and-time-reads.Asked, node-and-time-reads.Learnt, parents-reads.Asked, parents-reads.Learnt, next-parent-reads.Asked, next-parent-reads.Learnt, listed-below t, listed.Post, byte-reads.Asked, byte-reads.Learnt) (listed-at t) listed.Post Inv-loop μ-loop
-listed-node-and-time-requires t c κs = let start = c .before .before .before in (node-few (start .args .s .now) (start .args .n) (start .pre .1 .0), omega (arith, start .pre .1 .2, root-most (start .args .layers)))
+listed-node-and-time-requires t c κs = let start = c .before .before .before in (omega (arith, node-few (start .args .s .now) (start .args .n) (start .pre .1 .0)), omega (arith, start .pre .1 .2, root-most (start .args .layers)))
 
 listed-parents-requires : (t : ℕ) → listed-lts.Need-parents-requires (node-and-time-reads.Asked, node-and-time-reads.Learnt, parents-reads.Asked, parents-reads.Learnt, next-parent-reads.Asked, next-parent-reads.Learnt, listed-below t, listed.Post, byte-reads.Asked, byte-reads.Learnt) (listed-at t) listed.Post Inv-loop μ-loop
 listed-parents-requires t c κs = c .before .before .before .before .before .before .pre .1 .0
@@ -59,7 +60,7 @@ listed-next-parent-requires t c κs =
     let a = start .args in
     let root = c .before .before .before .before .before .before .before .node-and-time in
     let v = c .before .before .loop in
-    (start .pre .1 .0, start .pre .1 .1, v .inv .mask, c .before .loop-test .taken, listing-separator (a .s .now) (a .n) (a .t) (a .h) (start .pre .1 .0) (start .pre .1 .1) (a .out .now) (a .at) (a .layers) (start .pre .1 .2) (root .last .1 .1 .0) (root .result) (root .ensures) (v .out) (v .to) (v .left) (v .place) (v .inv))
+    (start .pre .1 .0, start .pre .1 .1, v .inv .walking .mask, c .before .loop-test .taken, listing-separator (a .s .now) (a .n) (a .t) (a .h) (start .pre .1 .0) (start .pre .1 .1) (a .out .now) (a .at) (a .layers) (start .pre .1 .2) (root .last .1 .1 .0) (root .result) (root .ensures) (v .out) (v .to) (v .left) (v .place) (v .inv))
 
 listed-sub-listed : (t : ℕ) → listed-lts.Need-sub-listed (node-and-time-reads.Asked, node-and-time-reads.Learnt, parents-reads.Asked, parents-reads.Learnt, next-parent-reads.Asked, next-parent-reads.Learnt, listed-below t, listed.Post, byte-reads.Asked, byte-reads.Learnt) (listed-at t) listed.Post Inv-loop μ-loop
 listed-sub-listed t c =
@@ -97,7 +98,7 @@ listed-loop-less t c =
     let root = c .before .before .before .before .before .before .before .before .before .before .before .before .before .before .node-and-time in
     let v = c .before .before .before .before .before .before .before .before .before .loop in
     let p = c .before .before .before .before .before .before .next-parent in
-    listing-less (a .s .now) (a .n) (a .t) (a .h) (start .pre .1 .0) (start .pre .1 .1) (a .out .now) (a .at) (a .layers) (start .pre .1 .2) (root .last .1 .1 .0) (root .result) (root .ensures) (v .out) (v .to) (v .left) (v .place) (v .inv) (p .last .1 .1 .1 .1 .1 .0) (p .result) (p .ensures)
+    listing-less (a .s .now) (a .n) (a .t) (a .h) (start .pre .1 .0) (start .pre .1 .1) (a .out .now) (a .at) (a .layers) (start .pre .1 .2) (root .last .1 .1 .0) (root .result) (root .ensures) (v .out) (v .to) (v .left) (v .place) (v .inv) (p .last .1 .1 .1 .1 .1 .1 .0) (p .result) (p .ensures)
 
 listed-loop-again : (t : ℕ) → listed-lts.Need-loop-again (node-and-time-reads.Asked, node-and-time-reads.Learnt, parents-reads.Asked, parents-reads.Learnt, next-parent-reads.Asked, next-parent-reads.Learnt, listed-below t, listed.Post, byte-reads.Asked, byte-reads.Learnt) (listed-at t) listed.Post Inv-loop μ-loop
 listed-loop-again t c =
@@ -107,7 +108,7 @@ listed-loop-again t c =
     let v = c .before .before .before .before .before .before .before .before .before .loop in
     let p = c .before .before .before .before .before .before .next-parent in
     let w = c .before .before .listed in
-    listing-turn (a .s .now) (a .n) (a .t) (a .h) (start .pre .1 .0) (start .pre .1 .1) (a .out .now) (a .at) (a .layers) (start .pre .1 .2) (root .last .1 .1 .0) (root .result) (root .ensures) (v .out) (v .to) (v .left) (v .place) (v .inv) (p .last .1 .1 .1 .1 .1 .0) (p .result) (w .last .1 .1 .1 .1 .1 .0) (w .result) (p .ensures) (w .ensures)
+    listing-turn (a .s .now) (a .n) (a .t) (a .h) (start .pre .1 .0) (start .pre .1 .1) (a .out .now) (a .at) (a .layers) (start .pre .1 .2) (root .last .1 .1 .0) (root .result) (root .ensures) (v .out) (v .to) (v .left) (v .place) (v .inv) (p .last .1 .1 .1 .1 .1 .1 .0) (p .result) (w .last .1 .1 .1 .1 .1 .0) (w .result) (p .ensures) (w .ensures)
 
 listed-byte-requires : (t : ℕ) → listed-lts.Need-byte-requires (node-and-time-reads.Asked, node-and-time-reads.Learnt, parents-reads.Asked, parents-reads.Learnt, next-parent-reads.Asked, next-parent-reads.Learnt, listed-below t, listed.Post, byte-reads.Asked, byte-reads.Learnt) (listed-at t) listed.Post Inv-loop μ-loop
 listed-byte-requires t c κs =

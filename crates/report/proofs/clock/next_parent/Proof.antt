@@ -1,7 +1,7 @@
-use mathlib.Core.Path.{sym, ap, _∙_}
+use mathlib.Core.Path.{sym, _∙_}
 use native.Mathlib.Omega.{arith}
 use borrow.Author.Needs.{needs}
-use Rattle.report.proofs.ClockLaws.{next-channel, at-place, behind-place}
+use Rattle.report.proofs.ParentLaws.{next-channel, at-place, behind-place}
 use Rattle.report.proofs.clock.next_parent.Statement.{statement}
 use Rattle.report.proofs.clock.next_parent.Tie as tie
 
@@ -10,27 +10,24 @@ sender-of-requires c κs =
     let start = c .before .before .before .before .before .before .before .before .before in
     let a = start .args in
     let first = c .before .mask-next in
-    let ready = start .pre .0 .holds .ready in
-    let x = next-channel (a .s .now) (a .n) ready (a .left) (a .place) (first .result) (start .pre .2) (omega arith) (start .pre .3) (first .ensures) in
-    record { ready = ready; below = rw (c .size .ensures) (x .below) }
+    let x = next-channel (a .s .now) (a .n) (start .pre .0) (a .left) (a .place) (first .result) (start .pre .2) (omega arith) (start .pre .3) (first .ensures) in
+    record { ready = start .pre .0 .holds .ready; below = rw (c .size .ensures) (x .below) }
 
 parent-time-requires : tie.Need-parent-time-requires
 parent-time-requires c κs =
     let start = c .before .before .before .before .before .before .before .before .before .before in
     let a = start .args in
     let first = c .before .before .mask-next in
-    let ready = start .pre .0 .holds .ready in
-    let x = next-channel (a .s .now) (a .n) ready (a .left) (a .place) (first .result) (start .pre .2) (omega arith) (start .pre .3) (first .ensures) in
-    let (inside, there) = at-place (a .s .now) (a .n) ready (a .left) (a .place) (first .result) x in
-    (record { holds = start .pre .0 .holds; below = rw (c .before .size .ensures) (x .below) }, start .pre .1, inside, there ∙ sym (c .before .size .ensures))
+    let x = next-channel (a .s .now) (a .n) (start .pre .0) (a .left) (a .place) (first .result) (start .pre .2) (omega arith) (start .pre .3) (first .ensures) in
+    let (inside, there) = at-place (a .s .now) (a .n) (start .pre .0) (a .left) (a .place) (first .result) x in
+    (record { holds = start .pre .0 .holds; below = rw (c .before .size .ensures) (x .below) }, start .pre .0 .inside, start .pre .1, inside, there ∙ sym (c .before .size .ensures))
 
 without-requires : tie.Need-without-requires
 without-requires c κs =
     let start = c .before .before .before .before .before .before .before .before .before .before .before in
     let a = start .args in
     let first = c .before .before .before .mask-next in
-    let ready = start .pre .0 .holds .ready in
-    let x = next-channel (a .s .now) (a .n) ready (a .left) (a .place) (first .result) (start .pre .2) (omega arith) (start .pre .3) (first .ensures) in
+    let x = next-channel (a .s .now) (a .n) (start .pre .0) (a .left) (a .place) (first .result) (start .pre .2) (omega arith) (start .pre .3) (first .ensures) in
     (x .small, x .bit)
 
 returns : tie.Need-returns
@@ -40,9 +37,8 @@ returns c =
     let first = c .before .before .before .before .mask-next in
     let size = c .before .before .before .size in
     let sender = c .before .before .sender-of in
-    let ready = start .pre .0 .holds .ready in
-    let x = next-channel (a .s .now) (a .n) ready (a .left) (a .place) (first .result) (start .pre .2) (omega arith) (start .pre .3) (first .ensures) in
-    let (inside, there) = at-place (a .s .now) (a .n) ready (a .left) (a .place) (first .result) x in
+    let x = next-channel (a .s .now) (a .n) (start .pre .0) (a .left) (a .place) (first .result) (start .pre .2) (omega arith) (start .pre .3) (first .ensures) in
+    let (inside, there) = at-place (a .s .now) (a .n) (start .pre .0) (a .left) (a .place) (first .result) x in
     record {
       inside = inside;
       channel = size .ensures ∙ sym there;
@@ -50,7 +46,7 @@ returns c =
       node = sender .ensures .0;
       known = sender .ensures .1;
       time = c .before .parent-time .ensures;
-      left = c .without .ensures ∙ behind-place (a .s .now) (a .n) ready (a .left) (a .place) (first .result) x;
+      left = c .without .ensures ∙ behind-place (a .s .now) (a .n) (start .pre .0) (a .left) (a .place) (first .result) x;
       wrote = rw (c .before .before .before .before .before .before .before .before .separator .ensures) at (c .before .before .before .before .before .before .before .byte .ensures);
     }
 

@@ -1,5 +1,5 @@
 use mathlib.Core.Path.{refl}
-use Rattle.report.proofs.ClockLaws.{separator-first, separator-later}
+use Rattle.report.proofs.ParentLaws.{separator-first, separator-later}
 use Rattle.report.proofs.clock.separator.Statement.{statement}
 use Rattle.report.proofs.clock.separator.Tie as tie
 
@@ -7,5 +7,5 @@ pub separator-spec : {M : Type 1} → statement M
 separator-spec =
     tie.close
     (tie.spec
-    (λ c. separator-first (c .before .args .place) (c .if1 .taken))
-    (λ c. separator-later (c .before .args .place) (c .if1 .left)))
+    (λ c. separator-first (c .before .args .first) (c .before .args .place) (c .if1 .taken))
+    (λ c. separator-later (c .before .args .first) (c .before .args .place) (c .if1 .left)))

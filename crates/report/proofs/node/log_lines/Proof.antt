@@ -11,7 +11,7 @@ use Rattle.rules.specs.Sheet.{entryLine}
 use Rattle.state.specs.State.{lineOf}
 use Rattle.buffer.specs.Nothing.{noEntry}
 use Rattle.report.specs.Parts.{logText}
-use Rattle.report.proofs.ClockLaws.{node-few}
+use Rattle.report.proofs.ParentLaws.{node-few}
 use Rattle.report.proofs.WroteLaws.{Writing, wrote-most, writing-start, joined-turn, joined-end}
 use Rattle.report.proofs.node.log_lines.Statement.{statement}
 use Rattle.report.proofs.node.log_lines.Tie as tie

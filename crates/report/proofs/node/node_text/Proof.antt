@@ -9,18 +9,25 @@ use Rattle.report.proofs.node.node_text.Tie as tie
 
 returns : tie.Need-returns
 returns c =
-    let start = c .before .before .before .before .before .before .before .before .before .before .before .before .before .before in
+    let fourth = c .before .before in
+    let third = fourth .before .before .before .before in
+    let second = third .before .before .before .before in
+    let first = second .before .before .before .before in
+    let start = first .before .before .before .before in
     let a = start .args in
     writing-last
     (writing-on refl
-    (writing-on refl (writing-of (a .out .now) (a .at) (node-parts (lineOf (a .s .now)) (a .n)) (omega (arith, start .pre .1))) (c .before .before .before .before .before .before .before .before .before .before .head-line .ensures))
-    (c .before .before .before .before .before .before .log-lines .ensures))
-    (c .before .before .clock-line .ensures)
+    (writing-on refl
+    (writing-on refl (writing-of (a .out .now) (a .at) (node-parts (lineOf (a .s .now)) (a .n)) (omega (arith, start .pre .1))) (first .head-line .ensures))
+    (second .log-lines .ensures))
+    (third .clock-line .ensures))
+    (fourth .kept-line .ensures)
 
 pub node-text-spec : {M : Type 1} → statement M
 node-text-spec =
     tie.close
     (tie.spec
+    (λ c κs. search needs)
     (λ c κs. search needs)
     (λ c κs. search needs)
     (λ c κs. search needs)

@@ -1,8 +1,7 @@
-use mathlib.Core.Path.{_≡_, refl, sym, ap}
 use native.Mathlib.Omega.{arith}
 use borrow.Author.Needs.{needs}
 use Rattle.report.proofs.OriginText.{origin-none, origin-some}
-use Rattle.report.proofs.WroteLaws.{wrote-most, writing-of, writing-on, writing-last}
+use Rattle.report.proofs.WroteLaws.{wrote-most}
 use Rattle.report.proofs.node.origin_words.Statement.{statement}
 use Rattle.report.proofs.node.origin_words.Tie as tie
 
@@ -13,14 +12,10 @@ returns c =
 
 returns-2 : tie.Need-returns-2
 returns-2 c =
-    let second = c .before .before in
-    let first = c .before .before .before .before .before .before in
-    let sender = c .before .before .before .before .before .before .before .before .wide32 .ensures .0 in
-    let start = c .before .before .before .before .before .before .before .before .before .before .before .before .before in
-    let a = start .args in
-    writing-last
-    (writing-on refl (writing-of (a .out .now) (a .at) (origin-some (a .m .from) (a .m .time) (c .before .before .before .before .before .before .before .before .before .before .if1 .left)) (omega (arith, start .pre))) (rw sender at (first .byte-and-number .ensures)))
-    (second .byte-and-number2 .ensures)
+    let two = c .before .before in
+    let sender = two .before .before .wide32 .ensures .0 in
+    let start = two .before .before .before .before .before .before .before in
+    rw (origin-some (start .args .m .from) (start .args .m .time) (two .before .before .before .before .if1 .left)) (rw sender at (two .two-numbers .ensures))
 
 pub origin-words-spec : {M : Type 1} → statement M
 origin-words-spec =
@@ -32,7 +27,6 @@ origin-words-spec =
     returns
     (λ c. search needs)
     (λ c κs. tt)
-    (λ c κs. search needs)
     (λ c κs. search needs)
     (λ c. search needs)
     returns-2)

@@ -1,7 +1,6 @@
 //! What is asked of Trims and of what they leave.
 
 use super::*;
-use crate::answer::SOME_NOT_UP;
 use crate::clock::Clock;
 
 impl Stepped<'_> {

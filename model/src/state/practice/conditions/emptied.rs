@@ -57,7 +57,14 @@ pub const HOLDING: Clause = Clause {
         }),
         line("down: targets", |random, line| {
             let node = down(random, line)?;
+            line.nodes[node].kept = None;
             aim(random, line, node)
+        }),
+        line("down: a kept answer's targets alone", |random, line| {
+            let node = pick::keeping(random, line, |kept| !kept.targets.is_empty())?;
+            let kept = line.nodes[node].kept.take()?;
+            line.nodes[node].targets = kept.targets;
+            Some(())
         }),
         line("down: entering mark", |random, line| {
             let node = down(random, line)?;

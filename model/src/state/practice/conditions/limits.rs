@@ -60,6 +60,10 @@ pub const OUTSIDE: Clause = Clause {
             let number = random.index(line.nodes.len());
             miscount(random, &mut state[node(number)..], TARGETS)
         }),
+        bytes("kept answers", |random, line, state| {
+            let number = random.index(line.nodes.len());
+            miscount(random, &mut state[node(number)..], KEPT)
+        }),
         bytes("messages on a channel", |random, line, state| {
             let number = random.index(line.queues.len());
             miscount(random, &mut state[channel(number)..], QUEUE)

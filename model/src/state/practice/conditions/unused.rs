@@ -1,5 +1,5 @@
 use super::*;
-use crate::state::practice::places::LOW_OF_NONE;
+use crate::state::practice::places::{KEPT_OF_NONE, LOW_OF_NONE};
 
 /// By the names of `places`.
 pub const NOT_ZERO: Clause = Clause {
@@ -16,7 +16,9 @@ pub const NOT_ZERO: Clause = Clause {
         unused("free held records"),
         unused("after a target"),
         unused("free targets"),
-        unused("after a node's targets"),
+        unused("no kept answer"),
+        unused(KEPT_OF_NONE),
+        unused("after a node's kept answer"),
         unused("nodes that the plan lacks"),
         unused("heard of parents that a sender lacks"),
         unused("after a message"),
