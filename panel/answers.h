@@ -1,5 +1,5 @@
 /* The numbers that Load, Step, Check, Write, Placing and the check of a plan return: document 01, "Numbers returned",
-   and requests 2026-01 and 2026-04 to 2026-07. A call returns the first that applies, in rising order; but 25 comes
+   and requests 2026-01 and 2026-04 to 2026-08. A call returns the first that applies, in rising order; but 25 comes
    between 11 and 12, 26 between 13 and 14, and 27 between 16 and 17. */
 #ifndef ANSWERS_H
 #define ANSWERS_H
@@ -26,7 +26,8 @@ enum {
     ANSWER_NOTHING_THERE = 18,     /* nothing to send or take */
     ANSWER_BELT_FULL = 19,         /* belt holds 8 */
     ANSWER_ROW_COMPLETE = 20,      /* Take on a complete row while replaying */
-    ANSWER_NO_SPACE = 21,          /* no space in the log or held list, or over 64 targets */
+    ANSWER_NO_SPACE = 21,          /* no space in the log or held list, or over 64 targets; not for a Feed
+                                      of which an infeed with leaving belts sends nothing on (2026-08) */
     ANSWER_TABLE = 22,             /* replay table breaks the limits or the order */
     ANSWER_OUTPUT_SHORT = 23,      /* output shorter than needed */
     ANSWER_NO_PLACING = 24,        /* no placing exists; targets that conflict, or one not held */

@@ -52,10 +52,11 @@ uint32_t line_load(const uint8_t *plan, size_t plan_length,
                    uint8_t *state, size_t state_length);
 
 /* Step: works one frame on the line in a state.
-   Returns 0, or the first number of document 01 and requests 2026-01 and 2026-04 to 2026-07 that applies, in this order:
+   Returns 0, or the first number of document 01 and requests 2026-01 and 2026-04 to 2026-08 that applies, in this order:
    8 as line_check does, 9 to 11, 25 for a console above 3, 12 for a console whose own 1,000,000 steps are accepted, 13,
    26 for a Trim while a node is down or replays, 14 to 16, 27 for a Commit of a node that keeps no answer, 17 to 21, 24.
-   Accepted, the state holds the line after the step; a refusal leaves it as it was. The frame is only read. */
+   Accepted, the state holds the line after the step; a refusal leaves it as it was. A Feed to an infeed
+   with leaving belts, none of which takes the record, changes nothing but its console's count. The frame is only read. */
 uint32_t line_step(uint8_t *state, size_t state_length,
                    const uint8_t *frame, size_t frame_length);
 

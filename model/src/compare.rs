@@ -1,10 +1,12 @@
 //! What the programs that compare the engine with the model have in common:
 //! lent buffers, the same step from every caller, with the plan in either version and
-//! by Commit as by Recover, and counts that have to reach their floors.
+//! by Commit as by Recover, times that count what leaves, and counts that have to reach
+//! their floors.
 
 mod callers;
 mod commits;
 mod counts;
+mod departures;
 mod lent;
 mod versions;
 
@@ -14,6 +16,7 @@ use std::{env, fs};
 pub use callers::{from_all, FromAll};
 pub use commits::as_recover;
 pub use counts::{answer, under, Counts, Floor};
+pub use departures::Departures;
 pub use lent::Lent;
 pub use versions::in_both_versions;
 

@@ -21,7 +21,8 @@ struct Event {
     input: Option<(usize, u32)>,
     /// As it came, before the node's rule.
     record: Record,
-    /// The node's own; 0 for one that a replay dropped.
+    /// The node's own, if a channel takes what it makes of it; 0 for one that a replay
+    /// dropped.
     time: u32,
 }
 

@@ -1,5 +1,5 @@
-//! Document 01, "The line", and requests 2026-02, 2026-05 and 2026-06: the plan, read
-//! and written by one layout, and which channels take a record.
+//! Document 01, "The line", and requests 2026-02, 2026-05, 2026-06 and 2026-08: the plan,
+//! read and written by one layout, and which channels take a record.
 
 pub mod practice;
 
@@ -282,6 +282,18 @@ impl Plan {
     /// Whether some leaving channel of the node takes the record.
     pub fn passes_on(&self, node: usize, record: &Record) -> bool {
         self.set_of(node, record) != 0
+    }
+
+    /// Not: "a record taken by a node that has leaving belts, when none of them takes
+    /// it, gets no time of its own". The node's rule has been applied to it.
+    pub fn is_timed(&self, node: usize, record: &Record) -> bool {
+        self.is_sink(node) || self.passes_on(node, record)
+    }
+
+    /// "Log times may repeat, or be 0, at such entries only": of what the node has taken, not
+    /// been fed.
+    pub fn may_repeat(&self, node: usize, record: &Record) -> bool {
+        !self.is_source(node) && !self.is_timed(node, record)
     }
 }
 

@@ -98,6 +98,14 @@ fn main() {
     row("Feed, full line", &nearly, feed);
     row("Send, full line", &nearly, Frame::Send { channel: last });
     row("Take, full line", &nearly, Frame::Take { channel: last });
+    let silent = staged::silent();
+    let entering = silent.plan.entering(5).next().expect("a parent") as u8;
+    row("Feed that no channel takes", &silent, feed);
+    row(
+        "Take without a time of its own",
+        &silent,
+        Frame::Take { channel: entering },
+    );
     row("Crash, full line", &nearly, Frame::Crash { node: 5 });
     row(
         "Recover, 64 targets",

@@ -14,7 +14,7 @@ use lib.Pow.{pow-pos, pow-mono}
 use Rattle.plan.specs.declared.Record.{Record}
 use Rattle.plan.specs.declared.Channel.{Channel}
 use Rattle.plan.specs.Channel.{takes}
-use Rattle.plan.specs.Plan.{Plan, planOf, nodeCount, channelCount, channelAt, noChannel, keepIf, numbersFrom, leaving}
+use Rattle.plan.specs.Plan.{Plan, planOf, nodeCount, channelCount, channelAt, noChannel, keepIf, numbersFrom, leaving, isNone, isSink}
 use Rattle.plan.specs.Mask.{bits, setOf, takesAt}
 use Rattle.plan.specs.Check.{planFits}
 use Rattle.plan.proofs.AcceptedLaws.{four-at}
@@ -58,6 +58,14 @@ module _ (p : Plan) (n : ℕ) where
   pub begin-nowhere : (b : ℕ) → LeaveFrom p n b → channelCount p ≤ b → Begin p n b
   begin-nowhere b l e = record { none-before = l; not-below = λ h. let no : ⊥ = omega arith in absurd no }
 
+  pub sink-nowhere : (first : ℕ) → LeaveFrom p n first → channelCount p ≤ first → isSink p n ≡ true
+  unfolding isSink
+  sink-nowhere first l h = ap isNone (l ∙ numbers-end p from first h)
+
+  pub sink-not : (first : ℕ) → LeaveFrom p n first → first < channelCount p → channelAt p first .sender ≡ n → isSink p n ≡ false
+  unfolding isSink
+  sink-not first l h e = ap isNone (l ∙ leavers-here first h e)
+
   -- Looked at so far: those before channel b; bit is that of the next.
   pub record Found (r : Record) (first b set bit : ℕ) : Type 0 where
     pub past : first ≤ b
@@ -93,6 +101,12 @@ module _ (p : Plan) (n : ℕ) where
         let same = ap (λ (i : ℕ). channelAt p i .sender) is in
         let low = e .not-below (omega (arith, past)) in
         none-after b h (omega (arith, up, same, low, d))
+
+    -- ---- whether there are any
+
+    pub sink-else : (first : ℕ) → Begin p n first → first < channelCount p → (channelAt p first .sender ≡ n → ⊥) → isSink p n ≡ true
+    unfolding isSink
+    sink-else first e h d = ap isNone (e .none-before ∙ none-left first first e (omega arith) h d)
 
     -- ---- the set
 

@@ -2,7 +2,7 @@
 ghost use mathlib.Core.Path.{_≡_};
 ghost use mathlib.Core.Bool.{cond};
 ghost use Prim.Native.Nat.{_<_};
-ghost use Rattle.plan.specs.Plan.{planOf, planNodes};
+ghost use Rattle.plan.specs.Plan.{planOf, planNodes, isSink};
 ghost use Rattle.plan.specs.Mask.{setOf};
 ghost use Rattle.buffer.specs.Ready.{Ready, OnChannel};
 ghost use Rattle.buffer.specs.Sets.{LeaveFrom, Begin, BitOf};
@@ -22,6 +22,17 @@ pub fn leaving_from(s: &[u8], n: usize, from: usize) -> usize
         b += 1;
     }
     b
+}
+
+// Whether no channel leaves a node, by where they would begin.
+pub fn none_leaves(s: &[u8], n: usize, first: usize) -> bool
+    requires { ⌜ Ready (now s) × Begin (planOf (now s)) n first ⌝ }
+    ensures { λ r. ⌜ r ≡ isSink (planOf (now (s .entry))) n ⌝ }
+{
+    if look::channel_count(s) <= first {
+        return true;
+    }
+    look::sender_of(s, first) != n
 }
 
 fn bit_if(t: bool, bit: u8) -> u8

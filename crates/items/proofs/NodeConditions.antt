@@ -1,20 +1,19 @@
 -- The conditions of Damaged on a node, one by one over its lists.
 use Prim.Native.Nat.{ℕ}
 use mathlib.Core.Path.{_≡_, sym, ap, _∙_}
-use mathlib.Core.Bool.{Bool, true, false, not, _||_, or-assoc}
+use mathlib.Core.Bool.{Bool, true, false, not, _&&_, _||_}
 use mathlib.Core.List.{List, [], _∷_, _++_, map}
 use lib.ListN.{length}
 use lib.Dec.{leb, ltb, eqb}
 use borrow.Author.Tests.{leb-true, le-ltb, not-false}
 use Rattle.basics.specs.Bools.{neither-true}
 use Rattle.plan.specs.Plan.{entering}
-use Rattle.rules.specs.Lists.{anyOf, joined}
+use Rattle.rules.specs.Lists.{allOf, anyOf, joined}
 use Rattle.rules.specs.Line.{logLimit, heldLimit, targetLimit, Entry, Held, Target, Node, Line, nodeAt, acceptedSteps}
 use Rattle.rules.specs.Replay.{passedOn}
-use Rattle.rules.specs.Damaged.{workedOn, recordPastLimits, nodePastLimits, isParent, notParent, beforeNotParent, nodeWrongParent, originTimes, nodeNamedTimes, nodeOtherTimes, nodeTimePast, nodeTimeZero, originWrong, beforeWrong, nodeMakerWrong, logWrong, setWrong, pastLane, pastClock, heldWrong, heldNotPassed, markMissing, markOnEnd, replayWrong, answerWrong, nodeHolds, nodeDamaged}
-use Rattle.items.specs.Items.{timesRise, setRight, countsRight}
+use Rattle.rules.specs.Damaged.{workedOn, recordPastLimits, nodePastLimits, isParent, notParent, beforeNotParent, nodeWrongParent, originTimes, nodeNamedTimes, nodeOtherTimes, nodeTimePast, nodeTimeZero, originWrong, beforeWrong, nodeMakerWrong, logRises, logWrong, setWrong, pastLane, pastClock, heldWrong, heldNotPassed, markMissing, markOnEnd, replayWrong, answerWrong, nodeHolds, nodeDamaged}
+use Rattle.items.specs.Items.{setRight, countsRight}
 use Rattle.items.proofs.Tests.{not-above, all-true, all-false, false-all, any-append, any-map, any-joined}
-use Rattle.items.proofs.Rises.{rise-same}
 
 -- On a record worked on, on the times that an input names, and on those of a target.
 abbrev pub pastLimits : Entry → Bool
@@ -59,10 +58,9 @@ module _ (l : Line) (n : ℕ) where
     pub inputs-past : anyOf (inputTimes (ltb (acceptedSteps l))) (workedOn x) ≡ false
     pub time-past : ltb (acceptedSteps l) (x .time) ≡ false
     pub targets-past : anyOf (targetTimes (ltb (acceptedSteps l))) (x .targets) ≡ false
-    pub log-nought : anyOf (λ (e : Entry). eqb 0 (e .time)) (x .log) ≡ false
     pub inputs-nought : anyOf (inputTimes (eqb 0)) (workedOn x) ≡ false
     pub makers : anyOf wrongMaker (workedOn x) ≡ false
-    pub log-rises : timesRise (λ (e : Entry). e .time) 0 (x .time) (x .log) ≡ true
+    pub log-rises : (logRises (l .plan) n 0 (x .log) && allOf (λ (t : ℕ). leb t (x .time)) (map (λ (e : Entry). e .time) (x .log))) ≡ true
     pub sets : anyOf wrongSet (x .log) ≡ false
     pub clock : anyOf pastEntry (workedOn x) ≡ false
     pub rows : heldWrong l n ≡ false
@@ -92,42 +90,40 @@ module _ (x : Node) where
         records,
       )
 
-  named-times : (f : ℕ → Bool) → anyOf f (nodeNamedTimes x) ≡ (anyOf (λ (e : Entry). f (e .time)) (x .log) || anyOf (inputTimes f) (workedOn x))
-  named-times f =
-      any-append f (map (λ (e : Entry). e .time) (x .log)) (joined (map (λ (e : Entry). originTimes (e .origin) ++ originTimes (e .before)) (workedOn x)))
-      ∙ rw (any-map f (λ (e : Entry). e .time) (x .log), any-joined f (λ (e : Entry). originTimes (e .origin) ++ originTimes (e .before)) (workedOn x))
+  zero-is : nodeTimeZero x ≡ anyOf (inputTimes (eqb 0)) (workedOn x)
+  unfolding nodeTimeZero
+  zero-is = any-joined (eqb 0) (λ (e : Entry). originTimes (e .origin) ++ originTimes (e .before)) (workedOn x)
 
-  past-is : (steps : ℕ) → nodeTimePast steps x ≡ (anyOf (λ (e : Entry). ltb steps (e .time)) (x .log) || anyOf (inputTimes (ltb steps)) (workedOn x) || ltb steps (x .time) || anyOf (targetTimes (ltb steps)) (x .targets))
+  other-times : (f : ℕ → Bool) → anyOf f (nodeOtherTimes x) ≡ (f (x .time) || (anyOf (λ (e : Entry). f (e .time)) (x .log) || anyOf (targetTimes f) (x .targets)))
+  other-times f =
+      ap (λ (t : Bool). f (x .time) || t)
+      (any-append f (map (λ (e : Entry). e .time) (x .log)) (joined (map (λ (t : Target). t .time ∷ t .parentTime ∷ []) (x .targets)))
+      ∙ rw (any-map f (λ (e : Entry). e .time) (x .log), any-joined f (λ (t : Target). t .time ∷ t .parentTime ∷ []) (x .targets)))
+
+  past-is : (steps : ℕ) → nodeTimePast steps x ≡ (anyOf (inputTimes (ltb steps)) (workedOn x) || (ltb steps (x .time) || (anyOf (λ (e : Entry). ltb steps (e .time)) (x .log) || anyOf (targetTimes (ltb steps)) (x .targets))))
   unfolding nodeTimePast
   past-is steps =
       any-append (ltb steps) (nodeNamedTimes x) (nodeOtherTimes x)
-      ∙ rw (named-times (ltb steps), any-joined (ltb steps) (λ (t : Target). t .time ∷ t .parentTime ∷ []) (x .targets))
-      (sym (or-assoc (anyOf (λ (e : Entry). ltb steps (e .time)) (x .log) || anyOf (inputTimes (ltb steps)) (workedOn x)) (ltb steps (x .time)) (anyOf (targetTimes (ltb steps)) (x .targets))))
-
-  zero-is : nodeTimeZero x ≡ (anyOf (λ (e : Entry). eqb 0 (e .time)) (x .log) || anyOf (inputTimes (eqb 0)) (workedOn x))
-  unfolding nodeTimeZero
-  zero-is = named-times (eqb 0)
-
-  log-is : logWrong x ≡ not (timesRise (λ (e : Entry). e .time) 0 (x .time) (x .log))
-  unfolding logWrong
-  log-is = ap not (sym (rise-same (λ (e : Entry). e .time) 0 (x .time) (x .log)))
+      ∙ rw (any-joined (ltb steps) (λ (e : Entry). originTimes (e .origin) ++ originTimes (e .before)) (workedOn x), other-times (ltb steps))
 
 module _ (l : Line) (n : ℕ) where
   abbrev others : List Bool
   others =
-      nodeWrongParent (l .plan) n (x l n) ∷ nodeTimePast (acceptedSteps l) (x l n) ∷ nodeTimeZero (x l n) ∷ nodeMakerWrong (l .plan) n (x l n) ∷ logWrong (x l n) ∷ setWrong (l .plan) n (x l n) ∷ pastClock l n
+      nodeWrongParent (l .plan) n (x l n) ∷ nodeTimePast (acceptedSteps l) (x l n) ∷ nodeTimeZero (x l n) ∷ nodeMakerWrong (l .plan) n (x l n) ∷ logWrong (l .plan) n (x l n) ∷ setWrong (l .plan) n (x l n) ∷ pastClock l n
       ∷ heldWrong l n ∷ heldNotPassed (l .plan) n (x l n) ∷ markMissing (x l n) ∷ markOnEnd (l .plan) n (x l n) ∷ replayWrong l n ∷ answerWrong l n ∷ nodeHolds (x l n) ∷ []
 
   pub node-clear : nodeDamaged l n ≡ false → Clear l n
-  unfolding nodeDamaged nodeWrongParent nodeMakerWrong setWrong pastClock heldNotPassed
+  unfolding nodeDamaged nodeWrongParent nodeMakerWrong logWrong setWrong pastClock heldNotPassed
   node-clear e =
       let y : Node = nodeAt l n in
       let (limits, (parents, (past, (nought, (makers, (log, (sets, (clock, (rows, (passed, (missing, (on-end, (again, (kept, holds)))))))))))))) = all-false (nodePastLimits y) others e in
       let (counts, records) = limits-clear y limits in
       let (inputs, targets) = neither-true (anyOf (wrongInput l n) (workedOn y)) (anyOf (wrongTarget l n) (y .targets)) parents in
-      let (log-past, (inputs-past, (time-past, targets-past))) =
-      all-false (anyOf (λ (e : Entry). ltb (acceptedSteps l) (e .time)) (y .log)) (anyOf (inputTimes (ltb (acceptedSteps l))) (workedOn y) ∷ ltb (acceptedSteps l) (y .time) ∷ anyOf (targetTimes (ltb (acceptedSteps l))) (y .targets) ∷ []) (sym (past-is y (acceptedSteps l)) ∙ past) in
-      let (log-nought, inputs-nought) = neither-true (anyOf (λ (e : Entry). eqb 0 (e .time)) (y .log)) (anyOf (inputTimes (eqb 0)) (workedOn y)) (sym (zero-is y) ∙ nought) in
+      let log-beyond = anyOf (λ (e : Entry). ltb (acceptedSteps l) (e .time)) (y .log) in
+      let targets-beyond = anyOf (targetTimes (ltb (acceptedSteps l))) (y .targets) in
+      let (inputs-past, others-past) = neither-true (anyOf (inputTimes (ltb (acceptedSteps l))) (workedOn y)) (ltb (acceptedSteps l) (y .time) || (log-beyond || targets-beyond)) (sym (past-is y (acceptedSteps l)) ∙ past) in
+      let (time-past, lists-past) = neither-true (ltb (acceptedSteps l) (y .time)) (log-beyond || targets-beyond) others-past in
+      let (log-past, targets-past) = neither-true log-beyond targets-beyond lists-past in
       record {
         counts = counts;
         records = records;
@@ -137,10 +133,9 @@ module _ (l : Line) (n : ℕ) where
         inputs-past = inputs-past;
         time-past = time-past;
         targets-past = targets-past;
-        log-nought = log-nought;
-        inputs-nought = inputs-nought;
+        inputs-nought = sym (zero-is y) ∙ nought;
         makers = makers;
-        log-rises = not-false (timesRise (λ (e : Entry). e .time) 0 (y .time) (y .log)) (sym (log-is y) ∙ log);
+        log-rises = not-false _ log;
         sets = sets;
         clock = clock;
         rows = rows;
@@ -153,12 +148,12 @@ module _ (l : Line) (n : ℕ) where
       }
 
   pub clear-node : Clear l n → nodeDamaged l n ≡ false
-  unfolding nodeDamaged nodeWrongParent nodeMakerWrong setWrong pastClock heldNotPassed
+  unfolding nodeDamaged nodeWrongParent nodeMakerWrong logWrong setWrong pastClock heldNotPassed
   clear-node c =
       let y : Node = nodeAt l n in
       let limits = clear-limits y (c .counts) (c .records) in
       let parents : nodeWrongParent (l .plan) n y ≡ false = rw (c .inputs, c .parents) in
-      let past : nodeTimePast (acceptedSteps l) y ≡ false = past-is y (acceptedSteps l) ∙ rw (c .log-past, c .inputs-past, c .time-past, c .targets-past) in
-      let nought : nodeTimeZero y ≡ false = zero-is y ∙ rw (c .log-nought, c .inputs-nought) in
-      let log = log-is y ∙ ap not (c .log-rises) in
+      let past : nodeTimePast (acceptedSteps l) y ≡ false = past-is y (acceptedSteps l) ∙ rw (c .inputs-past, c .time-past, c .log-past, c .targets-past) in
+      let nought : nodeTimeZero y ≡ false = zero-is y ∙ c .inputs-nought in
+      let log : logWrong (l .plan) n y ≡ false = ap not (c .log-rises) in
       false-all (nodePastLimits y) others (limits, (parents, (past, (nought, (c .makers, (log, (c .sets, (c .clock, (c .rows, (c .passed, (c .missing, (c .on-end, (c .again, (c .kept, c .holds))))))))))))))

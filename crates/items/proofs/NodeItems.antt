@@ -1,12 +1,12 @@
 -- A node is damaged exactly if it is not right item by item.
-use Prim.Native.Nat.{ℕ, _<_, _≤_}
+use Prim.Native.Nat.{ℕ, _<_}
 use mathlib.Core.Path.{_≡_, refl, sym, ap, subst, _∙_}
 use mathlib.Core.Logic.{inl, inr}
 use mathlib.Core.Bool.{Bool, true, false, not, _&&_, _||_}
 use mathlib.Core.List.{[], _∷_, map}
 use native.Mathlib.Omega.{arith}
 use lib.Dec.{leb, ltb, eqb}
-use borrow.Author.Tests.{leb-true, le-ltb, ne-eqb, not-false}
+use borrow.Author.Tests.{leb-true, le-ltb, not-false}
 use Rattle.basics.specs.Bools.{both-true, neither-true}
 use Rattle.plan.specs.Plan.{nodeCount, entering}
 use Rattle.rules.specs.Lists.{allOf, anyOf}
@@ -15,9 +15,9 @@ use Rattle.rules.specs.Replay.{heldEntry, passedOn}
 use Rattle.rules.specs.Step.{replaying}
 use Rattle.rules.specs.Damaged.{workedOn, recordPastLimits, isParent, notParent, markMissing, markOnEnd, replayWrong, nodeHolds, nodeDamaged}
 use Rattle.rules.proofs.lists.Members.{In, in-left, in-right, in-map, map-in, append-in, none-any, all-in}
-use Rattle.items.specs.Items.{ifFound, fromSender, recordRight, originRight, timesRise, entryRight, heldRight, heldRise, noneHeld, targetRight, countsRight, setRight, entriesRight, logRight, heldAllRight, statusRight, replayRight, nodePlain, keptRight, restartRight, nodeRight}
+use Rattle.items.specs.Items.{ifFound, fromSender, recordRight, originRight, isInner, logRise, entryRight, heldRight, heldRise, noneHeld, targetRight, countsRight, setRight, entriesRight, logRight, heldAllRight, statusRight, replayRight, nodePlain, keptRight, restartRight, nodeRight}
 use Rattle.items.proofs.Tests.{opposite, not-above, all-true, all-false, each-all, each-none}
-use Rattle.items.proofs.Rises.{rise-within}
+use Rattle.items.proofs.Rises.{log-same, log-within}
 use Rattle.items.proofs.NodeConditions.{pastLimits, inputTimes, targetTimes, wrongInput, wrongMaker, pastEntry, wrongTarget, notPassed, wrongSet, Clear, node-clear, clear-node}
 use Rattle.items.proofs.Origins.{Formed, Clean, parent-found, clean-right, right-clean}
 use Rattle.items.proofs.HeldRows.{held-opposite}
@@ -74,7 +74,7 @@ module _ (l : Line) (line : Formed l) (n : ℕ) (inside : n < nodeCount (l .plan
     counts : countsRight x ≡ true
     time : leb (x .time) (acceptedSteps l) ≡ true
     worked : (e : Entry) → In e (workedOn x) → Worked l n e
-    log-rises : timesRise (λ (e : Entry). e .time) 0 (x .time) (x .log) ≡ true
+    log-rises : logRise (isInner (l .plan) n) 0 (x .time) (x .log) ≡ true
     sets : (e : Entry) → In e (x .log) → setRight (l .plan) n e ≡ true
     passed : (h : Held) → In h (x .held) → passedOn (l .plan) n (h .what) ≡ true
     held-rises : heldRise noneHeld (x .held) ≡ true
@@ -110,7 +110,7 @@ module _ (l : Line) (line : Formed l) (n : ℕ) (inside : n < nodeCount (l .plan
       let (replays, kept) = both-true (not (replaying l n) || replayRight l n) (keptRight l n (x .asked)) restart in
       let (counts, (time, (log, (held, (targets, status))))) =
       all-true (countsRight x) (leb (x .time) (acceptedSteps l) ∷ logRight l n (x .log) ∷ heldAllRight l n (x .held) ∷ allOf (targetRight l n) (x .targets) ∷ statusRight (l .plan) n x ∷ []) plain in
-      let (entries, (log-rises, sets)) = all-true (allOf (entryRight l n) (x .log)) (timesRise (λ (e : Entry). e .time) 0 (x .time) (x .log) ∷ allOf (setRight (l .plan) n) (x .log) ∷ []) log in
+      let (entries, (log-rises, sets)) = all-true (allOf (entryRight l n) (x .log)) (logRise (isInner (l .plan) n) 0 (x .time) (x .log) ∷ allOf (setRight (l .plan) n) (x .log) ∷ []) log in
       let (helds, held-rises) = both-true (allOf (heldRight l n) (x .held)) (heldRise noneHeld (x .held)) held in
       record {
         counts = counts;
@@ -163,12 +163,13 @@ module _ (l : Line) (line : Formed l) (n : ℕ) (inside : n < nodeCount (l .plan
           clock = none-any (pastEntry l n) (c .clock) i;
         };
       } in
+      let sets : (e : Entry) → In e (x .log) → setRight (l .plan) n e ≡ true = λ e i. not-false (setRight (l .plan) n e) (none-any (wrongSet l n) (c .sets) i) in
       record {
         counts = c .counts;
         time = not-above (x .time) (acceptedSteps l) ∙ ap not (c .time-past);
         worked = worked;
-        log-rises = c .log-rises;
-        sets = λ e i. not-false (setRight (l .plan) n e) (none-any (wrongSet l n) (c .sets) i);
+        log-rises = log-same (l .plan) n 0 (x .time) (x .log) sets ∙ c .log-rises;
+        sets = sets;
         passed = λ h i. not-false (passedOn (l .plan) n (h .what)) (none-any (notPassed l n) (c .passed) i);
         held-rises = not-false (heldRise noneHeld (x .held)) (sym (held-opposite l line n inside (held-parents worked)) ∙ c .rows);
         targets = λ t i. target-right l line n t (none-any (wrongTarget l n) (c .parents) i) (none-any (targetTimes (ltb (acceptedSteps l))) (c .targets-past) i);
@@ -180,21 +181,19 @@ module _ (l : Line) (line : Formed l) (n : ℕ) (inside : n < nodeCount (l .plan
   sound-clear : Sound → Clear l n
   sound-clear s =
       let own = leb-true (x .time) (acceptedSteps l) (s .time) in
-      let when : (e : Entry) → In e (x .log) → (0 < e .time) × (e .time ≤ x .time) = λ e i. rise-within (λ (e : Entry). e .time) 0 (x .time) (s .log-rises) i in
       let (missing, (on-end, holds)) = all-false (markMissing x) (markOnEnd (l .plan) n x ∷ nodeHolds x ∷ []) (status-is ∙ ap not (s .status)) in
       record {
         counts = s .counts;
         records = each-none pastLimits (workedOn x) (λ e i. s .worked e i .fits);
         inputs = each-none (wrongInput l n) (workedOn x) (λ e i. s .worked e i .clean .parents);
         parents = each-none (wrongTarget l n) (x .targets) (λ t i. right-target l line n t (s .targets t i) .0);
-        log-past = each-none (λ (e : Entry). ltb (acceptedSteps l) (e .time)) (x .log) (λ e i. le-ltb (acceptedSteps l) (e .time) (omega (arith, when e i)));
+        log-past = each-none (λ (e : Entry). ltb (acceptedSteps l) (e .time)) (x .log) (λ e i. le-ltb (acceptedSteps l) (e .time) (omega (arith, log-within (isInner (l .plan) n) 0 (x .time) (s .log-rises) i)));
         inputs-past = each-none (inputTimes (ltb (acceptedSteps l))) (workedOn x) (λ e i. s .worked e i .clean .past);
         time-past = le-ltb (acceptedSteps l) (x .time) own;
         targets-past = each-none (targetTimes (ltb (acceptedSteps l))) (x .targets) (λ t i. right-target l line n t (s .targets t i) .1);
-        log-nought = each-none (λ (e : Entry). eqb 0 (e .time)) (x .log) (λ e i. ne-eqb 0 (e .time) (λ q. omega (arith, when e i)));
         inputs-nought = each-none (inputTimes (eqb 0)) (workedOn x) (λ e i. s .worked e i .clean .nought);
         makers = each-none (wrongMaker l n) (workedOn x) (λ e i. s .worked e i .clean .makers);
-        log-rises = s .log-rises;
+        log-rises = sym (log-same (l .plan) n 0 (x .time) (x .log) (s .sets)) ∙ s .log-rises;
         sets = each-none (wrongSet l n) (x .log) (λ e i. ap not (s .sets e i));
         clock = each-none (pastEntry l n) (workedOn x) (λ e i. s .worked e i .clean .clock);
         rows = held-opposite l line n inside (held-parents (s .worked)) ∙ ap not (s .held-rises);

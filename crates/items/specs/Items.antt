@@ -7,7 +7,7 @@ use lib.ListN.{length, getD, set, replicate}
 use lib.Dec.{leb, ltb, eqb}
 use Rattle.plan.specs.declared.Record.{Record}
 use Rattle.plan.specs.Record.{knownRecord}
-use Rattle.plan.specs.Plan.{Plan, nodeCount, channelCount, channelAt, entering, isSource}
+use Rattle.plan.specs.Plan.{Plan, nodeCount, channelCount, channelAt, entering, isSource, isSink}
 use Rattle.plan.specs.Mask.{setOf}
 use Rattle.plan.specs.Check.{planFits}
 use Rattle.rules.specs.Lists.{isEmpty, allOf}
@@ -59,6 +59,18 @@ abbrev pub timesRise : {A : Type 0} → (A → ℕ) → ℕ → ℕ → List A �
 timesRise time last top [] = true
 timesRise time last top (x ∷ xs) = ltb last (time x) && leb (time x) top && timesRise time (time x) top xs
 
+-- 2026-08: a log's times rise so too, but that one may repeat at an entry with an empty set, of a node that channels both enter and leave.
+unfoldable pub isInner : Plan → ℕ → Bool
+unfolding isSource isSink
+isInner p n = not (isSource p n || isSink p n)
+
+abbrev pub mayFollow : Bool → ℕ → ℕ → ℕ → Bool
+mayFollow inner last time set = ltb last time || (inner && eqb last time && eqb set 0)
+
+abbrev pub logRise : Bool → ℕ → ℕ → List Entry → Bool
+logRise inner last top [] = true
+logRise inner last top (e ∷ es) = mayFollow inner last (e .time) (e .set) && leb (e .time) top && logRise inner (e .time) top es
+
 -- A log entry; its own time is tested in the pass over the log, whose top is within the steps, and its set in another.
 unfoldable pub entryRight : Line → ℕ → Entry → Bool
 unfolding originRight
@@ -84,10 +96,10 @@ targetRight l n t = leb (t .time) (acceptedSteps l) && leb (t .parentTime) (acce
 unfoldable pub countsRight : Node → Bool
 countsRight x = leb (length (x .log)) logLimit && leb (length (x .held)) heldLimit && leb (length (x .targets)) targetLimit
 
--- The log's entries, their sets aside; the sets, in a pass of their own; both.
+-- The log's entries, with times that may repeat where the set is empty; the sets, in a pass of their own; both.
 unfoldable pub entriesRight : Line → ℕ → List Entry → Bool
-unfolding entryRight
-entriesRight l n log = allOf (entryRight l n) log && timesRise (λ (e : Entry). e .time) 0 (nodeAt l n .time) log
+unfolding entryRight isInner
+entriesRight l n log = allOf (entryRight l n) log && logRise (isInner (l .plan) n) 0 (nodeAt l n .time) log
 
 abbrev pub setRight : Plan → ℕ → Entry → Bool
 setRight p n e = eqb (e .set) (setOf p n (e .what))

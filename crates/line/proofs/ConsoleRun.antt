@@ -58,7 +58,7 @@ module _ (l : Line) (fits : LineFits l) (ks : List ℕ) where
   is : Parts (withSteps ks l) (over .front) (over .back)
   is = parts-of (withSteps ks l) (over .front) (over .back) (over .place) (over .is)
 
-  outside-same : SameOutside (lineBytes l) (lineBytes (withSteps ks l))
+  pub outside-same : SameOutside (lineBytes l) (lineBytes (withSteps ks l))
   outside-same = (was .before ∙ sym (is .before), was .behind ∙ sym (is .behind))
 
 -- Lines that fit and agree outside the counts differ in their counts alone.
@@ -89,7 +89,7 @@ module _ (s f : List ℕ) (bytes : Bytes f) (z : stateAnswer s ≡ 0) where
   next : Sane (stepLeft s f)
   next = state-sane (stepLeft s f) .0 (call .accepted)
 
-  counts-on-bytes : CountsCallerOnBytes s f
+  pub counts-on-bytes : CountsCallerOnBytes s f
   counts-on-bytes c inside =
       let now = count-read (stepLeft s f) (sane-undamaged (stepLeft s f) next .holds .ready) c inside in
       let was = count-read s (sane-undamaged s sane .holds .ready) c inside in

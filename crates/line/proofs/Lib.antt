@@ -22,3 +22,5 @@ pub mod TrimRun
 pub mod AskRun
 -- Floor times rise after ticks, on bytes.
 pub mod TickRun
+-- Time only for what leaves, on bytes.
+pub mod TimesRun

@@ -7,6 +7,7 @@ pub mod Sets
 pub mod Versions
 pub mod Trimming
 pub mod Ask
+pub mod Times
 pub mod Ticks
 pub mod Step
 pub mod Whole

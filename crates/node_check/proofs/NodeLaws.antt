@@ -1,7 +1,7 @@
 -- The lists of a node's page, as the check goes over them.
 use Prim.Native.Nat.{ℕ, zero, suc, _+_, _*_, _-_, min, _≤_, _<_}
 use mathlib.Core.Path.{_≡_, refl, sym, ap, _∙_}
-use mathlib.Core.Bool.{Bool, true, false, not, _&&_, _||_, and-true, and-false, and-assoc, Bool·not-not}
+use mathlib.Core.Bool.{Bool, true, false, not, _&&_, _||_, and-true, and-false, and-assoc, Bool·not-not, true≢false}
 use mathlib.Core.List.{List, [], _∷_}
 use native.Mathlib.Nat.{add-zero}
 use native.Mathlib.Omega.{arith}
@@ -22,12 +22,12 @@ use Rattle.state.specs.State.{lineOf}
 use Rattle.state.specs.Right.{wordAt}
 use Rattle.state.proofs.InPlace.{Counted, line-plan}
 use Rattle.state.proofs.OffsetLaws.{line-status, line-crashed, line-time, line-log-count, line-log-at, line-held-count, line-held-at, line-targets-count, line-target-at}
-use Rattle.items.specs.Items.{timesRise, entryRight, entriesRight, setRight, logRight, heldRise, noneHeld, heldRight, heldAllRight, targetRight, countsRight, statusRight, nodePlain}
+use Rattle.items.specs.Items.{isInner, mayFollow, logRise, entryRight, entriesRight, setRight, logRight, heldRise, noneHeld, heldRight, heldAllRight, targetRight, countsRight, statusRight, nodePlain}
 use Rattle.buffer.specs.Exact.{zeroAt, entryExact, heldExact, targetExact, askedExact, slotsExact, listExact, pageExact}
-use Rattle.node_check.specs.NodeCheck.{PageOf, entryIn, heldIn, targetIn, headExact, entryPlain, entryMade, heldPlain, heldMade, pageEndExact, holdsNothing}
+use Rattle.node_check.specs.NodeCheck.{PageOf, entryIn, heldIn, targetIn, headExact, entryPlain, entryMade, heldPlain, heldMade, pageEndExact, holdsNothing, slotsPass, entryPasses, entryNext, logPass}
 use Rattle.buffer.specs.Nothing.{noEntry, noHeld, noTarget}
 use Rattle.buffer.specs.Check.{recordIn}
-use Rattle.node_check.proofs.SlotLaws.{swap-middle, slotsIn, passes, length-slots, slots-at, slotsPass, slots-pass, pass-more}
+use Rattle.node_check.proofs.SlotLaws.{swap-middle, slotsIn, passes, length-slots, slots-at, slots-pass, pass-more}
 use Rattle.buffer.proofs.BytesLaws.{two-zero}
 use Rattle.buffer.proofs.ReadyLaws.{counted, kept-counted}
 use Rattle.buffer.proofs.PieceReads.{entry-in, held-in}
@@ -52,22 +52,11 @@ module _ {A : Type 0} (item : ℕ → List ℕ → A) (d : A) (size a count : �
 
 -- ---- the log
 
-module _ (l : Line) (n top : ℕ) where
-  abbrev pub entryPasses : ℕ → Entry → Bool
-  entryPasses last e = entryRight l n e && (ltb last (e .time) && leb (e .time) top)
-
-  abbrev pub entryNext : ℕ → Entry → ℕ
-  entryNext last e = e .time
-
-  log-passes : (last : ℕ) (es : List Entry) → passes entryPasses entryNext last es ≡ (allOf (entryRight l n) es && timesRise (λ (e : Entry). e .time) last top es)
-  log-passes last [] = refl
-  log-passes last (e ∷ es) =
-      ap (λ (t : Bool). entryPasses last e && t) (log-passes (e .time) es)
-      ∙ swap-middle (entryRight l n e) (ltb last (e .time) && leb (e .time) top) (allOf (entryRight l n) es) (timesRise (λ (e : Entry). e .time) (e .time) top es)
-
--- The entries from an offset on.
-abbrev pub logPass : List ℕ → ℕ → ℕ → ℕ → ℕ → Bool
-logPass s n last a k = slotsPass entryIn entrySize s entryExact (entryPasses (lineOf s) n (nodeAt (lineOf s) n .time)) (entryNext (lineOf s) n (nodeAt (lineOf s) n .time)) last a k
+log-passes : (l : Line) (n top last : ℕ) (es : List Entry) → passes (entryPasses l n top) entryNext last es ≡ (allOf (entryRight l n) es && logRise (isInner (l .plan) n) last top es)
+log-passes l n top last [] = refl
+log-passes l n top last (e ∷ es) =
+    ap (λ (t : Bool). entryPasses l n top last e && t) (log-passes l n top (e .time) es)
+    ∙ swap-middle (entryRight l n e) (mayFollow (isInner (l .plan) n) last (e .time) (e .set) && leb (e .time) top) (allOf (entryRight l n) es) (logRise (isInner (l .plan) n) (e .time) top es)
 
 module _ (s : List ℕ) (n : ℕ) where
   abbrev pub lineIn : Line
@@ -77,21 +66,32 @@ module _ (s : List ℕ) (n : ℕ) where
   nodeIn = nodeAt (lineOf s) n
 
   -- One entry more.
-  module _ (last a k time top : ℕ) (e : time ≡ wordAt (a + 8) s) (f : top ≡ nodeIn .time) where
-    entries-turn : logPass s n last a (suc k) ≡ (((entryPlain a s && (ltb last time && leb time top)) && entryMade n a s) && logPass s n time (a + entrySize) k)
+  module _ (last a k time top : ℕ) (inner plain fits : Bool) (e : time ≡ wordAt (a + 8) s) (f : top ≡ nodeIn .time) (at-inner : inner ≡ isInner (planOf s) n) (g : plain ≡ entryPlain a s) (h : fits ≡ (plain && (mayFollow inner last time (getD s (a + 22) 0) && leb time top))) where
+    entries-turn : logPass s n last a (suc k) ≡ ((fits && entryMade n a s) && logPass s n time (a + entrySize) k)
     entries-turn =
         let same : entryIn a s .time ≡ time = ap (λ (x : Entry). x .time) (entry-in a s) ∙ sym e in
-        rw (same, f) (ap (λ (t : Bool). t && logPass s n time (a + entrySize) k) (entry-ordered n a s (ltb last time && leb time (nodeIn .time))))
+        let set : entryIn a s .set ≡ getD s (a + 22) 0 = ap (λ (x : Entry). x .set) (entry-in a s) in
+        let where-it-stands : isInner (lineIn .plan) n ≡ inner = ap (λ (p : Plan). isInner p n) (line-plan s) ∙ sym at-inner in
+        rw (same, set, where-it-stands, h, g, f) (ap (λ (t : Bool). t && logPass s n time (a + entrySize) k) (entry-ordered n a s (mayFollow inner last time (getD s (a + 22) 0) && leb time (nodeIn .time))))
 
-    pub entry-bare : (plain : Bool) → plain ≡ entryPlain a s → (plain && (ltb last time && leb time top)) ≡ false → logPass s n last a (suc k) ≡ false
-    entry-bare plain g h = entries-turn ∙ rw (← g, h) refl
+    pub entry-bare : fits ≡ false → logPass s n last a (suc k) ≡ false
+    entry-bare wrong = entries-turn ∙ rw wrong refl
 
-    module _ (plain made : Bool) (g : plain ≡ entryPlain a s) (h : (plain && (ltb last time && leb time top)) ≡ true) (i : made ≡ entryMade n a s) where
+    module _ (made : Bool) (right : fits ≡ true) (i : made ≡ entryMade n a s) where
       pub entry-unmade : made ≡ false → logPass s n last a (suc k) ≡ false
-      entry-unmade m = entries-turn ∙ rw (← g, h, ← i, m) refl
+      entry-unmade m = entries-turn ∙ rw (right, ← i, m) refl
 
       pub entry-more : made ≡ true → logPass s n last a (suc k) ≡ logPass s n time (a + entrySize) k
-      entry-more m = entries-turn ∙ rw (← g, h, ← i, m) refl
+      entry-more m = entries-turn ∙ rw (right, ← i, m) refl
+
+  -- An entry that is later than the last may follow it.
+  pub later-fits : (inner plain : Bool) (last time top set : ℕ) → (plain && (ltb last time && leb time top)) ≡ true → true ≡ (plain && (mayFollow inner last time set && leb time top))
+  later-fits inner plain last time top set e = one plain (ltb last time) (leb time top) e
+    where
+      one : (p a b : Bool) → (p && (a && b)) ≡ true → true ≡ (p && ((a || (inner && eqb last time && eqb set 0)) && b))
+      one true true b e = sym e
+      one true false b e = absurd (true≢false (sym e))
+      one false a b e = absurd (true≢false (sym e))
 
   pub time-in : (at : ℕ) → PageOf s n at → (t : ℕ) → t ≡ wordAt (at + timeAt) s → t ≡ nodeIn .time
   time-in at page t e = e ∙ rw (page .start) (sym (line-time s (counted (page .ready)) n (page .within)))
@@ -108,8 +108,8 @@ module _ (s : List ℕ) (n : ℕ) where
     pub log-whole : logPass s n 0 (pageAt n + logAt + countSize) count ≡ (slotsExact entryExact entrySize (pageAt n + logAt + countSize) count s && entriesRight lineIn n (nodeIn .log))
     unfolding entriesRight
     log-whole =
-        slots-pass entryIn entrySize s entryExact (entryPasses lineIn n (nodeIn .time)) (entryNext lineIn n (nodeIn .time)) 0 (pageAt n + logAt + countSize) count
-        ∙ ap (λ (t : Bool). slotsExact entryExact entrySize (pageAt n + logAt + countSize) count s && t) (ap (passes (entryPasses lineIn n (nodeIn .time)) (entryNext lineIn n (nodeIn .time)) 0) (sym log-slots) ∙ log-passes lineIn n (nodeIn .time) 0 (nodeIn .log))
+        slots-pass entryIn entrySize s entryExact (entryPasses lineIn n (nodeIn .time)) entryNext 0 (pageAt n + logAt + countSize) count
+        ∙ ap (λ (t : Bool). slotsExact entryExact entrySize (pageAt n + logAt + countSize) count s && t) (ap (passes (entryPasses lineIn n (nodeIn .time)) entryNext 0) (sym log-slots) ∙ log-passes lineIn n (nodeIn .time) 0 (nodeIn .log))
 
 -- ---- held records
 

@@ -23,7 +23,7 @@ use Rattle.rules.proofs.undamaged.Restored.{all-same}
 use Rattle.state.specs.Sizes.{pageAt, countSize, logAt, entrySize}
 use Rattle.state.specs.State.{lineOf}
 use Rattle.state.proofs.ReadLaws.{byte-part, record-read}
-use Rattle.items.specs.Items.{recordRight, originRight, entryRight, timesRise, entriesRight, setRight}
+use Rattle.items.specs.Items.{recordRight, originRight, entryRight, isInner, logRise, entriesRight, setRight}
 use Rattle.items.proofs.Tests.{all-true}
 use Rattle.buffer.specs.Check.{recordIn}
 use Rattle.buffer.specs.Sets.{Begin}
@@ -82,7 +82,7 @@ module _ (s : List ℕ) (n : ℕ) (asked : Entry → Bool) where
   sets-start at count l =
       let there : at + 12 ≡ pageAt n + logAt + countSize = omega (arith, l .page .start) in
       let slots : log ≡ slotsIn entryIn entrySize (at + 12) count s = rw there (log-slots s n at (l .page) count (l .is) (l .small)) in
-      let (right, _) = all-true (allOf (entryRight (lineOf s) n) log) (timesRise (λ (e : Entry). e .time) 0 (nodeAt (lineOf s) n .time) log ∷ []) (l .right) in
+      let (right, _) = all-true (allOf (entryRight (lineOf s) n) log) (logRise (isInner (lineOf s .plan) n) 0 (nodeAt (lineOf s) n .time) log ∷ []) (l .right) in
       record { room = omega (arith, page-room (l .page), l .small); right = ap (allOf (entryRight (lineOf s) n)) (sym slots) ∙ right; same = ap (allOf asked) slots }
 
   pub sets-known : (a left : ℕ) → 0 < left → SetsLeft a left → recordRight (recordIn a s) ≡ true

@@ -7,6 +7,7 @@ use native.Mathlib.Nat.{add-zero, mul-zero, mul-suc}
 use native.Mathlib.Omega.{arith}
 use lib.ListN.{length, getD}
 use Rattle.buffer.specs.Exact.{slotsExact}
+use Rattle.node_check.specs.NodeCheck.{slotsPass}
 
 pub swap-middle : (a b c d : Bool) → ((a && b) && (c && d)) ≡ ((a && c) && (b && d))
 swap-middle true true c d = refl
@@ -38,17 +39,15 @@ module _ {A : Type 0} (item : ℕ → List ℕ → A) (size : ℕ) (s : List ℕ
       next i = rw (mul-suc size i) (omega arith)
 
   module _ {S : Type 0} (exact : ℕ → List ℕ → Bool) (test : S → A → Bool) (next : S → A → S) where
-    -- Slots and what stands in them, together.
-    abbrev pub slotsPass : S → ℕ → ℕ → Bool
-    slotsPass st a zero = true
-    slotsPass st a (suc k) = (exact a s && test st (item a s)) && slotsPass (next st (item a s)) (a + size) k
+    abbrev pass : S → ℕ → ℕ → Bool
+    pass st a k = slotsPass item size s exact test next st a k
 
-    pub slots-pass : (st : S) (a k : ℕ) → slotsPass st a k ≡ (slotsExact exact size a k s && passes test next st (slotsIn item size a k s))
+    pub slots-pass : (st : S) (a k : ℕ) → pass st a k ≡ (slotsExact exact size a k s && passes test next st (slotsIn item size a k s))
     slots-pass st a zero = refl
     slots-pass st a (suc k) =
         let x = item a s in
         ap (λ (t : Bool). (exact a s && test st x) && t) (slots-pass (next st x) (a + size) k)
         ∙ swap-middle (exact a s) (test st x) (slotsExact exact size (a + size) k s) (passes test next (next st x) (slotsIn item size (a + size) k s))
 
-    pub pass-more : (ok : Bool) (st : S) (a k : ℕ) → (ok && slotsPass st a (suc k)) ≡ ((ok && (exact a s && test st (item a s))) && slotsPass (next st (item a s)) (a + size) k)
-    pass-more ok st a k = sym (and-assoc ok (exact a s && test st (item a s)) (slotsPass (next st (item a s)) (a + size) k))
+    pub pass-more : (ok : Bool) (st : S) (a k : ℕ) → (ok && pass st a (suc k)) ≡ ((ok && (exact a s && test st (item a s))) && pass (next st (item a s)) (a + size) k)
+    pass-more ok st a k = sym (and-assoc ok (exact a s && test st (item a s)) (pass (next st (item a s)) (a + size) k))

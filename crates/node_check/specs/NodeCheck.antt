@@ -1,19 +1,19 @@
 -- What the check of a node's page goes by: where it starts, its head, its slots one by one, and what a node of a status may not hold.
 use Prim.Native.Nat.{ℕ, zero, suc, _+_, _<_}
 use mathlib.Core.Path.{_≡_}
-use mathlib.Core.Bool.{Bool, not, _&&_, _||_}
+use mathlib.Core.Bool.{Bool, true, not, _&&_, _||_}
 use mathlib.Core.List.{List}
 use lib.ListN.{getD, take, drop}
 use lib.Dec.{leb, eqb}
 use Rattle.plan.specs.Plan.{planNodes}
-use Rattle.rules.specs.Line.{Entry, Held, Target, made}
+use Rattle.rules.specs.Line.{Entry, Held, Target, Line, made, nodeAt}
 use Rattle.state.specs.Sizes.{pageAt, statusAt, crashedAt, entrySize, heldSize, targetSize, keptAt, keptSize, nodeRestAt, nodeRest}
 use Rattle.state.specs.Pieces.{entryLayout, heldLayout, targetLayout}
 use Rattle.state.specs.State.{lineOf}
-use Rattle.buffer.specs.Exact.{zeroAt, recordExact, originExact, askedExact, listExact}
+use Rattle.buffer.specs.Exact.{zeroAt, recordExact, originExact, entryExact, askedExact, listExact}
 use Rattle.buffer.specs.Check.{recordIn}
 use Rattle.buffer.specs.Ready.{Ready}
-use Rattle.items.specs.Items.{recordRight, originRight}
+use Rattle.items.specs.Items.{recordRight, originRight, isInner, mayFollow, entryRight}
 
 -- A node of a state that is ready, and where its page starts.
 pub record PageOf (s : List ℕ) (n at : ℕ) : Type 0 where
@@ -60,3 +60,18 @@ abbrev pub holdsNothing : ℕ → ℕ → ℕ → ℕ → ℕ → ℕ → Bool
 holdsNothing zero time log held targets kept = eqb held 0 && eqb targets 0 && eqb kept 0
 holdsNothing (suc zero) time log held targets kept = eqb time 0 && eqb log 0 && eqb held 0 && (eqb targets 0 || not (eqb kept 0))
 holdsNothing (suc (suc n)) time log held targets kept = eqb log 0 && eqb kept 0
+
+-- So many slots from an offset on, their bytes and what stands in them together: a test of each in turn, that goes by what came before.
+abbrev pub slotsPass : {A S : Type 0} → (ℕ → List ℕ → A) → ℕ → List ℕ → (ℕ → List ℕ → Bool) → (S → A → Bool) → (S → A → S) → S → ℕ → ℕ → Bool
+slotsPass item size s exact test next st a zero = true
+slotsPass item size s exact test next st a (suc k) = (exact a s && test st (item a s)) && slotsPass item size s exact test next (next st (item a s)) (a + size) k
+
+-- A log entry behind one of a time, and the entries from an offset on.
+abbrev pub entryPasses : Line → ℕ → ℕ → ℕ → Entry → Bool
+entryPasses l n top last e = entryRight l n e && (mayFollow (isInner (l .plan) n) last (e .time) (e .set) && leb (e .time) top)
+
+abbrev pub entryNext : ℕ → Entry → ℕ
+entryNext last e = e .time
+
+abbrev pub logPass : List ℕ → ℕ → ℕ → ℕ → ℕ → Bool
+logPass s n last a k = slotsPass entryIn entrySize s entryExact (entryPasses (lineOf s) n (nodeAt (lineOf s) n .time)) entryNext last a k

@@ -1,7 +1,7 @@
 // The check of a node's page.
 ghost use mathlib.Core.Path.{_≡_};
 ghost use mathlib.Core.Bool.{_&&_, _||_};
-ghost use Prim.Native.Nat.{_+_, _≤_, _<_};
+ghost use Prim.Native.Nat.{_+_, _*_, _≤_, _<_};
 ghost use lib.ListN.{length, getD, set};
 ghost use lib.Dec.{leb};
 ghost use Rattle.plan.specs.Plan.{planOf, planNodes, leaving, isSource, isSink};
@@ -12,9 +12,9 @@ ghost use Rattle.rules.specs.Replay.{passedOn};
 ghost use Rattle.state.specs.Sizes.{pageAt, countSize, timeAt, logAt, entrySize, heldAt, heldSize, targetsAt, targetSize};
 ghost use Rattle.state.specs.State.{lineOf};
 ghost use Rattle.state.specs.Right.{wordAt};
-ghost use Rattle.items.specs.Items.{entriesRight, logRight, heldAllRight, targetRight, statusRight, nodePlain};
+ghost use Rattle.items.specs.Items.{mayFollow, entriesRight, logRight, heldAllRight, targetRight, statusRight, nodePlain};
 ghost use Rattle.buffer.specs.Exact.{entryExact, heldExact, targetExact, slotsExact, listExact, pageExact};
-ghost use Rattle.node_check.specs.NodeCheck.{PageOf, targetIn, headExact, entryPlain, entryMade, heldPlain, heldMade, pageEndExact, holdsNothing};
+ghost use Rattle.node_check.specs.NodeCheck.{PageOf, targetIn, headExact, entryPlain, entryMade, heldPlain, heldMade, pageEndExact, holdsNothing, logPass};
 ghost use Rattle.buffer.specs.Check.{Tabled, recordIn};
 ghost use Rattle.buffer.specs.Ready.{Ready};
 ghost use Rattle.buffer.specs.Table.{Table};
@@ -49,7 +49,51 @@ fn entry_made(s: &[u8], t: &[u8; 156], n: usize, at: usize) -> bool
     origin::origin_ok(s, t, n, from, time, earlier, since)
 }
 
-// The log's entries, so many, their sets aside: their times rise to the node's.
+// Whether an entry is plain, its time not past the top, and one that may follow another: it is later or, at an inner node's entry with an empty set, the same (document 02, 2026-08).
+fn follows(s: &[u8], inner: bool, slot: usize, plain: bool, last: u32, time: u32, top: u32) -> bool
+    requires { ⌜ slot + 24 ≤ length (now s) ⌝ }
+    ensures { λ r. ⌜ r ≡ (plain && (mayFollow inner last time (getD (now (s .entry)) (slot + 22) 0) && leb time top)) ⌝ }
+{
+    let again = inner & (last == time) & (s[slot + 22] == 0);
+    plain & (((last < time) | again) & (time <= top))
+}
+
+// The entries from the first on that is not plain, later than the last and within the top, so many: times may repeat there.
+fn entries_on(
+    s: &[u8],
+    t: &[u8; 156],
+    n: usize,
+    from: usize,
+    count: u32,
+    last: u32,
+    top: u32,
+) -> bool
+    requires { ⌜ Ready (now s) × Table (now s) (now t) × (from + entrySize * count ≤ length (now s)) × (top ≡ nodeAt (lineOf (now s)) n .time) ⌝ }
+    ensures { λ r. ⌜ r ≡ logPass (now (s .entry)) n last from count ⌝ }
+{
+    let source = table::source_in(s, t, n);
+    let sink = look::is_sink(s, n);
+    let inner = !(source | sink);
+    let mut so_far = last;
+    let mut slot = from;
+    let mut left = count;
+    while 0 < left {
+        let time = bytes::get32(s, slot + 8);
+        let plain = entry_plain(s, slot);
+        if !follows(s, inner, slot, plain, so_far, time, top) {
+            return false;
+        }
+        if !entry_made(s, t, n, slot) {
+            return false;
+        }
+        so_far = time;
+        slot += layout::ENTRY_SIZE;
+        left -= 1;
+    }
+    true
+}
+
+// The log's entries, so many: their times rise to the node's, or repeat where their sets are empty. The sets themselves are looked at behind this.
 fn entries_ok(s: &[u8], t: &[u8; 156], n: usize, at: usize, count: u32) -> bool
     requires { ⌜ PageOf (now s) n at × Table (now s) (now t) × (count ≡ wordAt (pageAt n + logAt) (now s)) × (count ≤ logLimit) ⌝ }
     ensures { λ r. ⌜ r ≡ (slotsExact entryExact entrySize (pageAt n + logAt + countSize) count (now (s .entry)) && entriesRight (lineOf (now (s .entry))) n (nodeAt (lineOf (now (s .entry))) n .log)) ⌝ }
@@ -62,7 +106,7 @@ fn entries_ok(s: &[u8], t: &[u8; 156], n: usize, at: usize, count: u32) -> bool
         let time = bytes::get32(s, slot + 8);
         let plain = entry_plain(s, slot);
         if !(plain & ((last < time) & (time <= top))) {
-            return false;
+            return entries_on(s, t, n, slot, left, last, top);
         }
         if !entry_made(s, t, n, slot) {
             return false;

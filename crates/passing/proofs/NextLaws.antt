@@ -13,12 +13,11 @@ use lib.Seq.{drop-cons, drop-length}
 use Rattle.plan.specs.declared.Channel.{Channel}
 use Rattle.plan.specs.Lawful.{Each}
 use Rattle.plan.specs.Channel.{takes}
-use Rattle.plan.specs.Plan.{planOf, channelAt}
+use Rattle.plan.specs.Plan.{Plan, planOf, channelAt}
 use Rattle.rules.specs.Line.{Entry, nodeAt, laneAt}
 use Rattle.rules.specs.Clock.{nextToSend}
 use Rattle.rules.specs.Step.{sendable}
-use Rattle.rules.proofs.lists.Rising.{Rises, more}
-use Rattle.rules.proofs.undamaged.Standing.{entryTime}
+use Rattle.rules.proofs.undamaged.Standing.{LogRises, log-more}
 use Rattle.state.specs.State.{lineOf}
 use Rattle.state.proofs.InPlace.{line-plan}
 use Rattle.buffer.specs.Nothing.{noEntry}
@@ -52,11 +51,11 @@ module _ (c : Channel) (mark : ℕ) (log : List Entry) where
       next-passed : (e : Entry) → e ≡ getD log i noEntry → (ltb mark (e .time) && takes c (e .what)) ≡ false → Passed c mark log (i + 1)
       next-passed e q t = record { within = omega arith; same = here ∙ rw (← q, t, add-one) }
 
--- Times rise, so what stands before an entry is earlier than it.
-up-to : (mark above j : ℕ) (log : List Entry) → Rises entryTime above log → j < length log → getD log j noEntry .time ≤ mark → (above < getD log j noEntry .time) × Each (λ (e : Entry). e .time ≤ mark) (take (suc j) log)
-up-to mark above j [] r h t = let no : ⊥ = omega arith in absurd no
-up-to mark above zero (x ∷ xs) (more a r) h t = (a, (t, tt))
-up-to mark above (suc j) (x ∷ xs) (more a r) h t = let (b, each) = up-to mark (x .time) j xs r (omega arith) t in (omega (arith, a, b), (omega (arith, b, t), each))
+-- Times do not fall, so what stands before an entry is not later than it.
+up-to : (p : Plan) (n mark above j : ℕ) (log : List Entry) → LogRises p n above log → j < length log → getD log j noEntry .time ≤ mark → (above ≤ getD log j noEntry .time) × Each (λ (e : Entry). e .time ≤ mark) (take (suc j) log)
+up-to p n mark above j [] r h t = let no : ⊥ = omega arith in absurd no
+up-to p n mark above zero (x ∷ xs) (log-more a later r) h t = (a, (t, tt))
+up-to p n mark above (suc j) (x ∷ xs) (log-more a later r) h t = let (b, each) = up-to p n mark (x .time) j xs r (omega arith) t in (omega (arith, a, b), (omega (arith, b, t), each))
 
 module _ (mark : ℕ) (log : List Entry) where
   abbrev Late : ℕ → Type 0
@@ -75,11 +74,11 @@ module _ (mark : ℕ) (log : List Entry) where
         subst (Each (λ (e : Entry). mark < e .time)) (sym (drop-cons log (k - 1) noEntry (omega arith)))
         (subst (λ (x : Entry). mark < x .time) q t, subst Late (sym before) late)
 
-    pub later-from : Rises entryTime 0 log → e .time ≤ mark → LaterFrom mark log k
-    later-from rises t =
+    pub later-from : {p : Plan} {n : ℕ} → LogRises p n 0 log → e .time ≤ mark → LaterFrom mark log k
+    later-from {p} {n} rises t =
         record {
           within = within;
-          early = subst (λ (j : ℕ). Each (λ (e : Entry). e .time ≤ mark) (take j log)) before (up-to mark 0 (k - 1) log rises (omega arith) (subst (λ (x : Entry). x .time ≤ mark) q t) .1);
+          early = subst (λ (j : ℕ). Each (λ (e : Entry). e .time ≤ mark) (take j log)) before (up-to p n mark 0 (k - 1) log rises (omega arith) (subst (λ (x : Entry). x .time ≤ mark) q t) .1);
           late = late;
         }
 

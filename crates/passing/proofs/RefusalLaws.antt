@@ -2,17 +2,18 @@
 use Prim.Native.Nat.{ℕ}
 use mathlib.Core.Path.{_≡_, refl, _∙_}
 use mathlib.Core.Logic.{_≢_}
-use mathlib.Core.Bool.{Bool, true, false, not}
+use mathlib.Core.Bool.{Bool, true, false, not, _&&_}
 use mathlib.Core.List.{List, [], _∷_}
 use mathlib.Core.Option.{some}
 use lib.Dec.{leb}
 use lib.ListN.{length}
-use Rattle.plan.specs.Record.{recordFits}
+use Rattle.plan.specs.Record.{recordLayout, recordFits}
 use Rattle.plan.specs.Plan.{nodeCount, channelCount, isSource}
 use Rattle.rules.specs.Lists.{isEmpty}
 use Rattle.rules.specs.Line.{logLimit, queueLimit, Line, nodeAt, laneAt, receiverOf}
 use Rattle.rules.specs.Frame.{Frame, feed, send, take}
-use Rattle.rules.specs.Step.{noSuch, someStopped, wrongNode, endDown, wrongStatus, besideCrashed, noAnswer, badRecord, sendable, isNothing, nothingThere, queueFull, replaying, rowDone, takeLacks, noSpace, effect, noPlacing, lineRefusal}
+use Rattle.rules.specs.Replay.{timed}
+use Rattle.rules.specs.Step.{madeBy, noSuch, someStopped, wrongNode, endDown, wrongStatus, besideCrashed, noAnswer, badRecord, sendable, isNothing, nothingThere, queueFull, replaying, rowDone, takeLacks, noSpace, effect, noPlacing, lineRefusal}
 use Rattle.state.specs.State.{lineOf}
 use Rattle.buffer.specs.Holds.{Holds, Did}
 
@@ -38,7 +39,7 @@ unfolding noPlacing
 feed-placed l n r = refl
 
 pub feed-number : (l : Line) (n : ℕ) (r : List ℕ)
-    → lineRefusal l (feed n r) ≡ firstOf ((13, leb (nodeCount (l .plan)) n) ∷ (14, not (isSource (l .plan) n)) ∷ (17, not (recordFits r)) ∷ (21, leb logLimit (length (nodeAt l n .log))) ∷ [])
+    → lineRefusal l (feed n r) ≡ firstOf ((13, leb (nodeCount (l .plan)) n) ∷ (14, not (isSource (l .plan) n)) ∷ (17, not (recordFits r)) ∷ (21, timed (l .plan) n (madeBy l n (recordLayout .read r)) && leb logLimit (length (nodeAt l n .log))) ∷ [])
 feed-number l n r = refusal-first l (feed n r) ∙ rw (feed-placed l n r)
 
 send-placed : (l : Line) (b : ℕ) → noPlacing l (send b) ≡ false

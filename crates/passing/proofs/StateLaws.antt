@@ -16,9 +16,8 @@ use Rattle.plan.proofs.FitsLaws.{fits-accepted}
 use Rattle.plan.proofs.AcceptedLaws.{rule-narrow}
 use Rattle.rules.specs.Line.{Entry, nodeAt, timeLimit}
 use Rattle.rules.proofs.line.Consoles.{counts-most}
-use Rattle.rules.proofs.lists.Rising.{Rises}
 use Rattle.rules.proofs.lists.Members.{In, in-at}
-use Rattle.rules.proofs.undamaged.Standing.{entryTime}
+use Rattle.rules.proofs.undamaged.Standing.{LogRises}
 use Rattle.rules.proofs.undamaged.Undamaged.{undamaged-sound}
 use Rattle.state.specs.State.{lineOf}
 use Rattle.state.proofs.InPlace.{line-plan}
@@ -55,8 +54,8 @@ time-within {s} {n} u h =
     let standing = undamaged-sound (lineOf s) (u .undamaged) .standing in
     omega (arith, standing .nodes n (node-inside (at-node u h)) .fits .time, counts-most (standing .counts))
 
--- Times in a node's log rise.
-pub log-rising : {s : List ℕ} {n : ℕ} → Undamaged s → n < planNodes s → Rises entryTime 0 (nodeAt (lineOf s) n .log)
+-- Times in a node's log do not fall.
+pub log-rising : {s : List ℕ} {n : ℕ} → Undamaged s → n < planNodes s → LogRises (lineOf s .plan) n 0 (nodeAt (lineOf s) n .log)
 log-rising {s} {n} u h = undamaged-sound (lineOf s) (u .undamaged) .standing .nodes n (node-inside (at-node u h)) .fits .rises
 
 -- An entry's set is what the plan gives, so a channel's bit in it says whether the channel takes the entry.

@@ -16,6 +16,7 @@ use Rattle.rules.specs.Lists.{isEmpty}
 use Rattle.rules.specs.Line.{logLimit, Message, Line, nodeAt, laneAt, receiverOf}
 use Rattle.rules.specs.Frame.{take}
 use Rattle.rules.specs.Clock.{logged}
+use Rattle.rules.specs.Replay.{timeFor}
 use Rattle.rules.specs.Step.{replaying, madeBy, takenUp, takenLane, takenFirst, effect}
 use Rattle.state.specs.Pieces.{originFrom}
 use Rattle.state.specs.State.{lineOf}
@@ -62,7 +63,7 @@ module _ (s t : List ℕ) (b : ℕ) (m : Message) (rest : List Message) (h : Hol
 
   -- The message logged by the receiver.
   pub taken-up : (u : List ℕ) (c : Channel) (n : ℕ) (what : Record) → c ≡ channelAt (planOf s) b → n ≡ c .receiver → what ≡ madeBy (lineOf t) n (m .what)
-      → NodeNow t n (logged (setOf (lineOf t .plan) n what) what (originFrom (c .sender + 1) (m .time)) (m .origin)) u → Holds u (takenUp b m (takenLane b m rest (lineOf s)))
+      → NodeNow t n (logged (timeFor (lineOf t .plan) n what (nodeAt (lineOf t) n .time)) (setOf (lineOf t .plan) n what) what (originFrom (c .sender + 1) (m .time)) (m .origin)) u → Holds u (takenUp b m (takenLane b m rest (lineOf s)))
   unfolding takenUp
   taken-up u c n what on to is now =
       let k = takenLane b m rest (lineOf s) in

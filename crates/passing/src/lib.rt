@@ -1,18 +1,21 @@
-// Feed, Send, and Take of a node that is up, on the state's bytes (document 01, "Clocks and steps", kinds 1 to 3). Nothing is written before the answer is known to be 0.
+// Feed, Send, and Take of a node that is up, on the state's bytes (document 01, "Clocks and steps", kinds 1 to 3; document 02, 2026-08). Nothing is written before the answer is known to be 0.
 ghost use mathlib.Core.Path.{_≡_};
+ghost use mathlib.Core.Bool.{cond, not, _||_};
 ghost use mathlib.Core.List.{List};
-ghost use Prim.Native.Nat.{ℕ, _<_};
+ghost use Prim.Native.Nat.{ℕ, suc, _<_};
 ghost use lib.ListN.{length};
+ghost use lib.Dec.{eqb};
 ghost use Rattle.plan.specs.Record.{recordLayout, recordFits};
-ghost use Rattle.plan.specs.Plan.{planOf, planNodes, planChannels};
+ghost use Rattle.plan.specs.Plan.{planOf, planNodes, planChannels, isSink};
 ghost use Rattle.plan.specs.Mask.{setOf};
 ghost use Rattle.rules.specs.Line.{queueLimit, nodeAt, laneAt};
 ghost use Rattle.rules.specs.Frame as frames;
 ghost use Rattle.rules.specs.Clock.{messageOf, logged, sentOn};
+ghost use Rattle.rules.specs.Replay.{timeFor};
 ghost use Rattle.rules.specs.Step.{endDown, sendable, madeBy};
 ghost use Rattle.state.specs.State.{lineOf};
 ghost use Rattle.buffer.specs.Ready.{Ready, OnChannel};
-ghost use Rattle.buffer.specs.Sets.{LeaveFrom};
+ghost use Rattle.buffer.specs.Sets.{LeaveFrom, Begin};
 ghost use Rattle.buffer.specs.Holds.{AtLane, NodeNow, LaneNow, Undamaged, Did};
 ghost use Rattle.slots.specs.Slots.{originIs, messageIs, entryIs};
 ghost use Rattle.passing.specs.Passing.{nextIs, LaterFrom, Loggable, Taking};
@@ -53,14 +56,34 @@ pub fn made_by(s: &[u8], n: usize, what: Record) -> Record
     plan::nodes::apply(plan::nodes::node_rule(s, n), what)
 }
 
-// A node's time rises by 1 and the record that it made is logged, with what it was made from and the set of channels that take it; none of the channels before `from` leaves the node.
-fn log_made(s: &mut [u8], n: usize, from: usize, what: Record, made: Made, before: Made)
-    requires { ⌜ Loggable (now s) n × LeaveFrom (planOf (now s)) n from ⌝ }
-    ensures { λ _. ⌜ NodeNow (now (s .entry)) n (logged (setOf (lineOf (now (s .entry)) .plan) n what) what (originIs made) (originIs before)) (now (s .exit)) ⌝ }
+// Whether a record that a node made gets a time of its own: some channel takes it, by its set, or none leaves the node (document 02, 2026-08).
+fn gets_time(s: &[u8], n: usize, first: usize, set: u8) -> bool
+    requires { ⌜ Ready (now s) × Begin (planOf (now s)) n first ⌝ }
+    ensures { λ r. ⌜ r ≡ (isSink (planOf (now (s .entry))) n || not (eqb set 0)) ⌝ }
 {
-    let first = sets::leaving_from(s, n, from);
-    let set = sets::set_of(s, n, first, what.piece, what.material, what.mass);
-    let time = node_fields::time_of(s, n) + 1;
+    if set != 0 {
+        return true;
+    }
+    sets::none_leaves(s, n, first)
+}
+
+// Its time: the node's next one, or else its present one.
+fn time_for(s: &[u8], n: usize, first: usize, set: u8) -> u32
+    requires { ⌜ Loggable (now s) n × Begin (planOf (now s)) n first ⌝ }
+    ensures { λ r. ⌜ r ≡ cond (isSink (planOf (now (s .entry))) n || not (eqb set 0)) (suc (nodeAt (lineOf (now (s .entry))) n .time)) (nodeAt (lineOf (now (s .entry))) n .time) ⌝ }
+{
+    let time = node_fields::time_of(s, n);
+    if gets_time(s, n, first, set) {
+        return time + 1;
+    }
+    time
+}
+
+// The record that a node made is logged at a time, which is then the node's, with its set and what it was made from.
+fn log_made(s: &mut [u8], n: usize, time: u32, set: u8, what: Record, made: Made, before: Made)
+    requires { ⌜ Loggable (now s) n ⌝ }
+    ensures { λ _. ⌜ NodeNow (now (s .entry)) n (logged time set what (originIs made) (originIs before)) (now (s .exit)) ⌝ }
+{
     node_fields::append_entry(
         s,
         n,
@@ -75,7 +98,7 @@ fn log_made(s: &mut [u8], n: usize, from: usize, what: Record, made: Made, befor
     node_fields::set_time(s, n, time);
 }
 
-// "an infeed applies its rule, its time rises by 1, the message is logged"
+// "an infeed applies its rule, its time rises by 1, the message is logged"; "On an infeed with leaving belts, a Feed that none of them takes leaves nothing but the step count"
 pub fn feed(s: &mut [u8], n: usize, what: Record, fits: bool) -> u32
     requires { ⌜ Undamaged (now s) ⌝ }
     ensures { λ r. ⌜ ((bytes : List ℕ) → recordLayout .read bytes ≡ what → recordFits bytes ≡ fits → Did (now (s .entry)) (frames.feed n bytes) (now (s .exit)) r) ⌝ }
@@ -89,16 +112,22 @@ pub fn feed(s: &mut [u8], n: usize, what: Record, fits: bool) -> u32
     if !fits {
         return 17;
     }
+    let made = made_by(s, n, what);
+    let first = sets::leaving_from(s, n, 0);
+    let set = sets::set_of(s, n, first, made.piece, made.material, made.mass);
+    if !gets_time(s, n, first, set) {
+        return 0;
+    }
     if LOG <= node_fields::log_count(s, n) {
         return 21;
     }
-    let made = made_by(s, n, what);
+    let time = node_fields::time_of(s, n) + 1;
     let nothing = Made { from: 0, time: 0 };
-    log_made(s, n, 0, made, nothing, nothing);
+    log_made(s, n, time, set, made, nothing, nothing);
     0
 }
 
-// The number of the first entry of a node's log that is later than a mark, or of entries if none is. Times rise, and most entries have been sent: from the last one back.
+// The number of the first entry of a node's log that is later than a mark, or of entries if none is. Times do not fall, and most entries have been sent: from the last one back.
 fn first_later(s: &[u8], n: usize, mark: u32, count: usize) -> usize
     requires { ⌜ Undamaged (now s) × (n < planNodes (now s)) × (count ≡ length (nodeAt (lineOf (now s)) n .log)) ⌝ }
     ensures { λ r. ⌜ LaterFrom mark (nodeAt (lineOf (now (s .entry))) n .log) r ⌝ }
@@ -178,7 +207,18 @@ pub fn send(s: &mut [u8], b: usize) -> u32
     0
 }
 
-// "the receiver removes the belt's first message, raises its clock by it, applies its rule, raises its time by 1 and logs": of a receiver that is up, where there is something to take.
+// What a node made of a record that it took is logged at its time; none of the channels before `from` leaves the node.
+fn log_taken(s: &mut [u8], n: usize, from: usize, what: Record, made: Made, before: Made)
+    requires { ⌜ Loggable (now s) n × LeaveFrom (planOf (now s)) n from ⌝ }
+    ensures { λ _. ⌜ (let p = lineOf (now (s .entry)) .plan in NodeNow (now (s .entry)) n (logged (timeFor p n what (nodeAt (lineOf (now (s .entry))) n .time)) (setOf p n what) what (originIs made) (originIs before)) (now (s .exit))) ⌝ }
+{
+    let first = sets::leaving_from(s, n, from);
+    let set = sets::set_of(s, n, first, what.piece, what.material, what.mass);
+    let time = time_for(s, n, first, set);
+    log_made(s, n, time, set, what, made, before);
+}
+
+// "the receiver removes the belt's first message, raises its clock by it, applies its rule, raises its time by 1 and logs": of a receiver that is up, where there is something to take. A record that none of a node's leaving channels takes is logged at the present time.
 pub fn take_up(s: &mut [u8], b: usize) -> u32
     requires { ⌜ Taking (now s) b ⌝ }
     ensures { λ r. ⌜ Did (now (s .entry)) (frames.take b) (now (s .exit)) r ⌝ }
@@ -195,6 +235,6 @@ pub fn take_up(s: &mut [u8], b: usize) -> u32
         from: c.sender + 1,
         time: m.time,
     };
-    log_made(s, n, b + 1, what, made, m.made);
+    log_taken(s, n, b + 1, what, made, m.made);
     0
 }

@@ -7,6 +7,7 @@ use native.Mathlib.Nat.{mul-comm, pow-succ', div-div-eq-div-mul}
 use native.Mathlib.Omega.{arith}
 use lib.ListN.{length, getD, length-map}
 use lib.Dec.{eqb}
+use borrow.Author.Tests.{ne-eqb}
 use lib.Count.{ones, ones-cat}
 use lib.Pow.{pow-mono}
 use Rattle.plan.specs.declared.Record.{Record}
@@ -44,6 +45,23 @@ bits-ones f (c ∷ cs) = ap ones whole ∙ ones-cat 1 (bits (map f cs)) (cond (f
 pub set-ones : (p : Plan) (n : ℕ) (r : Record) → ones (setOf p n r) ≡ length (taking p n r)
 unfolding setOf
 set-ones p n r = bits-ones (takesAt p r) (leaving p n) ∙ ap length (sym (taking-among p n r))
+
+-- It is 0 where none of them takes the record.
+none-twice : (x : ℕ) → eqb (2 * x) 0 ≡ eqb x 0
+none-twice zero = refl
+none-twice (suc x) = ne-eqb (2 * suc x) 0 (λ q. omega arith) ∙ sym (ne-eqb (suc x) 0 (λ q. omega arith))
+
+bits-none : (f : ℕ → Bool) (cs : List ℕ) → eqb (bits (map f cs)) 0 ≡ eqb (length (among f cs)) 0
+bits-none f [] = refl
+bits-none f (c ∷ cs) = one (f c) (bits-none f cs)
+  where
+    one : (t : Bool) → eqb (bits (map f cs)) 0 ≡ eqb (length (among f cs)) 0 → eqb (cond t 1 0 + 2 * bits (map f cs)) 0 ≡ eqb (length (keepIf t c (among f cs))) 0
+    one true e = ne-eqb (1 + 2 * bits (map f cs)) 0 (λ q. omega arith) ∙ sym (ne-eqb (suc (length (among f cs))) 0 (λ q. omega arith))
+    one false e = ap (λ (x : ℕ). eqb x 0) (let q : 0 + 2 * bits (map f cs) ≡ 2 * bits (map f cs) = omega arith in q) ∙ none-twice (bits (map f cs)) ∙ e
+
+pub set-none : (p : Plan) (n : ℕ) (r : Record) → eqb (setOf p n r) 0 ≡ eqb (length (taking p n r)) 0
+unfolding setOf
+set-none p n r = bits-none (takesAt p r) (leaving p n) ∙ ap (λ (cs : List ℕ). eqb (length cs) 0) (sym (taking-among p n r))
 
 -- ---- which
 

@@ -17,9 +17,9 @@ use Rattle.rules.specs.Line.{logLimit, heldLimit, targetLimit, Origin, f
 use Rattle.rules.specs.Frame.{Frame, feed, send, take, crash, recover, trim, ask, commit, frameConsole, frameOf, frameRefusal}
 use Rattle.rules.specs.Clock.{logged, nextToSend, sentOn}
 use Rattle.rules.specs.Recover.{triple, triples, childTriples, childLows, lowOf, highOf, answerOf, beside, committed, targetsOf, sortTargets, restored, conflict, statusOf, rowGoal, rowComplete, rowsComplete, restoredTo, recovered}
-use Rattle.rules.specs.Replay.{passedOn, isHeld, holding, replayEnd, endedIfComplete}
+use Rattle.rules.specs.Replay.{passedOn, timed, timeFor, isHeld, holding, replayEnd, endedIfComplete}
 use Rattle.rules.specs.Trim.{entriesFor, floorTime, senderBelow, droppable, leading, behind, lowBy, lowAfter, lowRaised, withLow, withLog, trimmedLine}
-use Rattle.rules.specs.Step.{noStepsLeft, asking, askedLine, committedBy, committedLine, noSuch, wrongNode, endDown, nodeDown, neighbourCrashed, badRecord, sendable, isNothing, queueFull, replaying, madeBy, firstRecord, toHold, takeLacks, sentLine, takenUp, takenReplaying, takenLane, takenFirst, crashedLine, recoveredLine, effect, noPlacing, lineRefusal, refusal, Answer, accepted, step}
+use Rattle.rules.specs.Step.{noStepsLeft, asking, askedLine, committedBy, committedLine, noSuch, wrongNode, endDown, nodeDown, neighbourCrashed, badRecord, sendable, isNothing, queueFull, replaying, madeBy, firstRecord, toHold, takeLacks, fedLine, sentLine, takenUp, takenReplaying, takenLane, takenFirst, crashedLine, recoveredLine, effect, noPlacing, lineRefusal, refusal, Answer, accepted, step}
 use Rattle.rules.specs.Sets.{withoutSet, nodeWithoutSets, withoutSets, answerWithoutSets, StepWithoutSets}
 use Rattle.rules.proofs.lists.ListLaws.{map-append}
 use Rattle.rules.proofs.lists.Members.{map-same}
@@ -73,17 +73,32 @@ alike-with : (n : ℕ) (x y : Node) (l : Line) → nodeWithoutSets x ≡ nodeWit
 alike-with n x y l e = bare-with (withoutSets l) n x ∙ (λ i. withNode n (e i) (bare-twice l i)) ∙ sym (bare-with l n y)
 
 -- A node that logs.
-logged-bare : (n chosen : ℕ) (what : Record) (origin before : Origin) (l : Line) → withoutSets (withNode n (logged chosen what origin before (nodeAt (withoutSets l) n)) (withoutSets l)) ≡ withoutSets (withNode n (logged chosen what origin before (nodeAt l n)) l)
+logged-bare : (n at chosen : ℕ) (what : Record) (origin before : Origin) (l : Line) → withoutSets (withNode n (logged at chosen what origin before (nodeAt (withoutSets l) n)) (withoutSets l)) ≡ withoutSets (withNode n (logged at chosen what origin before (nodeAt l n)) l)
 unfolding logged
-logged-bare n chosen what origin before l =
-    alike-with n (logged chosen what origin before (nodeAt (withoutSets l) n)) (logged chosen what origin before (nodeAt l n)) l
-    (ap (λ (x : Node). nodeWithoutSets (logged chosen what origin before x)) (bare-node l n) ∙ one (nodeAt l n))
+logged-bare n at chosen what origin before l =
+    alike-with n (logged at chosen what origin before (nodeAt (withoutSets l) n)) (logged at chosen what origin before (nodeAt l n)) l
+    (ap (λ (x : Node). nodeWithoutSets (logged at chosen what origin before x)) (bare-node l n) ∙ one (nodeAt l n))
   where
     log : (x : Node) (e : Entry) → map withoutSet (map withoutSet (x .log) ++ e ∷ []) ≡ map withoutSet (x .log ++ e ∷ [])
     log x e = map-append withoutSet (map withoutSet (x .log)) (e ∷ []) ∙ ap (λ (es : List Entry). es ++ withoutSet e ∷ []) (bare-entries (x .log)) ∙ sym (map-append withoutSet (x .log) (e ∷ []))
 
-    one : (x : Node) → nodeWithoutSets (logged chosen what origin before (nodeWithoutSets x)) ≡ nodeWithoutSets (logged chosen what origin before x)
-    one x i = record { status = x .status; crashed = x .crashed; time = suc (x .time); log = log x (record { what = what; time = suc (x .time); origin = origin; before = before; set = chosen }) i; held = x .held; targets = x .targets; asked = x .asked }
+    one : (x : Node) → nodeWithoutSets (logged at chosen what origin before (nodeWithoutSets x)) ≡ nodeWithoutSets (logged at chosen what origin before x)
+    one x i = record { status = x .status; crashed = x .crashed; time = at; log = log x (record { what = what; time = at; origin = origin; before = before; set = chosen }) i; held = x .held; targets = x .targets; asked = x .asked }
+
+-- Feed.
+fed-bare : (n : ℕ) (r : List ℕ) (l : Line) → withoutSets (fedLine n r (withoutSets l)) ≡ withoutSets (fedLine n r l)
+unfolding fedLine
+fed-bare n r l = ap (λ (x : Node). withoutSets (by (withoutSets l) (timed (l .plan) n what) (x .time))) (bare-node l n) ∙ one (timed (l .plan) n what)
+  where
+    what : Record
+    what = madeBy l n (recordLayout .read r)
+
+    by : Line → Bool → ℕ → Line
+    by k t now = elim t [ true ↦ withNode n (logged (suc now) (setOf (l .plan) n what) what fed fed (nodeAt k n)) k | false ↦ k ]
+
+    one : (t : Bool) → withoutSets (by (withoutSets l) t (nodeAt l n .time)) ≡ withoutSets (by l t (nodeAt l n .time))
+    one true = logged-bare n (suc (nodeAt l n .time)) (setOf (l .plan) n what) what fed fed l
+    one false = bare-twice l
 
 -- Channels changed.
 lanes-bare : (f : ℕ → Lane → Lane) (bs : List ℕ) (l : Line) → withLanes f bs (withoutSets l) ≡ withoutSets (withLanes f bs l)
@@ -164,7 +179,9 @@ taken-bare b (m ∷ rest) l = (λ i. Option·map withoutSets (by (withoutSets l)
 
     one : (t : Bool) → Option·map withoutSets (by (withoutSets l) t) ≡ Option·map withoutSets (by l t)
     one true = ap (λ (k : Line). Option·map withoutSets (endedIfComplete n k)) (held-bare b m (takenLane b m rest l)) ∙ ended-bare n (takenReplaying b m (takenLane b m rest l))
-    one false = ap some (logged-bare n (setOf (l .plan) n what) what (made (senderOf l b) (m .time)) (m .origin) (takenLane b m rest l))
+    one false =
+        ap (λ (t : ℕ). some (withoutSets (withNode n (logged (timeFor (l .plan) n what t) (setOf (l .plan) n what) what (made (senderOf l b) (m .time)) (m .origin) (nodeAt (withoutSets (takenLane b m rest l)) n)) (withoutSets (takenLane b m rest l))))) (ap (λ (x : Node). x .time) (bare-node l n))
+        ∙ ap some (logged-bare n (timeFor (l .plan) n what (nodeAt l n .time)) (setOf (l .plan) n what) what (made (senderOf l b) (m .time)) (m .origin) (takenLane b m rest l))
 
 -- Crash, Recover.
 crashed-bare : (n : ℕ) (l : Line) → crashedLine n (withoutSets l) ≡ withoutSets (crashedLine n l)
@@ -297,7 +314,7 @@ sent-bare b l = ap (λ (o : Option Entry). sentLine b o (withoutSets l)) (bare-s
 -- Every effect, and with it 24.
 pub effect-bare : (l : Line) (f : Frame) → Option·map withoutSets (effect (withoutSets l) f) ≡ Option·map withoutSets (effect l f)
 unfolding effect setOf
-effect-bare l (feed n r) = (let what = madeBy l n (recordLayout .read r) in ap some (logged-bare n (setOf (l .plan) n what) what fed fed l))
+effect-bare l (feed n r) = ap some (fed-bare n r l)
 effect-bare l (send b) = ap some (ap withoutSets (sent-bare b l) ∙ bare-twice (sentLine b (sendable l b) l))
 effect-bare l (take b) = taken-bare b (laneAt l b .queue) l
 effect-bare l (crash n) = ap some (ap withoutSets (crashed-bare n l) ∙ bare-twice (crashedLine n l))
@@ -353,7 +370,7 @@ refusal-bare l f = same f
     beside-same n i = anyOf (λ (b : ℕ). bare-node l (senderOf l b) i .crashed) (entering (l .plan) n) || anyOf (λ (b : ℕ). bare-node l (receiverOf l b) i .crashed) (leaving (l .plan) n)
 
     same : (f : Frame) → lineRefusal (withoutSets l) f ≡ lineRefusal l f
-    same (feed n r) = λ i. refused (feed n r) false false false false false false (leb logLimit (log-length l n i)) (placing-bare l (feed n r) i)
+    same (feed n r) = λ i. refused (feed n r) false false false false false false (timed (l .plan) n (madeBy l n (recordLayout .read r)) && leb logLimit (log-length l n i)) (placing-bare l (feed n r) i)
     same (send b) = λ i. refused (send b) false (ends b i) false false (none-there b i) false false (placing-bare l (send b) i)
     same (take b) = λ i. refused (take b) false (ends b i) false false (isEmpty (laneAt l b .queue)) (isReplay (bare-node l (receiverOf l b) i .status) && leb (rowGoal (bare-node l (receiverOf l b) i .targets) (channelAt (l .plan) b .sender)) (laneAt l b .taken)) (lacks-bare l b i) (placing-bare l (take b) i)
     same (crash n) = λ i. refused (crash n) false (down-same n i) (beside-same n i) false false false false (placing-bare l (crash n) i)

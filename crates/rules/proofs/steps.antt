@@ -10,3 +10,5 @@ pub mod CrashInv
 pub mod Floors
 pub mod TrimInv
 pub mod AskInv
+pub mod QuietFeed
+pub mod SilentTake

@@ -5,3 +5,4 @@ pub mod SteadyKept
 pub mod Unmoved
 pub mod OwnNode
 pub mod QuietRest
+pub mod TimesCount

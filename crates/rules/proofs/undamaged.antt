@@ -1,5 +1,6 @@
 -- A step keeps an undamaged line undamaged.
 pub mod Standing
+pub mod LogRising
 pub mod Crashed
 pub mod Restored
 pub mod TestLaws

@@ -1,5 +1,5 @@
 -- Logging and clocks (document 01, "Clocks and steps").
-use Prim.Native.Nat.{ℕ, suc, max}
+use Prim.Native.Nat.{ℕ, max}
 use mathlib.Core.Bool.{true, false, cond, _&&_}
 use mathlib.Core.List.{List, [], _∷_, _++_}
 use mathlib.Core.Option.{Option, none, some}
@@ -9,14 +9,14 @@ use Rattle.plan.specs.declared.Channel.{Channel}
 use Rattle.plan.specs.Channel.{takes}
 use Rattle.rules.specs.Line.{Origin, fed, made, Message, Entry, Node, Lane}
 
--- A node's time rises by 1 and the message is logged; 2026-06: the set of channels that take it is written "when the entry is made".
-unfoldable pub logged : ℕ → Record → Origin → Origin → Node → Node
-logged set what origin before x =
+-- A message is logged at a time, which is then the node's (2026-08: its next one, or its present one), with the set of channels that take it, written "when the entry is made" (2026-06).
+unfoldable pub logged : ℕ → ℕ → Record → Origin → Origin → Node → Node
+logged t set what origin before x =
     record {
       status = x .status;
       crashed = x .crashed;
-      time = suc (x .time);
-      log = x .log ++ record { what = what; time = suc (x .time); origin = origin; before = before; set = set } ∷ [];
+      time = t;
+      log = x .log ++ record { what = what; time = t; origin = origin; before = before; set = set } ∷ [];
       held = x .held;
       targets = x .targets;
       asked = x .asked;

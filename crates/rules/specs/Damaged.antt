@@ -1,6 +1,6 @@
--- What makes a line damaged (document 01, "Damaged"; document 02, 2026-04 to 2026-07): conditions of the line, of a node n and of a channel b, each by itself. What a line cannot spell is the layout's matter: unused bytes, counts past their limits, status and crash mark bytes that no node has, and in the stored plan its length and rule bytes that no rule has.
+-- What makes a line damaged (document 01, "Damaged"; document 02, 2026-04 to 2026-08): conditions of the line, of a node n and of a channel b, each by itself. What a line cannot spell is the layout's matter: unused bytes, counts past their limits, status and crash mark bytes that no node has, and in the stored plan its length and rule bytes that no rule has.
 use Prim.Native.Nat.{ℕ, suc, _^_}
-use mathlib.Core.Bool.{Bool, true, false, not, _&&_, _||_}
+use mathlib.Core.Bool.{Bool, true, false, cond, not, _&&_, _||_}
 use mathlib.Core.List.{List, [], _∷_, _++_, map}
 use mathlib.Core.Option.{Option, none, some}
 use lib.ListN.{length}
@@ -13,7 +13,7 @@ use Rattle.plan.specs.Mask.{setOf}
 use Rattle.rules.specs.Lists.{isEmpty, allOf, anyOf, joined}
 use Rattle.rules.specs.Line.{logLimit, queueLimit, heldLimit, targetLimit, stepLimit, consoleCount, Origin, fed, made, Message, Entry, Held, Target, Status, up, down, replay, Asked, Node, Lane, Line, nodeAt, laneAt, nodeNumbers, channelNumbersOf, senderOf, receiverOf, parents, isUp, isReplay, acceptedSteps}
 use Rattle.rules.specs.Recover.{sameTarget, answerOf, targetsOf}
-use Rattle.rules.specs.Replay.{passedOn, heldEntry, heldByRow}
+use Rattle.rules.specs.Replay.{passedOn, heldEntry, timed, heldByRow}
 use Rattle.rules.specs.Step.{isNothing, endDown, nodeDown, replaying, recoverGives}
 
 -- Something holds of a node, or of a channel.
@@ -79,16 +79,16 @@ unfoldable pub channelWrongParent : Plan → ℕ → Lane → Bool
 unfolding parents
 channelWrongParent p b s = anyOf (λ (m : Message). notParent p (channelAt p b .sender) (m .origin)) (s .queue)
 
--- The times of messages, held records and named senders, and the others that stand in the state.
+-- The times of messages, held records and named senders, and the others that stand in the state. 2026-08: a log entry's own time is among the others; `logWrong` says where it may be 0.
 abbrev pub originTimes : Origin → List ℕ
 originTimes fed = []
 originTimes (made s t) = t ∷ []
 
 abbrev pub nodeNamedTimes : Node → List ℕ
-nodeNamedTimes x = map (λ (e : Entry). e .time) (x .log) ++ joined (map (λ (e : Entry). originTimes (e .origin) ++ originTimes (e .before)) (workedOn x))
+nodeNamedTimes x = joined (map (λ (e : Entry). originTimes (e .origin) ++ originTimes (e .before)) (workedOn x))
 
 abbrev pub nodeOtherTimes : Node → List ℕ
-nodeOtherTimes x = x .time ∷ joined (map (λ (t : Target). t .time ∷ t .parentTime ∷ []) (x .targets))
+nodeOtherTimes x = x .time ∷ (map (λ (e : Entry). e .time) (x .log) ++ joined (map (λ (t : Target). t .time ∷ t .parentTime ∷ []) (x .targets)))
 
 abbrev pub channelNamedTimes : Lane → List ℕ
 channelNamedTimes s = joined (map (λ (m : Message). m .time ∷ originTimes (m .origin)) (s .queue))
@@ -139,9 +139,20 @@ rises above (t ∷ ts) = ltb above t && rises t ts
 abbrev pub risesTo : ℕ → ℕ → List ℕ → Bool
 risesTo above last ts = rises above ts && allOf (λ (t : ℕ). leb t last) ts
 
--- "log times don't rise strictly or pass the node's time"
-unfoldable pub logWrong : Node → Bool
-logWrong x = not (risesTo 0 (x .time) (map (λ (e : Entry). e .time) (x .log)))
+-- 2026-08: "Log times may therefore repeat, or be 0, at such entries only": of a record taken by a node with leaving channels, none of which takes it.
+unfoldable pub mayRepeat : Plan → ℕ → Record → Bool
+unfolding isSource timed
+mayRepeat p n r = not (isSource p n) && not (timed p n r)
+
+-- "the state check wants such an entry's time not below the one before it, any other's above it"; the first's above 0.
+abbrev pub logRises : Plan → ℕ → ℕ → List Entry → Bool
+logRises p n last [] = true
+logRises p n last (e ∷ es) = cond (mayRepeat p n (e .what)) (leb last (e .time)) (ltb last (e .time)) && logRises p n (e .time) es
+
+-- "log times don't rise strictly", but there, "or pass the node's time"
+unfoldable pub logWrong : Plan → ℕ → Node → Bool
+unfolding mayRepeat
+logWrong p n x = not (logRises p n 0 (x .log) && allOf (λ (t : ℕ). leb t (x .time)) (map (λ (e : Entry). e .time) (x .log)))
 
 -- What an input was made from passes the entry heard for that parent of the sender.
 abbrev pub pastHeard : List ℕ → List ℕ → Origin → Bool
@@ -259,7 +270,7 @@ unfoldable pub nodeDamaged : Line → ℕ → Bool
 unfolding nodePastLimits nodeWrongParent nodeTimePast nodeTimeZero nodeMakerWrong logWrong setWrong pastClock heldWrong heldNotPassed markMissing markOnEnd replayWrong answerWrong nodeHolds
 nodeDamaged l n =
     let x = nodeAt l n in
-    nodePastLimits x || nodeWrongParent (l .plan) n x || nodeTimePast (acceptedSteps l) x || nodeTimeZero x || nodeMakerWrong (l .plan) n x || logWrong x || setWrong (l .plan) n x || pastClock l n
+    nodePastLimits x || nodeWrongParent (l .plan) n x || nodeTimePast (acceptedSteps l) x || nodeTimeZero x || nodeMakerWrong (l .plan) n x || logWrong (l .plan) n x || setWrong (l .plan) n x || pastClock l n
     || heldWrong l n || heldNotPassed (l .plan) n x || markMissing x || markOnEnd (l .plan) n x || replayWrong l n || answerWrong l n || nodeHolds x
 
 unfoldable pub channelDamaged : Line → ℕ → Bool

@@ -41,7 +41,7 @@ met l =
     ∷ atNode l (λ n x. nodeTimePast (acceptedSteps l) x)
     ∷ atNode l (λ n x. nodeTimeZero x)
     ∷ atNode l (nodeMakerWrong p)
-    ∷ atNode l (λ n x. logWrong x)
+    ∷ atNode l (λ n x. logWrong (l .plan) n x)
     ∷ someNode l (pastClock l)
     ∷ someNode l (heldWrong l)
     ∷ atNode l (heldNotPassed p)
@@ -85,12 +85,12 @@ unfoldable pub later : Line
 unfolding replayPlan initialLine told
 later = storyFrom (startOf (initialLine replayPlan)) (feedFrame 0 1 1 ∷ feedFrame 0 2 1 ∷ (joined (map twoSteps (0 ∷ 0 ∷ 2 ∷ 3 ∷ 2 ∷ [])) ++ frame 4 2 ∷ frame 5 2 ∷ [])) .line
 
--- 0 to 1 to 2, 2 to 3 and 4; 0 to 1 takes no material 3. Node 2 replays for the message that 1 made at 1 from 0's at 2.
+-- 0 to 1 to 2, 2 to 3 and 4; 0 to 1 takes materials 1 and 3, the others material 1. Node 2 replays for the message that 1 made at 1 from 0's at 2; 0's at 1 has got no time at 1.
 unfoldable pub deepBegun : Story
 unfolding initialLine told
 deepBegun =
-    storyFrom (startOf (initialLine (record { version = 1; rules = Keep ∷ Keep ∷ Keep ∷ Keep ∷ Keep ∷ []; channels = channel 0 1 2 ∷ channel 1 2 2 ∷ channel 2 3 2 ∷ channel 2 4 2 ∷ [] })))
-    (feedFrame 0 1 3 ∷ feedFrame 0 1 1 ∷ (joined (map twoSteps (0 ∷ 1 ∷ 2 ∷ [])) ++ frame 4 2 ∷ frame 5 2 ∷ []))
+    storyFrom (startOf (initialLine (record { version = 1; rules = Keep ∷ Keep ∷ Keep ∷ Keep ∷ Keep ∷ []; channels = channel 0 1 10 ∷ channel 1 2 2 ∷ channel 2 3 2 ∷ channel 2 4 2 ∷ [] })))
+    (feedFrame 0 1 3 ∷ feedFrame 0 1 1 ∷ (joined (map twoSteps (0 ∷ 0 ∷ 1 ∷ 2 ∷ [])) ++ frame 4 2 ∷ frame 5 2 ∷ []))
 
 unfoldable pub deep : Line
 unfolding deepBegun
@@ -178,6 +178,14 @@ shaped ns ls l = record { plan = l .plan; steps = l .steps; nodes = ns; lanes = 
 
 abbrev ownEntry : ℕ → Origin → Origin → Entry
 ownEntry t o b = record { what = piece 1 1; time = t; origin = o; before = b; set = 1 }
+
+-- what node 2 took of source 0 and no channel takes of it
+abbrev quiet : ℕ → Entry
+quiet t = record { what = piece 1 3; time = t; origin = made 0 1; before = fed; set = 0 }
+
+-- what node 0 of `deep` was fed and its channel does not take: no step logs it
+abbrev swallowed : ℕ → Entry
+swallowed t = record { what = piece 1 4; time = t; origin = fed; before = fed; set = 0 }
 
 abbrev message : ℕ → Origin → Message
 message t o = record { what = piece 1 1; time = t; origin = o }
@@ -360,8 +368,8 @@ parts =
     ∷ trial (withSteps (replicate 4 1_000_000) (node 0 (timed 4_000_001) ended)) (6 ∷ [])
     ∷ trial (withSteps (20 ∷ 30 ∷ 10 ∷ 40 ∷ []) (lane 0 (moved 100 1) ended)) []
     ∷ trial (withSteps (20 ∷ 30 ∷ 10 ∷ 39 ∷ []) (lane 0 (moved 100 1) ended)) (19 ∷ [])
-    -- "a message's, a held record's or a named sender's time is 0"
-    ∷ trial (node 3 (logs (at 0)) ended) (7 ∷ 9 ∷ [])
+    -- "a message's, a held record's or a named sender's time is 0"; a log entry's is where times must rise (2026-08)
+    ∷ trial (node 3 (logs (at 0)) ended) (9 ∷ [])
     ∷ trial (node 3 (logs (origin (made 2 0))) ended) (7 ∷ [])
     ∷ trial (node 2 (holds (held 1 0 ∷ [])) begun) (7 ∷ 11 ∷ [])
     ∷ trial (deepHeld (made 0 0)) (7 ∷ [])
@@ -374,6 +382,17 @@ parts =
     ∷ trial (node 2 (logs (before (made 1 1))) ended) (5 ∷ 8 ∷ [])
     -- "log times don't rise strictly"
     ∷ trial (node 0 (logs (at 1)) ended) (9 ∷ [])
+    -- 2026-08: "may therefore repeat, or be 0, at such entries only": 0 and again the one before, at node 2 of a record that no channel takes; below the one before, past the node's time; of a record that a channel takes, of a sink
+    ∷ trial (node 2 (withLog (quiet 0 ∷ leavingBy 3 (ownEntry 2 (made 0 1) fed) ∷ quiet 2 ∷ [])) ended) []
+    ∷ trial (node 2 (withLog (quiet 2 ∷ quiet 1 ∷ [])) ended) (9 ∷ [])
+    ∷ trial (node 2 (withLog (quiet 3 ∷ [])) ended) (9 ∷ [])
+    ∷ trial (node 2 (withLog (quiet 2 ∷ leavingBy 3 (ownEntry 2 (made 0 1) fed) ∷ [])) ended) (9 ∷ [])
+    ∷ trial (node 3 (λ (x : Node). withLog (x .log ++ x .log) x) ended) (9 ∷ [])
+    ∷ trial (node 2 (withLog (leavingBy 3 (ownEntry 0 (made 0 1) fed) ∷ [])) ended) (9 ∷ [])
+    -- an empty set in a source's log is not such an entry
+    ∷ trial (node 0 (withLog (swallowed 1 ∷ swallowed 2 ∷ [])) deep) []
+    ∷ trial (node 0 (withLog (swallowed 0 ∷ [])) deep) (9 ∷ [])
+    ∷ trial (node 0 (withLog (swallowed 1 ∷ swallowed 1 ∷ [])) deep) (9 ∷ [])
     -- "an entry's or held record's other times pass the node's clock"
     ∷ trial (deepHeld (made 0 3)) (10 ∷ [])
     -- "held times of a row": two rows held in turn

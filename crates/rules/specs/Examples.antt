@@ -1,4 +1,4 @@
--- Document 01's own examples of the numbers 1 to 7, 9 to 19 and 21, and some of ours that tell readings apart, those of 2026-01, 2026-04, 2026-05 and 2026-07 among them, computed. Its examples of 22 to 24 are in the placing's `Marked`, that of 8 in the state's `Examples`; P9 shows that of 20.
+-- Document 01's own examples of the numbers 1 to 7, 9 to 19 and 21, and some of ours that tell readings apart, those of 2026-01, 2026-04, 2026-05, 2026-07 and 2026-08 among them, computed. Its examples of 22 to 24 are in the placing's `Marked`, that of 8 in the state's `Examples`; P9 shows that of 20.
 use Prim.Native.Nat.{ℕ}
 use mathlib.Core.Path.{_≡_, refl}
 use mathlib.Core.List.{List, [], _∷_, _++_, map}
@@ -8,7 +8,7 @@ use Rattle.plan.specs.declared.Rule.the-variants.{Keep}
 use Rattle.plan.specs.Plan.{Plan}
 use Rattle.plan.specs.Check.{planRefusal}
 use Rattle.rules.specs.Lists.{keep, joined}
-use Rattle.rules.specs.Line.{fed, made, Entry, Node, Lane, laneAt, withSteps, initialLine, onlyCount}
+use Rattle.rules.specs.Line.{fed, made, Entry, Node, Lane, Line, nodeAt, laneAt, withSteps, initialLine, onlyCount}
 use Rattle.rules.specs.Frame.{console, frameFrom}
 use Rattle.rules.specs.Clock.{raiseHeard, takenFrom}
 use Rattle.rules.specs.Trim.{lowAfter}
@@ -34,6 +34,22 @@ widePlan = 0 ∷ 59 ∷ 1 ∷ 6 ∷ 5 ∷ (replicate 24 0 ++ joined (map wideCha
 -- 0 to 1 to 2 to 3.
 unfoldable pub chain : Plan
 chain = record { version = 1; rules = Keep ∷ Keep ∷ Keep ∷ Keep ∷ []; channels = channel 0 1 65535 ∷ channel 1 2 65535 ∷ channel 2 3 65535 ∷ [] }
+
+-- 0 sends materials 1 and 3 to 1, which sends material 2 to 2 and material 3 to 3.
+unfoldable pub narrow : Plan
+narrow = record { version = 1; rules = Keep ∷ Keep ∷ Keep ∷ Keep ∷ []; channels = channel 0 1 10 ∷ channel 1 2 4 ∷ channel 1 3 8 ∷ [] }
+
+-- Node 2 has no channel: it is a source and a sink.
+unfoldable pub apart : Plan
+apart = record { version = 1; rules = Keep ∷ Keep ∷ Keep ∷ []; channels = channel 0 1 65535 ∷ [] }
+
+-- 1 takes materials 1, 3 and 1, and 3 takes what it passes on.
+abbrev narrowFrames : List (List ℕ)
+narrowFrames = feedFrame 0 1 1 ∷ feedFrame 0 2 3 ∷ feedFrame 0 3 1 ∷ (moved 0 ++ moved 0 ++ moved 0 ++ moved 2)
+
+-- A node's time, and the time and set of each of its entries.
+abbrev timesAndSets : Line → ℕ → List ℕ
+timesAndSets l n = nodeAt l n .time ∷ joined (map (λ (e : Entry). e .time ∷ e .set ∷ []) (nodeAt l n .log))
 
 -- What a list of frames does on a plan, from a number of steps of each console on; the answers, where console 0 alone has done steps; the same on the chain.
 unfoldable pub storyOn : Plan → List ℕ → List (List ℕ) → Story
@@ -84,7 +100,7 @@ abbrev clockNumbers : Lane → List ℕ
 clockNumbers s = s .mark ∷ s .taken ∷ s .heard
 
 unfoldable pub exampleTable : List Example
-unfolding planRefusal answers answersOn countedFrom loggedOn storyOn chain initialLine takenFrom replayPlan replayBegun replayAfter told
+unfolding planRefusal answers answersOn countedFrom loggedOn storyOn chain narrow apart initialLine takenFrom replayPlan replayBegun replayAfter told
 exampleTable =
     record { given = map planRefusal ((0 ∷ 5 ∷ 1 ∷ []) ∷ smallPlan 19 0 2 0 0 ∷ smallPlan 19 1 13 0 0 ∷ (0 ∷ 18 ∷ 1 ∷ 2 ∷ 1 ∷ replicate 13 0) ∷ smallPlan 19 1 2 3 0 ∷ smallPlan 19 1 2 0 1 ∷ widePlan ∷ smallPlan 19 1 2 0 0 ∷ []); expected = 1 ∷ 2 ∷ 3 ∷ 4 ∷ 5 ∷ 6 ∷ 7 ∷ 0 ∷ [] }
     -- 9, 10, 11: "`00 05 01 02`", "third byte 0", "Send of 13 bytes"
@@ -110,6 +126,14 @@ exampleTable =
     -- back by Recover, and by Commit
     ∷ record { given = answers 0 (frame 4 1 ∷ frame 7 1 ∷ frame 5 1 ∷ frame 8 1 ∷ frame 4 1 ∷ frame 8 1 ∷ []); expected = 0 ∷ 0 ∷ 0 ∷ 15 ∷ 0 ∷ 27 ∷ [] }
     ∷ record { given = answers 0 (frame 4 1 ∷ frame 7 1 ∷ frame 8 1 ∷ frame 4 1 ∷ frame 8 1 ∷ []); expected = 0 ∷ 0 ∷ 0 ∷ 0 ∷ 27 ∷ [] }
+    -- 2026-08: a Feed that no channel takes is accepted with the log full, and leaves it as it is
+    ∷ record { given = answersOn narrow 0 (feedFrame 0 1 2 ∷ (replicate 65 (feedFrame 0 1 1) ++ feedFrame 0 1 2 ∷ [])); expected = replicate 65 0 ++ 21 ∷ 0 ∷ [] }
+    ∷ record { given = timesAndSets (storyOn narrow (onlyCount 0) (feedFrame 0 1 2 ∷ feedFrame 0 2 1 ∷ feedFrame 0 3 2 ∷ []) .line) 0; expected = 1 ∷ 1 ∷ 1 ∷ [] }
+    -- a router's Take of a record that none of its channels takes is logged at the present time with an empty set; an outfeed counts everything, and so does a node without channels
+    ∷ record { given = timesAndSets (storyOn narrow (onlyCount 0) narrowFrames .line) 1; expected = 1 ∷ 0 ∷ 0 ∷ 1 ∷ 2 ∷ 1 ∷ 0 ∷ [] }
+    ∷ record { given = timesAndSets (storyOn narrow (onlyCount 0) narrowFrames .line) 3; expected = 1 ∷ 1 ∷ 0 ∷ [] }
+    ∷ record { given = timesAndSets (storyOn apart (onlyCount 0) (feedFrame 2 1 1 ∷ []) .line) 2; expected = 1 ∷ 1 ∷ 0 ∷ [] }
+    ∷ record { given = answersOn apart 0 (replicate 65 (feedFrame 2 1 1)); expected = replicate 64 0 ++ 21 ∷ [] }
     -- 26, of 2026-04: 13 before it; a Trim while a node is down, asked or not, whichever node it names; none is down
     ∷ record { given = answers 0 (frame 6 4 ∷ frame 6 0 ∷ frame 4 1 ∷ frame 6 4 ∷ frame 6 0 ∷ frame 6 1 ∷ frame 7 1 ∷ frame 6 2 ∷ frame 8 1 ∷ frame 6 2 ∷ []); expected = 13 ∷ 0 ∷ 0 ∷ 13 ∷ 26 ∷ 26 ∷ 0 ∷ 26 ∷ 0 ∷ 0 ∷ [] }
     -- 18: a replaying node has nothing to send

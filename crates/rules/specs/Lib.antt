@@ -18,6 +18,7 @@ pub mod Restart
 pub mod Console
 pub mod Sets
 pub mod Ask
+pub mod Times
 pub mod Versions
 pub mod Marked
 pub mod Examples

@@ -1,12 +1,12 @@
 -- A replay of node B: what is held, the replay table, and its end (document 01, "While B replays" and "Placing"). Here b is the node B and c a channel.
 use Prim.Native.Nat.{ℕ, suc}
-use mathlib.Core.Bool.{Bool, true, false, cond, not, _&&_}
+use mathlib.Core.Bool.{Bool, true, false, cond, not, _&&_, _||_}
 use mathlib.Core.List.{List, [], _∷_, _++_, map}
 use mathlib.Core.Option.{Option, none, some}
 use lib.Dec.{ltb, eqb}
 use Rattle.plan.specs.declared.Record.{Record}
 use Rattle.plan.specs.Channel.{takes}
-use Rattle.plan.specs.Plan.{Plan, channelAt, entering}
+use Rattle.plan.specs.Plan.{Plan, channelAt, entering, isSink}
 use Rattle.plan.specs.Mask.{taking, setOf}
 use Rattle.placing.specs.Item.{Item}
 use Rattle.placing.specs.Table.{tableFits, boundsFit, itemFits, fixedFits, comesAfter}
@@ -20,6 +20,15 @@ use Rattle.rules.specs.Recover.{highOf, rowsComplete}
 unfoldable pub passedOn : Plan → ℕ → Record → Bool
 unfolding taking takes
 passedOn p n r = not (isEmpty (taking p n r))
+
+-- 2026-08: "A record taken by a node that has leaving belts, when none of them takes it, raises the clock as before but gets no time of its own." All other records do; "Outfeeds log and count everything as before."
+unfoldable pub timed : Plan → ℕ → Record → Bool
+unfolding isSink passedOn
+timed p n r = isSink p n || passedOn p n r
+
+-- The time of what a node makes: its next one, or else its present one.
+abbrev pub timeFor : Plan → ℕ → Record → ℕ → ℕ
+timeFor p n r t = cond (timed p n r) (suc t) t
 
 -- One more held record.
 unfoldable pub holding : Held → Node → Node

@@ -164,15 +164,15 @@ take-answers : map (λ (l : Line). gives l (frame 3 0)) (waits Keep [] (message 
 unfolding gives
 take-answers = refl
 
--- A replay by frames, in which only the right floor gives the right column. Node 2 logs pieces 1, 3, 2, 4, 5 at 1 to 5; 3 takes times 3 and 5, 4 takes 1 and 3, 5 none. So pieces 1, 2 and 5 are targets, piece 3 is dropped, and piece 4 is free: 4 and 5 take it and 3 does not, its floor is 3, its column 4.
+-- A replay by frames, in which only the right floor gives the right column. Sources 0, 1 and 2 send all to 3, which sends material 1 to 4, materials 1 and 2 to 5, materials 2 and 3 to 6. Node 3 logs pieces 1, 3, 2, 4, 5 at 1 to 5; 4 takes times 3 and 5, 5 takes 1 and 3, 6 none. So pieces 1, 2 and 5 are targets; piece 3, of a row without targets, is not taken again, and column 2 stays empty; piece 4 is free: 5 and 6 take it and 4 does not, its floor is 3, its column 4.
 unfoldable pub floorStory : Story
 unfolding initialLine told
 floorStory =
-    storyFrom (startOf (initialLine (plan Keep)))
-    (feedFrame 0 1 2 ∷ feedFrame 0 2 1 ∷ feedFrame 1 3 3 ∷ feedFrame 1 4 2 ∷ feedFrame 1 5 1
-    ∷ (joined (map moved (0 ∷ 1 ∷ 0 ∷ 1 ∷ 1 ∷ 2 ∷ 2 ∷ 3 ∷ 3 ∷ [])) ++ frame 4 2 ∷ frame 5 2 ∷ joined (map moved (0 ∷ 0 ∷ 1 ∷ 1 ∷ 1 ∷ []))))
+    storyFrom (startOf (initialLine (record { version = 1; rules = replicate 7 Keep; channels = channel 0 3 65535 ∷ channel 1 3 65535 ∷ channel 2 3 65535 ∷ channel 3 4 2 ∷ channel 3 5 6 ∷ channel 3 6 12 ∷ [] })))
+    (feedFrame 0 1 2 ∷ feedFrame 0 2 1 ∷ feedFrame 2 3 3 ∷ feedFrame 1 4 2 ∷ feedFrame 1 5 1
+    ∷ (joined (map moved (0 ∷ 2 ∷ 0 ∷ 1 ∷ 1 ∷ 3 ∷ 3 ∷ 4 ∷ 4 ∷ [])) ++ frame 4 3 ∷ frame 5 3 ∷ joined (map moved (0 ∷ 0 ∷ 1 ∷ 1 ∷ []))))
 
-floor-decides : logNumbers (nodeAt (floorStory .line) 2 .log) ≡ 1 ∷ 1 ∷ 3 ∷ 2 ∷ 4 ∷ 4 ∷ 5 ∷ 5 ∷ []
+floor-decides : logNumbers (nodeAt (floorStory .line) 3 .log) ≡ 1 ∷ 1 ∷ 3 ∷ 2 ∷ 4 ∷ 4 ∷ 5 ∷ 5 ∷ []
 unfolding floorStory
 floor-decides = refl
 

@@ -15,7 +15,7 @@ nodeWithoutSets x = record { status = x .status; crashed = x .crashed; time = x 
 abbrev pub withoutSets : Line → Line
 withoutSets l = record { plan = l .plan; steps = l .steps; nodes = map nodeWithoutSets (l .nodes); lanes = l .lanes }
 
--- A step, with the sets left out of what it leaves. That it is the step from before 2026-06 is read off the definitions: of a step, `fedLine`, `takenUp` and `nodePlaced` alone ask `setOf`, for the field `set` alone.
+-- A step, with the sets left out of what it leaves. That it is the step from before 2026-06, but for what later requests changed, is read off the definitions: of a step, `fedLine`, `takenUp` and `nodePlaced` alone ask `setOf`, for the field `set` alone.
 unfoldable pub answerWithoutSets : Line → List ℕ → Answer
 unfolding step
 answerWithoutSets l f = let a = step l f in record { number = a .number; line = withoutSets (a .line) }

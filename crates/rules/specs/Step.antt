@@ -1,5 +1,5 @@
--- A step: the refusals 9 to 21 and 24 to 27 in their order, and the effect of each kind (document 01, "Clocks and steps", "Numbers returned"; document 02, 2026-01, 2026-04, 2026-05 and 2026-07).
-use Prim.Native.Nat.{ℕ}
+-- A step: the refusals 9 to 21 and 24 to 27 in their order, and the effect of each kind (document 01, "Clocks and steps", "Numbers returned"; document 02, 2026-01, 2026-04, 2026-05, 2026-07 and 2026-08).
+use Prim.Native.Nat.{ℕ, suc}
 use mathlib.Core.Bool.{Bool, true, false, cond, not, _&&_, _||_}
 use mathlib.Core.List.{List, [], _∷_}
 use mathlib.Core.Option.{Option, none, some, Option·map}
@@ -17,7 +17,7 @@ use Rattle.rules.specs.Frame.{Frame, feed, send, take, crash, recover, t
 use Rattle.rules.specs.Clock.{logged, nextToSend, sentOn, takenFrom}
 use Rattle.rules.specs.Recover.{targetsOf, conflict, rowComplete, answerOf, committed, recovered}
 use Rattle.rules.specs.Trim.{trimmedLine}
-use Rattle.rules.specs.Replay.{passedOn, holding, endedIfComplete}
+use Rattle.rules.specs.Replay.{passedOn, timed, timeFor, holding, endedIfComplete}
 
 -- 12: "1,000,000 steps accepted". 2026-01: "refusal 12 looks only at the caller's" count.
 unfoldable pub noStepsLeft : Line → ℕ → Bool
@@ -181,7 +181,7 @@ takeLacks l b =
 
 -- 21: "the step needs space that the log or held list lacks, or over 64 targets"
 abbrev pub noSpace : Line → Frame → Bool
-noSpace l (feed n r) = leb logLimit (length (nodeAt l n .log))
+noSpace l (feed n r) = timed (l .plan) n (madeBy l n (recordLayout .read r)) && leb logLimit (length (nodeAt l n .log))
 noSpace l (send b) = false
 noSpace l (take b) = takeLacks l b
 noSpace l (crash n) = false
@@ -190,24 +190,25 @@ noSpace l (trim n) = false
 noSpace l (ask n) = ltb targetLimit (length (targetsOf l n))
 noSpace l (commit n) = false
 
--- Feed: "an infeed applies its rule, its time rises by 1, the message is logged".
+-- Feed: "an infeed applies its rule, its time rises by 1, the message is logged". 2026-08: "On an infeed with leaving belts, a Feed that none of them takes leaves nothing but the step count".
 unfoldable pub fedLine : ℕ → List ℕ → Line → Line
-unfolding logged withNode recordLayout setOf
+unfolding logged withNode recordLayout setOf timed
 fedLine n r l =
     let what = madeBy l n (recordLayout .read r) in
-    withNode n (logged (setOf (l .plan) n what) what fed fed (nodeAt l n)) l
+    elim (timed (l .plan) n what) [ true ↦ withNode n (logged (suc (nodeAt l n .time)) (setOf (l .plan) n what) what fed fed (nodeAt l n)) l | false ↦ l ]
 
 -- Send: the message "goes on the belt".
 abbrev pub sentLine : ℕ → Option Entry → Line → Line
 sentLine b none l = l
 sentLine b (some e) l = withLane b (sentOn e (laneAt l b)) l
 
--- Take, of a node that is up: it "applies its rule, raises its time by 1 and logs".
+-- Take, of a node that is up: it "applies its rule, raises its time by 1 and logs". 2026-08: where no leaving channel takes the record, "its log entry stays", and "carries the node's present time".
 unfoldable pub takenUp : ℕ → Message → Line → Line
-unfolding logged withNode setOf
+unfolding logged withNode setOf timed
 takenUp b m l =
-    let what = madeBy l (receiverOf l b) (m .what) in
-    withNode (receiverOf l b) (logged (setOf (l .plan) (receiverOf l b) what) what (made (senderOf l b) (m .time)) (m .origin) (nodeAt l (receiverOf l b))) l
+    let n = receiverOf l b in
+    let what = madeBy l n (m .what) in
+    withNode n (logged (timeFor (l .plan) n what (nodeAt l n .time)) (setOf (l .plan) n what) what (made (senderOf l b) (m .time)) (m .origin) (nodeAt l n)) l
 
 -- Take, of a node that replays: "raises the clock only; a record that no belt takes is dropped, another is held".
 unfoldable pub takenReplaying : ℕ → Message → Line → Line
@@ -297,7 +298,7 @@ noPlacing l f = isNothing (effect l f)
 
 -- What the line itself refuses, whoever sent the frame: the first of 13, 26, 14 to 16, 27, 17 to 21 and 24 that applies, 0 if none does.
 unfoldable pub lineRefusal : Line → Frame → ℕ
-unfolding isSource isSink neighbourCrashed recordFits sendable rowComplete takeLacks targetsOf noPlacing
+unfolding isSource isSink neighbourCrashed recordFits recordLayout sendable rowComplete timed takeLacks targetsOf noPlacing
 lineRefusal l f =
     elim (noSuch l f) [
       | true ↦ 13

@@ -55,7 +55,7 @@ pub record Trace : Type 0 where
 abbrev pub isFollowed : List FollowedMessage → ℕ → ℕ → Bool
 isFollowed ms n t = anyOf (λ (m : FollowedMessage). eqb (m .node) n && eqb (m .time) t) ms
 
--- The message that a node makes next.
+-- The message that a node makes next of a tick, which always gets a time of its own (2026-08).
 abbrev pub nextOf : Line → ℕ → Origin → FollowedMessage
 nextOf l n o = record { node = n; time = suc (nodeAt l n .time); origin = o }
 

@@ -41,7 +41,7 @@ TrimsChangeNothing =
     (plan : List ℕ) (before with without : List (List ℕ)) → Bytes plan → Each Bytes before → Each Bytes without → planRefusal plan ≡ 0 → WithTrims with without
     → (let l = storyFrom (startOf (initialLine (planOf plan))) before .line in AllAccepted l with → AllAccepted l without → storyFrom (startOf l) with .receipts ≡ storyFrom (startOf l) without .receipts)
 
--- Whether a frame would log at node n: a Feed of the node, or a Take by it.
+-- A Feed of node n, also one that leaves nothing (2026-08), or a Take by it.
 abbrev pub logsAt : Line → ℕ → Frame → Bool
 logsAt l n (feed m r) = eqb m n
 logsAt l n (send b) = false

@@ -46,7 +46,7 @@ held-by-mass : map (λ (h : Held). h .what .piece) (nodeAt (massHeld .line) 2 .h
 unfolding massHeld
 held-by-mass = refl
 
--- Piece 3 ends the replay at its time 3. Piece 1 is free and comes before it: node 4, which has taken up to 3, is not a child that gets it.
+-- Piece 3 ends the replay at its time 2. Piece 1 is free and comes before it: node 4, which has taken up to 2, is not a child that gets it.
 unfoldable pub massEnded : Story
 unfolding massHeld told
 massEnded = storyFrom massHeld (moved 0)
@@ -55,7 +55,7 @@ all-accepted : massEnded .numbers ≡ replicate 22 0
 unfolding massEnded
 all-accepted = refl
 
-placed-by-mass : logNumbers (nodeAt (massEnded .line) 2 .log) ≡ 1 ∷ 1 ∷ 3 ∷ 3 ∷ []
+placed-by-mass : logNumbers (nodeAt (massEnded .line) 2 .log) ≡ 1 ∷ 1 ∷ 2 ∷ 3 ∷ []
 unfolding massEnded
 placed-by-mass = refl
 

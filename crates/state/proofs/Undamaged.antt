@@ -159,8 +159,8 @@ module _ (p : Plan) (e : planFits p ≡ true) where
           let c = neither-true long full (b .0) in
           let w = neither-true (anyOf named (workedOn x)) (anyOf (λ (t : Target). not (isParent p n (t .parent))) (x .targets)) wrong in
           let all = each-split Within (nodeNamedTimes x) (nodeOtherTimes x) (times-within (nodeNamedTimes x ++ nodeOtherTimes x) past) in
-          let logged = each-split Within (map (λ (e : Entry). e .time) (x .log)) (joined (map times (workedOn x))) (all .0) in
-          let work = each-split WorkFits (x .log) (map heldEntry (x .held)) (work-fits (a .1) (w .0) made-wrong (logged .1)) in
+          let logged = each-split Within (map (λ (e : Entry). e .time) (x .log)) (joined (map (λ (t : Target). t .time ∷ t .parentTime ∷ []) (x .targets))) (all .1 .1) in
+          let work = each-split WorkFits (x .log) (map heldEntry (x .held)) (work-fits (a .1) (w .0) made-wrong (all .0)) in
           record {
             time = time-fits (x .time) (all .1 .0);
             log = (
@@ -173,7 +173,7 @@ module _ (p : Plan) (e : planFits p ≡ true) where
               ltb-false heldLimit (length (x .held)) (c .1),
               each-imply (λ (h : Held). WorkFits (heldEntry h)) HeldFits (λ h f. record { what = f .0; sender = omega (arith, f .1 .0 .0); time = f .1 .0 .1 .0; before = f .1 .1 }) (x .held) (each-unmap WorkFits heldEntry (x .held) (work .1)),
             );
-            targets = (ltb-false targetLimit (length (x .targets)) (b .1), target-fits (w .1) (all .1 .1));
+            targets = (ltb-false targetLimit (length (x .targets)) (b .1), target-fits (w .1) (logged .1));
             asked = kept;
           }
 
@@ -230,7 +230,7 @@ node-conditions : (l : Line) (n : ℕ) → nodeDamaged l n ≡ false
 unfolding nodeDamaged
 node-conditions l n q =
     let x = nodeAt l n in
-    first-seven (nodePastLimits x) (nodeWrongParent (l .plan) n x) (nodeTimePast (acceptedSteps l) x) (nodeTimeZero x) (nodeMakerWrong (l .plan) n x) (logWrong x) (setWrong (l .plan) n x) (pastClock l n)
+    first-seven (nodePastLimits x) (nodeWrongParent (l .plan) n x) (nodeTimePast (acceptedSteps l) x) (nodeTimeZero x) (nodeMakerWrong (l .plan) n x) (logWrong (l .plan) n x) (setWrong (l .plan) n x) (pastClock l n)
     (heldWrong l n) (heldNotPassed (l .plan) n x) (markMissing x) (markOnEnd (l .plan) n x) (replayWrong l n) (answerWrong l n) (nodeHolds x) q
 
 channel-conditions : (l : Line) (b : ℕ) → channelDamaged l b ≡ false

@@ -168,15 +168,15 @@ pub dropped-answers : map (λ (change : ℕ × ℕ). stateAnswer (set (lineBytes
 unfolding lineBytes stateAnswer dropped
 dropped-answers = refl
 
--- Sets (2026-06): node 0 sends material 1 to node 1, materials 1 and 2 to node 2, material 3 to node 3, and is fed materials 1, 2, 3, 4 and a tick.
+-- Sets (2026-06): node 0 sends material 1 to node 1, materials 1 and 2 to node 2, material 3 to node 3, and is fed materials 1, 2, 3, 4, which none of them takes (2026-08), and a tick.
 unfoldable pub sorted : Line
 unfolding initialLine step
 sorted =
     let feeds : ℕ → Line → Line = λ material l. step l (0 ∷ 13 ∷ 1 ∷ 1 ∷ 0 ∷ 0 ∷ 0 ∷ 0 ∷ 0 ∷ material ∷ 0 ∷ 0 ∷ 0 ∷ []) .line in
     feeds 255 (feeds 4 (feeds 3 (feeds 2 (feeds 1 (initialLine (record { version = 1; rules = Keep ∷ Keep ∷ Keep ∷ Keep ∷ []; channels = channel 0 1 2 ∷ channel 0 2 6 ∷ channel 0 3 8 ∷ [] }))))))
 
--- The last two bytes of the five slots: the set, whose lowest bit is of the first channel, and the byte unused.
-pub sorted-sets : map (λ (i : ℕ). take 2 (drop (4_130 + 24 * i) (lineBytes sorted))) (0 ∷ 1 ∷ 2 ∷ 3 ∷ 4 ∷ []) ≡ (3 ∷ 0 ∷ []) ∷ (2 ∷ 0 ∷ []) ∷ (4 ∷ 0 ∷ []) ∷ (0 ∷ 0 ∷ []) ∷ (7 ∷ 0 ∷ []) ∷ []
+-- The last two bytes of the first five slots: the set, whose lowest bit is of the first channel, and the byte unused.
+pub sorted-sets : map (λ (i : ℕ). take 2 (drop (4_130 + 24 * i) (lineBytes sorted))) (0 ∷ 1 ∷ 2 ∷ 3 ∷ 4 ∷ []) ≡ (3 ∷ 0 ∷ []) ∷ (2 ∷ 0 ∷ []) ∷ (4 ∷ 0 ∷ []) ∷ (7 ∷ 0 ∷ []) ∷ (0 ∷ 0 ∷ []) ∷ []
 unfolding lineBytes sorted
 sorted-sets = refl
 

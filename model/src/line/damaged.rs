@@ -1,8 +1,8 @@
-//! Document 01, the paragraph "Damaged", and requests 2026-04, 2026-06 and 2026-07, as far
+//! Document 01, the paragraph "Damaged", and requests 2026-04 and 2026-06 to 2026-08, as far
 //! as they speak of more than bytes: their number and the unused ones have no place in the
 //! structs.
 
-use super::{restart, Entry, Line, Node, Origin, Queue, Status};
+use super::{restart, Entry, Line, Message, Node, Origin, Queue, Status};
 use crate::clock::Clock;
 use crate::plan::Plan;
 
@@ -163,14 +163,26 @@ fn are_low_clocks_within(line: &Line) -> bool {
         .all(|node| node.low_clock.time == 0 && node.low_clock.is_within(&node.clock))
 }
 
-/// Not: "a message's time is 0"; "log times don't rise strictly or pass the
-/// node's time; an entry's other times pass the node's clock".
+/// Not: log times "pass the node's time; an entry's other times pass the node's clock".
 fn is_log_sound(line: &Line) -> bool {
-    line.nodes.iter().all(|node| {
-        let times = node.log.iter().map(|entry| entry.message.time);
-        rises_strictly_from_above(0, times.clone())
-            && times.max().is_none_or(|last| last <= node.time())
-            && node.log.iter().all(|entry| is_entry_heard(node, entry))
+    line.nodes.iter().enumerate().all(|(number, node)| {
+        do_log_times_rise(&line.plan, number, &node.log)
+            && node
+                .log
+                .iter()
+                .all(|entry| entry.message.time <= node.time() && is_entry_heard(node, entry))
+    })
+}
+
+/// "The state check wants such an entry's time not below the one before it, any other's
+/// above it."
+fn do_log_times_rise(plan: &Plan, number: usize, log: &[Entry]) -> bool {
+    let before = [0]
+        .into_iter()
+        .chain(log.iter().map(|entry| entry.message.time));
+    log.iter().zip(before).all(|(entry, before)| {
+        let Message { record, time, .. } = &entry.message;
+        *time > before || *time == before && plan.may_repeat(number, record)
     })
 }
 

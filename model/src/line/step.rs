@@ -1,5 +1,5 @@
-//! Document 01, "Clocks and steps": the step and its kinds Feed, Send, Take
-//! and Crash. Recover stands in `recover`, what Take does to a replay in
+//! Document 01, "Clocks and steps", and request 2026-08: the step and its kinds Feed,
+//! Send, Take and Crash. Recover stands in `recover`, what Take does to a replay in
 //! `replay`, Trim in `trim`, Ask and Commit in `ask`.
 
 use super::{Entry, Frame, Line, Message, Node, Origin, Queue, Status};
@@ -44,7 +44,9 @@ pub fn stepped(line: &Line, frame: &[u8]) -> Result<Line, u32> {
 
 /// Each kind gives the line after it, the counts of steps aside, or the refusal.
 impl Line {
-    /// "An infeed applies its rule, its time rises by 1, the message is logged."
+    /// "An infeed applies its rule, its time rises by 1, the message is logged." "On an
+    /// infeed with leaving belts, a Feed that none of them takes leaves nothing but the
+    /// step count, and 21 is not looked at for it."
     fn feed(&self, node: usize, record: [u8; Record::LENGTH]) -> Result<Line, u32> {
         self.check_node(node)?;
         if !self.plan.is_source(node) {
@@ -53,7 +55,9 @@ impl Line {
         let record = Record::read(record).ok_or(WRONG_RECORD)?;
         let record = self.plan.rules[node].apply(record);
         let mut next = self.clone();
-        next.log(node, record, None, None)?;
+        if self.plan.is_timed(node, &record) {
+            next.log(node, record, None, None)?;
+        }
         Ok(next)
     }
 
@@ -175,8 +179,9 @@ impl Line {
             .find(|message| message.time > mark && wanted.takes(&message.record))
     }
 
-    /// Raises the node's time by 1 and logs the record, which is one that the
-    /// node's rule has been applied to. The set is written "when the entry is made".
+    /// Raises the node's time by 1, unless the record "gets no time of its own", and logs it:
+    /// such an entry "carries the node's present time". The node's rule has been applied. The
+    /// set is written "when the entry is made".
     fn log(
         &mut self,
         node: usize,
@@ -185,11 +190,14 @@ impl Line {
         input_made_from: Option<Origin>,
     ) -> Result<(), u32> {
         let set = self.plan.set_of(node, &record);
+        let is_timed = self.plan.is_timed(node, &record);
         let node = &mut self.nodes[node];
         if node.log.len() >= Line::MOST_ENTRIES {
             return Err(NO_SPACE);
         }
-        node.clock.time += 1;
+        if is_timed {
+            node.clock.time += 1;
+        }
         node.log.push(Entry {
             message: Message {
                 record,

@@ -7,6 +7,7 @@ mod practised;
 mod refusals;
 mod sets;
 mod ticks;
+mod times;
 mod trims;
 
 use super::*;
@@ -27,6 +28,11 @@ fn feed(node: u8, piece: u32, material: u8) -> Vec<u8> {
         record: record.write(),
     }
     .write()
+}
+
+fn tick(node: u8) -> Vec<u8> {
+    let record = Record::TICK.write();
+    Frame::Feed { node, record }.write()
 }
 
 fn send(channel: u8) -> Vec<u8> {
@@ -261,8 +267,8 @@ fn rules_on_the_way() {
     line.plan.rules[2] = crate::rule::Rule::Cap { greatest: 99 };
     accept(&mut line, &[feed(0, 1, 0), feed(0, 2, 3)]);
     assert_eq!(line.nodes[0].log[0].message.record.material, 1);
-    // A Feed that no channel takes is logged all the same.
-    assert_eq!(line.nodes[0].log.len(), 2);
+    // A Feed that no channel takes leaves nothing.
+    assert_eq!(line.nodes[0].log.len(), 1);
     accept(&mut line, &[send(0)]);
     assert_eq!(refuse(&line, &send(0)), 18);
     accept(&mut line, &[take(0), send(1), take(1)]);
@@ -301,26 +307,27 @@ fn crash_while_replaying() {
     assert_eq!(line, once);
 }
 
-/// Node 2 sends material 1 to 3, 2 to 4, 3 to 5, which takes nothing. It took
-/// pieces 1 (which no channel takes), 2, 3, 4; node 3 has piece 2, node 4 piece
-/// 4. Piece 3 is free: at the empty time 1 node 3 would never get it.
+/// Node 3 sends material 1 to 4, 2 to 5, 3 to 6, which takes nothing. It took
+/// pieces 1 (of material 3, from a parent whose row has no targets), 2, 3, 4; node 4 has
+/// piece 2, node 5 piece 4. Piece 3 is free: at the empty time 1 node 4 would never get it.
 #[test]
 fn floor_keeps_a_record_from_an_empty_time() {
-    let channels = [(0, 2, 15), (1, 2, 15), (2, 3, 2), (2, 4, 4), (2, 5, 8)];
-    let mut line = line_of(6, &channels);
-    accept(&mut line, &[feed(0, 1, 0), feed(0, 2, 1)]);
+    let entering = [0, 1, 2].map(|source| (source, 3, 15));
+    let channels = [&entering[..], &[(3, 4, 2), (3, 5, 4), (3, 6, 8)]].concat();
+    let mut line = line_of(7, &channels);
+    accept(&mut line, &[feed(2, 1, 3), feed(0, 2, 1)]);
     accept(&mut line, &[feed(1, 3, 1), feed(1, 4, 2)]);
-    let takes = [0, 0, 1, 1].map(|channel| [send(channel), take(channel)]);
-    accept(&mut line, &takes.concat());
-    accept(&mut line, &[send(2), take(2), send(3), take(3)]);
-    accept(&mut line, &[crash(2), recover(2)]);
-    assert_eq!(line.nodes[2].targets.len(), 2);
-    accept(&mut line, &takes.concat());
-    let node = &line.nodes[2];
+    pass(&mut line, &[2, 0, 1, 1, 3, 4]);
+    accept(&mut line, &[crash(3), recover(3)]);
+    assert_eq!(line.nodes[3].targets.len(), 2);
+    pass(&mut line, &[0, 1, 1]);
+    let node = &line.nodes[3];
     assert_eq!((node.status, node.time()), (Status::Up, 4));
-    let times: Vec<u32> = node.log.iter().map(|entry| entry.message.time).collect();
-    assert_eq!((pieces(&line, 2), times), (vec![2, 3, 4], vec![2, 3, 4]));
-    accept(&mut line, &[send(2), take(2)]);
-    assert_eq!(pieces(&line, 3), [2, 3]);
+    assert_eq!(
+        (pieces(&line, 3), times(&line, 3)),
+        (vec![2, 3, 4], vec![2, 3, 4])
+    );
+    pass(&mut line, &[3, 2, 5]);
+    assert_eq!((pieces(&line, 4), pieces(&line, 6)), (vec![2, 3], vec![1]));
     assert!(crate::order::is_quiet(&line));
 }

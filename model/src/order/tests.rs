@@ -1,5 +1,6 @@
 mod asks;
 mod ticks;
+mod times;
 mod trims;
 
 use super::*;
@@ -55,7 +56,7 @@ fn order_of_received_records() {
     let mut trims_that_drop = [0; 2];
     let mut ticks_taken = [0; 2];
     let mut commits = [0; 2];
-    for _ in 0..700 {
+    for _ in 0..800 {
         let mut line = Line::of(any_plan(&mut random));
         let version = usize::from(line.plan.version == Version::Second);
         let mut order = Order::new(&line.plan);

@@ -121,18 +121,23 @@ pub fn keeping(node_count: usize, channels: impl IntoIterator<Item = Channel>) -
     }
 }
 
-/// Sources, a router and three or four sinks, each of which takes a few
-/// materials only: the router's children part ways so far that free records and
-/// floors come up in its replays.
+/// Sources, a router and three or four sinks, each of which takes one material or a
+/// few only: the router's children part ways so far that free records and floors come up
+/// in its replays. Now and then a node without channels.
 fn fan(random: &mut Random) -> Plan {
     let sources = random.between(2, 4) as usize;
     let sinks = random.between(3, 4) as usize;
+    let alone = usize::from(random.one_in(8));
+    let is_by_one = random.one_in(2);
     let entering = (0..sources).map(|source| Channel::between(source, sources));
     let leaving = (1..=sinks).map(|sink| Channel {
-        mask: 1 << random.index(4) | 1 << random.index(4),
+        mask: match is_by_one {
+            true => 1 << (sink - 1),
+            false => 1 << random.index(4) | 1 << random.index(4),
+        },
         ..Channel::between(sources, sources + sink)
     });
-    keeping(sources + 1 + sinks, entering.chain(leaving))
+    keeping(sources + 1 + sinks + alone, entering.chain(leaving))
 }
 
 /// Sources, two to four routers, a router that all of them send to, and sinks

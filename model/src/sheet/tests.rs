@@ -131,7 +131,7 @@ fn kept_sheets() {
     let folder = Path::new(env!("CARGO_MANIFEST_DIR")).join("vectors/sheets");
     let checked = vectors::check_folder(&folder).unwrap();
     assert!(checked.wrong.is_empty(), "{:?}", checked.wrong);
-    assert_eq!(checked.sheets(), 258);
+    assert_eq!(checked.sheets(), 290);
 }
 
 /// Twelve nodes, 500 frames: well under 50 ms.

@@ -97,6 +97,7 @@ pub fn staged(random: &mut Random, visit: Visit) {
         staged::full(),
         longest,
         staged::by_piece(staged::full()),
+        staged::silent(),
         staged::replaying(),
         staged::trimmed(),
         staged::asked(),

@@ -1,10 +1,14 @@
 use Prim.Native.Nat.{ℕ, suc, _+_, _-_}
 use mathlib.Core.Path.{_≡_, refl, sym, ap, _∙_}
+use mathlib.Core.Bool.{true}
 use native.Mathlib.Omega.{arith}
 use borrow.Author.Tests.{not-true, not-false}
-use lib.ListN.{length}
+use lib.ListN.{length, getD}
+use Rattle.plan.specs.Plan.{planOf}
+use Rattle.items.specs.Items.{isInner}
+use Rattle.node_check.specs.NodeCheck.{logPass}
 use Rattle.state.specs.Sizes.{pageAt, logAt, countSize, entrySize}
-use Rattle.node_check.proofs.NodeLaws.{Going, page-room, logPass, time-in, entry-bare, entry-unmade, entry-more, log-whole}
+use Rattle.node_check.proofs.NodeLaws.{Going, page-room, time-in, later-fits, entry-unmade, entry-more, log-whole}
 use Rattle.node_check.proofs.entries_ok.Statement.{statement}
 use Rattle.node_check.proofs.entries_ok.Tie as tie
 
@@ -37,23 +41,20 @@ get32-requires-2 c κs = let v = c .before .loop .inv in omega (arith, v .there,
 entry-plain-requires : tie.Need-entry-plain-requires Inv-loop μ-loop
 entry-plain-requires c κs = let v = c .before .before .loop .inv in omega (arith, v .there, v .fits, v .within)
 
-returns : tie.Need-returns Inv-loop μ-loop
-returns c =
-    let plain = c .before in
-    let time = plain .before in
-    let v = time .before .before .loop in
-    let begun = time .before .before .before in
+entries-on-requires : tie.Need-entries-on-requires Inv-loop μ-loop
+entries-on-requires c κs =
+    let v = c .before .before .before .before .loop .inv in
+    let begun = c .before .before .before .before .before in
     let start = begun .before .before in
     let a = start .args in
-    let s = a .s .now in
-    let page = start .pre .0 in
-    let top = time-in s (a .n) (a .at) page (begun .get32 .result) (begun .get32 .ensures) in
-    let more : suc (v .left - 1) ≡ v .left = omega arith in
-    sym
-    (sym (log-whole s (a .n) (a .at) page (a .count) (start .pre .2) (start .pre .3))
-    ∙ v .inv .same
-    ∙ ap (λ (k : ℕ). logPass s (a .n) (v .last) (v .slot) k) (sym more)
-    ∙ entry-bare s (a .n) (v .last) (v .slot) (v .left - 1) (time .get322 .result) (begun .get32 .result) (time .get322 .ensures) top (plain .entry-plain .result) (plain .entry-plain .ensures) (not-true _ (c .if1 .taken)))
+    (start .pre .0 .ready, start .pre .1, omega (arith, v .there, v .fits), time-in (a .s .now) (a .n) (a .at) (start .pre .0) (begun .get32 .result) (begun .get32 .ensures))
+
+returns : tie.Need-returns Inv-loop μ-loop
+returns c =
+    let v = c .before .before .before .before .before .loop in
+    let start = c .before .before .before .before .before .before .before .before in
+    let a = start .args in
+    c .entries-on .ensures ∙ sym (v .inv .same) ∙ log-whole (a .s .now) (a .n) (a .at) (start .pre .0) (a .count) (start .pre .2) (start .pre .3)
 
 entry-made-requires : tie.Need-entry-made-requires Inv-loop μ-loop
 entry-made-requires c κs =
@@ -78,7 +79,7 @@ returns-2 c =
     (sym (log-whole s (a .n) (a .at) page (a .count) (start .pre .2) (start .pre .3))
     ∙ v .inv .same
     ∙ ap (λ (k : ℕ). logPass s (a .n) (v .last) (v .slot) k) (sym more)
-    ∙ entry-unmade s (a .n) (v .last) (v .slot) (v .left - 1) (time .get322 .result) (begun .get32 .result) (time .get322 .ensures) top (plain .entry-plain .result) (made .entry-made .result) (plain .entry-plain .ensures) (not-false _ (made .before .if1 .left)) (made .entry-made .ensures) (not-true _ (c .if2 .taken)))
+    ∙ entry-unmade s (a .n) (v .last) (v .slot) (v .left - 1) (time .get322 .result) (begun .get32 .result) (isInner (planOf s) (a .n)) (plain .entry-plain .result) true (time .get322 .ensures) top refl (plain .entry-plain .ensures) (later-fits s (a .n) (isInner (planOf s) (a .n)) (plain .entry-plain .result) (v .last) (time .get322 .result) (begun .get32 .result) (getD s (v .slot + 22) 0) (not-false _ (made .before .if1 .left))) (made .entry-made .result) refl (made .entry-made .ensures) (not-true _ (c .if2 .taken)))
 
 loop-again : tie.Need-loop-again Inv-loop μ-loop
 loop-again c =
@@ -100,7 +101,7 @@ loop-again c =
       same =
           v .inv .same
           ∙ ap (λ (k : ℕ). logPass s (a .n) (v .last) (v .slot) k) (sym more)
-          ∙ entry-more s (a .n) (v .last) (v .slot) (v .left - 1) (time .get322 .result) (begun .get32 .result) (time .get322 .ensures) top (plain .entry-plain .result) (made .entry-made .result) (plain .entry-plain .ensures) (not-false _ (made .before .if1 .left)) (made .entry-made .ensures) (not-false _ (c .if2 .left));
+          ∙ entry-more s (a .n) (v .last) (v .slot) (v .left - 1) (time .get322 .result) (begun .get32 .result) (isInner (planOf s) (a .n)) (plain .entry-plain .result) true (time .get322 .ensures) top refl (plain .entry-plain .ensures) (later-fits s (a .n) (isInner (planOf s) (a .n)) (plain .entry-plain .result) (v .last) (time .get322 .result) (begun .get32 .result) (getD s (v .slot + 22) 0) (not-false _ (made .before .if1 .left))) (made .entry-made .result) refl (made .entry-made .ensures) (not-false _ (c .if2 .left));
     }
 
 returns-3 : tie.Need-returns-3 Inv-loop μ-loop
@@ -126,6 +127,7 @@ entries-ok-spec =
     (λ c. omega arith)
     get32-requires-2
     entry-plain-requires
+    entries-on-requires
     returns
     entry-made-requires
     returns-2

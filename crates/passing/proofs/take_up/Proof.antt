@@ -50,13 +50,13 @@ add-t21 c =
     let inside : at .channel-of .result .sender < planNodes (a .s .now) = rw (at .channel-of .ensures) (sender-inside (a .s .now) (a .b) (on-channel (at-lane u (start .pre .below)))) in
     omega (arith, inside, u .holds .ready .nodes)
 
-add-log-made : tie.Need-add-log-made
-add-log-made c =
+add-log-taken : tie.Need-add-log-taken
+add-log-taken c =
     let start = c .before .before .before .before .before .before .before .before .before .before .before .before .before .before .before .before .before in
     omega (arith, start .pre .below, start .pre .undamaged .holds .ready .channels)
 
-log-made-requires : tie.Need-log-made-requires
-log-made-requires c κs =
+log-taken-requires : tie.Need-log-taken-requires
+log-taken-requires c κs =
     let gone = c .before .before .before .before .before .before in
     let m = gone .before .before .first-of in
     let logs = gone .before .before .before .before .before in
@@ -89,11 +89,11 @@ returns-2 c =
     let q = laneAt l (a .b) .queue in
     let first = first-is q (messageIs (m .result)) (start .pre .waiting) (m .ensures) in
     let is : n .index .result ≡ receiverOf l (a .b) = n .index .ensures .0 ∙ ap (λ (d : Channel). d .receiver) (at .channel-of .ensures) ∙ rw (line-plan (a .s .now)) in
-    take-done (a .s .now) (a .b) (start .pre) (done .log-made .last .0) (messageIs (m .result)) (drop 1 q)
+    take-done (a .s .now) (a .b) (start .pre) (done .log-taken .last .0) (messageIs (m .result)) (drop 1 q)
     (rw (← is) (omega (arith, logs .log-count .ensures .0, gone .before .before .before .before .if1 .left)))
     first
     (taken-up (a .s .now) (gone .take-first .last .0) (a .b) (messageIs (m .result)) (drop 1 q) (gone .take-first .ensures (drop 1 q) first)
-    (done .log-made .last .0) (at .channel-of .result) (n .index .result) (what .result) (at .channel-of .ensures) (n .index .ensures .0) (what .ensures) (done .log-made .ensures))
+    (done .log-taken .last .0) (at .channel-of .result) (n .index .result) (what .result) (at .channel-of .ensures) (n .index .ensures .0) (what .ensures) (done .log-taken .ensures))
 
 pub take-up-spec : {M : Type 1} → statement M
 take-up-spec =
@@ -108,7 +108,7 @@ take-up-spec =
     (λ c κs. search needs)
     made-by-requires
     add-t21
-    add-log-made
-    log-made-requires
+    add-log-taken
+    log-taken-requires
     (λ c. search needs)
     returns-2)

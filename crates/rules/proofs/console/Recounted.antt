@@ -6,6 +6,7 @@ use lib.Dec.{leb}
 use mathlib.Core.List.{List, [], _∷_, _++_, map}
 use mathlib.Core.Option.{Option, none, some, Option·map}
 use Rattle.plan.specs.declared.Record.{Record}
+use Rattle.plan.specs.Record.{recordLayout}
 use Rattle.plan.specs.Plan.{entering, leaving}
 use Rattle.plan.specs.Mask.{setOf}
 use Rattle.placing.specs.Item.{Item}
@@ -13,9 +14,9 @@ use Rattle.rules.specs.Lists.{allOf, joined, isEmpty}
 use Rattle.rules.specs.Line.{Origin, fed, made, Message, Entry, Held, Target, Asked, Lane, Line, nodeAt, laneAt, senderOf, receiverOf, parents, withNode, withLane, withLanes}
 use Rattle.rules.specs.Frame.{Frame, feed, send, take, crash, recover, trim, ask, commit}
 use Rattle.rules.specs.Recover.{lowOf, highOf, restored, targetsOf, conflict, rowsComplete, restoredTo, recovered, beside, committed}
-use Rattle.rules.specs.Replay.{passedOn, isHeld, heldByRow, itemOf, itemsByRow, placing, nodePlaced, replayEnd, endedIfComplete}
+use Rattle.rules.specs.Replay.{passedOn, timed, isHeld, heldByRow, itemOf, itemsByRow, placing, nodePlaced, replayEnd, endedIfComplete}
 use Rattle.rules.specs.Trim.{floorTime, senderBelow, droppable, leading, behind, lowRaised, withLog, trimmedLine}
-use Rattle.rules.specs.Step.{someStopped, isNothing, noSuch, wrongNode, wrongStatus, besideCrashed, noAnswer, badRecord, sendable, nothingThere, queueFull, rowDone, firstRecord, toHold, takeLacks, noSpace, replaying, madeBy, sentLine, takenUp, takenReplaying, takenLane, takenFirst, crashedLine, recoveredLine, askedLine, committedBy, committedLine, effect, noPlacing, lineRefusal}
+use Rattle.rules.specs.Step.{someStopped, isNothing, noSuch, wrongNode, wrongStatus, besideCrashed, noAnswer, badRecord, sendable, nothingThere, queueFull, rowDone, firstRecord, toHold, takeLacks, noSpace, replaying, madeBy, sentLine, takenUp, takenReplaying, takenLane, takenFirst, crashedLine, recoveredLine, askedLine, committedBy, committedLine, effect, noPlacing, lineRefusal, fedLine}
 use Rattle.rules.proofs.theorem.Accepted.{firstOf}
 
 -- A choice between two things, taken before a function is applied or after.
@@ -138,9 +139,13 @@ module _ (newer : ℕ → ℕ) (counts : List ℕ) where
   sent-recounted b none l = refl
   sent-recounted b (some e) l = refl
 
+  fed-recounted : (n : ℕ) (r : List ℕ) (l : Line) → fedLine n r (reheaded newer counts l) ≡ reheaded newer counts (fedLine n r l)
+  unfolding fedLine timed passedOn
+  fed-recounted n r l = either (reheaded newer counts) (timed (l .plan) n (madeBy l n (recordLayout .read r))) refl refl
+
   pub effect-recounted : (l : Line) (f : Frame) → effect (reheaded newer counts l) f ≡ Option·map (reheaded newer counts) (effect l f)
   unfolding effect setOf
-  effect-recounted l (feed n r) = refl
+  effect-recounted l (feed n r) = ap some (fed-recounted n r l)
   effect-recounted l (send b) = ap some (sent-recounted b (sendable l b) l)
   effect-recounted l (take b) = taken-recounted b (laneAt l b .queue) l
   effect-recounted l (crash n) = ap some (crashed-recounted n l)
@@ -163,7 +168,7 @@ module _ (newer : ℕ → ℕ) (counts : List ℕ) where
   hold-recounted l n (some r) = refl
 
   space-recounted : (l : Line) (f : Frame) → noSpace (reheaded newer counts l) f ≡ noSpace l f
-  unfolding takeLacks targetsOf
+  unfolding takeLacks targetsOf timed passedOn
   space-recounted l (feed n r) = refl
   space-recounted l (send b) = refl
   space-recounted l (take b) = rw (hold-recounted l (receiverOf l b) (firstRecord (laneAt l b .queue)))

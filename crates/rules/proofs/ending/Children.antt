@@ -17,6 +17,7 @@ use Rattle.rules.specs.Replay.{passedOn}
 use Rattle.rules.proofs.lists.Rising.{until}
 use Rattle.rules.proofs.lists.Members.{In, in-none, in-keep, keep-in, in-map, map-in, in-left, in-right, append-in, greatest-in}
 use Rattle.rules.proofs.histories.Witness.{Taken}
+use Rattle.rules.proofs.histories.Passing.{hasEntry}
 use Rattle.rules.proofs.histories.Ghost.{Event, tookAt, Ghost, inputOf, entryOf, sentOf, takesMessage, put, got}
 use Rattle.rules.proofs.invariant.Inv.{timeOf, Ordered, targetFrom, Reached, UnmarkedEnd, lowOn, Logged}
 use Rattle.rules.proofs.invariant.InvLaws.{took-enters, reached-goes}
@@ -93,7 +94,7 @@ module _ (l : Line) (g : Ghost) (n : ℕ) (ordered : Ordered (l .plan)) (own : T
       let k : ℕ = channelAt (l .plan) c .receiver in
       let logs = children c h s .logs in
       let (e, w, q) = map-in (entryOf (l .plan) k) (logs .kept) (subst (λ (log : List Entry). In d log) (logs .log-is) i) in
-      let j : In e (g k) = subst (λ (es : List Event). In e es) (sym (logs .split)) (in-right (logs .gone) w) in
+      let (j, _) = keep-in (hasEntry (l .plan) k) (g k) (subst (λ (es : List Event). In e es) (sym (logs .split)) (in-right (logs .gone) w)) in
       let from = taken-event (l .plan) k (g k) (children c h s .took) j in
       let x : Message = from .message in
       let is : d ≡ entryOf (l .plan) k (tookAt (from .channel) x (from .time)) = q ∙ ap (entryOf (l .plan) k) (from .is) in
@@ -128,7 +129,7 @@ module _ (l : Line) (g : Ghost) (n : ℕ) (ordered : Ordered (l .plan)) (own : T
       let x : Message = sentOf (l .plan) n (tookAt b m t) in
       let (at, j) = got-in (l .plan) g c x (reached-got b m t i r) in
       let logs = children c (r .on-plan) (r .leaves) .logs in
-      elim (append-in (logs .gone) (subst (λ (es : List Event). In (tookAt c x at) es) (logs .split) j)) [
+      elim (append-in (logs .gone) (subst (λ (es : List Event). In (tookAt c x at) es) (logs .split) (in-keep (hasEntry (l .plan) k) j refl))) [
         | inl w ↦ inr (
           low-reached (λ d h s. logs .input-reached c x at w d (h, s ∙ sym (r .leaves)) (children d h s .unmarked)) (r .on-plan) (r .leaves),
           subst (λ (a : ℕ). m .time ≤ lowThrough l a (channelAt (l .plan) b .sender) (r .channel)) (r .leaves) (logs .low-of c (r .on-plan, refl) x at w (channelAt (l .plan) b .sender) (m .time) (subst (λ (a : ℕ). In (channelAt (l .plan) b .sender) (parents (l .plan) a)) (sym (r .leaves)) (is-parent b m t i)) refl),
@@ -171,7 +172,7 @@ module _ (l : Line) (g : Ghost) (n : ℕ) (ordered : Ordered (l .plan)) (own : T
             elim (logs .low-from c (on, refl) a) [
               | inl z ↦ inl (is ∙ z)
               | inr (x, at, w, made-of) ↦
-                  (let event : In (tookAt c x at) (g (channelAt (l .plan) c .receiver)) = subst (λ (es : List Event). In (tookAt c x at) es) (sym (logs .split)) (in-left (logs .kept) w) in
+                  (let event : In (tookAt c x at) (g (channelAt (l .plan) c .receiver)) = keep-in (hasEntry (l .plan) (channelAt (l .plan) c .receiver)) (g (channelAt (l .plan) c .receiver)) (subst (λ (es : List Event). In (tookAt c x at) es) (sym (logs .split)) (in-left (logs .kept) w)) .0 in
                   let by = sent-by c on leaves x (in-got (l .plan) g c x at event) in
                   let (sender, time) = made-parts (sym made-of ∙ ap (λ (y : Message). y .origin) (by .is)) in
                   let (on-plan, into) = took-enters (g n) (by .channel) (by .message) (by .time) own (by .event) in

@@ -23,7 +23,7 @@ use Rattle.rules.proofs.lists.Members.{In}
 use Rattle.rules.proofs.histories.PlainRun.{receiptsIn}
 use Rattle.rules.proofs.histories.Witness.{Taken}
 use Rattle.rules.proofs.histories.Ghost.{Event, Ghost, inputOf, entryOf, sentOf, takesMessage, put, got, gotOf, put-same, got-same, logPut}
-use Rattle.rules.proofs.histories.Passing.{passing}
+use Rattle.rules.proofs.histories.Passing.{passing, recorded}
 use Rattle.rules.proofs.invariant.Inv.{timeOf, isUp, Enters, Leaves, Nodes, Channels, Events, Ends, Replays, logPassing, Room, Inv}
 use Rattle.rules.proofs.invariant.InvLaws.{up-not-replay, replay-not-down, replay-marked, marked-took, ends-up}
 use Rattle.rules.proofs.invariant.MarkedLaws.{sender-other, receiver-other, parent-up, child-unmarked, child-up}
@@ -236,7 +236,7 @@ module _ (l : Line) (g : Ghost) (cut base : ℕ → ℕ) (fed : List Act) (recei
         ordered = inv .ordered;
         marks = marks-beside l steps nodes (l .lanes) n still-marked other crashes marked (inv .marks);
         nodes = rebuild-nodes;
-        logs = λ m e. logged-stays l steps nodes (l .lanes) rebuild-grows g ghostAfter m e (other m (other-unmarked m e)) (ghost-other m (other-unmarked m e)) (inv .logs m (unmarked-was m e));
+        logs = λ m e. logged-stays l steps nodes (l .lanes) rebuild-grows g ghostAfter m e (other m (other-unmarked m e)) (ap (recorded (l .plan) m) (ghost-other m (other-unmarked m e))) (inv .logs m (unmarked-was m e));
         events = rebuild-events;
         channels = λ c h. channels-beside l steps nodes (l .lanes) g ghostAfter n other (λ x d e. refl) got-other c h cut cutAfter (cut-other c) (put-other c) (channel-enters c) (channel-leaves c) (inv .channels c h);
         ends = λ c h. ends-beside l steps nodes (l .lanes) g ghostAfter n other (λ x d e. refl) got-other c h (ends-enters c) (ends-leaves c) (inv .ends c h);

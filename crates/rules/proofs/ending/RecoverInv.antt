@@ -147,7 +147,7 @@ module _ (l : Line) (g : Ghost) (cut base : ℕ → ℕ) (fed : List Act) (recei
       (let past-it = sender .restored-past e i b (h .0, refl) (ap (isSink (l .plan)) (h .1) ∙ inv .marks .between n marked .1) (λ c z. child-unmarked inv n marked c (z .0, z .1 ∙ h .1)) in
       omega (arith, past-it, taken-enters b h, ap (λ (x : ℕ). restored l x (channelAt (l .plan) b .sender)) (h .1))) in
       let logs : past timeOf (laneAt r b .taken) (logPut r b) ≡ past timeOf (laneAt r b .taken) (put (l .plan) g b) =
-      ap (λ (x : Node). past timeOf (laneAt r b .taken) (keep (takesMessage (l .plan) b) (map messageOf (x .log)))) node ∙ log-late l g b (laneAt r b .taken) sender early in
+      ap (λ (x : Node). past timeOf (laneAt r b .taken) (keep (takesMessage (l .plan) b) (map messageOf (x .log)))) node ∙ log-late l g b (h .0) (laneAt r b .taken) sender early in
       let time : nodeAt r (channelAt (l .plan) b .sender) .time ≡ nodeAt l (channelAt (l .plan) b .sender) .time = ap (λ (x : Node). x .time) node in
       let entry = taken-enters b h in
       let mark : laneAt r b .mark ≡ restored l n (channelAt (l .plan) b .sender) = ap (λ (x : Lane). x .mark) (lane-enters b h) in

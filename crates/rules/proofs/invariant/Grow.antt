@@ -1,6 +1,6 @@
 -- A channel whose sender is up: its sender logs or sends one more message, or its receiver takes one.
 use Prim.Native.Nat.{ℕ, _<_, _≤_}
-use mathlib.Core.Path.{_≡_, sym, ap, subst, _∙_}
+use mathlib.Core.Path.{_≡_, refl, sym, ap, subst, _∙_}
 use mathlib.Core.Bool.{Bool, true, false}
 use mathlib.Core.List.{List, [], _∷_, _++_}
 use native.Mathlib.Omega.{arith}
@@ -11,44 +11,45 @@ use Rattle.rules.proofs.lists.Rising.{until, past, Rises, Within, rises
 use lib.Dec.{leb}
 use Rattle.rules.proofs.invariant.Inv.{timeOf, SenderUp}
 
--- One message more or none at the end, later than all.
-module _ (t : Bool) (m : Message) {xs : List Message} {k : ℕ} (w : Within timeOf k xs) (late : k < m .time) where
-  pub rises-more : Rises timeOf 0 xs → Rises timeOf 0 (xs ++ keepOne t m [])
-  rises-more r = one t
+-- One message more or none at the end; if there is one, it is later than all.
+module _ (t : Bool) (m : Message) {xs : List Message} {k : ℕ} (w : Within timeOf k xs) where
+  pub rises-more : (t ≡ true → k < m .time) → Rises timeOf 0 xs → Rises timeOf 0 (xs ++ keepOne t m [])
+  rises-more late r = one t late
     where
-      one : (b : Bool) → Rises timeOf 0 (xs ++ keepOne b m [])
-      one true = rises-snoc timeOf m (omega arith) w late r
-      one false = subst (λ (ys : List Message). Rises timeOf 0 ys) (sym (nil-right xs)) r
+      one : (b : Bool) → (b ≡ true → k < m .time) → Rises timeOf 0 (xs ++ keepOne b m [])
+      one true h = let above = h refl in rises-snoc timeOf m (omega arith) w above r
+      one false h = subst (λ (ys : List Message). Rises timeOf 0 ys) (sym (nil-right xs)) r
 
-  pub within-more : Within timeOf (m .time) (xs ++ keepOne t m [])
-  within-more = one t
+  pub within-more : {top : ℕ} → k ≤ top → m .time ≤ top → Within timeOf top (xs ++ keepOne t m [])
+  within-more {top} higher last = one t
     where
-      one : (b : Bool) → Within timeOf (m .time) (xs ++ keepOne b m [])
-      one true = within-snoc timeOf m (omega arith) (within-higher timeOf (omega arith) w)
-      one false = subst (λ (ys : List Message). Within timeOf (m .time) ys) (sym (nil-right xs)) (within-higher timeOf (omega arith) w)
+      one : (b : Bool) → Within timeOf top (xs ++ keepOne b m [])
+      one true = within-snoc timeOf m last (within-higher timeOf higher w)
+      one false = subst (λ (ys : List Message). Within timeOf top ys) (sym (nil-right xs)) (within-higher timeOf higher w)
 
-pub until-more : (t : Bool) (m : Message) (xs : List Message) (j : ℕ) → j < m .time → until timeOf j (xs ++ keepOne t m []) ≡ until timeOf j xs
-until-more true m xs j l = until-snoc timeOf xs m l
-until-more false m xs j l = ap (until timeOf j) (nil-right xs)
+pub until-more : (t : Bool) (m : Message) (xs : List Message) (j : ℕ) → (t ≡ true → j < m .time) → until timeOf j (xs ++ keepOne t m []) ≡ until timeOf j xs
+until-more true m xs j h = until-snoc timeOf xs m (h refl)
+until-more false m xs j h = ap (until timeOf j) (nil-right xs)
 
-past-more : (t : Bool) (m : Message) (xs : List Message) (j : ℕ) → j < m .time → past timeOf j (xs ++ keepOne t m []) ≡ past timeOf j xs ++ keepOne t m []
-past-more true m xs j l = past-snoc timeOf xs m l
-past-more false m xs j l = ap (past timeOf j) (nil-right xs) ∙ sym (nil-right (past timeOf j xs))
+past-more : (t : Bool) (m : Message) (xs : List Message) (j : ℕ) → (t ≡ true → j < m .time) → past timeOf j (xs ++ keepOne t m []) ≡ past timeOf j xs ++ keepOne t m []
+past-more true m xs j h = past-snoc timeOf xs m (h refl)
+past-more false m xs j h = ap (past timeOf j) (nil-right xs) ∙ sym (nil-right (past timeOf j xs))
 
--- The sender logs one more event, later than its time: a channel that takes its message, or not.
-pub sender-grows : (t : Bool) (m : Message) {time : ℕ} {lane : Lane} {log puts : List Message} {cut : ℕ} {receiving : Type 0} → time < m .time
+-- The sender logs one more event, not before its time, and later if a channel takes its message.
+pub sender-grows : (t : Bool) (m : Message) {time : ℕ} {lane : Lane} {log puts : List Message} {cut : ℕ} {receiving : Type 0} → time ≤ m .time → (t ≡ true → time < m .time)
     → SenderUp time lane log puts cut receiving → SenderUp (m .time) lane (log ++ keepOne t m []) (puts ++ keepOne t m []) cut receiving
-sender-grows t m {time} {lane} {log} {puts} late s =
+sender-grows t m {time} {lane} {log} {puts} later late s =
+    let past-taken : t ≡ true → lane .taken < m .time = λ h. omega (arith, s .taken-within, late h) in
     record {
-      within = within-more t m (s .within) late;
+      within = within-more t m (s .within) later (omega arith);
       cut-within = omega (arith, s .cut-within);
       taken-within = omega (arith, s .taken-within);
-      to-come = λ r. past-more t m log (lane .taken) (omega (arith, s .taken-within)) ∙ ap (λ (x : List Message). x ++ keepOne t m []) (s .to-come r) ∙ sym (past-more t m puts (lane .taken) (omega (arith, s .taken-within)));
+      to-come = λ r. past-more t m log (lane .taken) past-taken ∙ ap (λ (x : List Message). x ++ keepOne t m []) (s .to-come r) ∙ sym (past-more t m puts (lane .taken) past-taken);
       queue = λ r.
           (let (a, b, c) = s .queue r in (
             a,
             omega arith,
-            c ∙ sym (ap (until timeOf (lane .mark)) (past-more t m log (lane .taken) (omega (arith, s .taken-within))) ∙ until-more t m (past timeOf (lane .taken) log) (lane .mark) (omega arith)),
+            c ∙ sym (ap (until timeOf (lane .mark)) (past-more t m log (lane .taken) past-taken) ∙ until-more t m (past timeOf (lane .taken) log) (lane .mark) (λ h. omega (arith, late h))),
           ));
     }
 

@@ -22,7 +22,7 @@ use Rattle.rules.proofs.histories.PlainRun.{receiptsIn}
 use Rattle.rules.proofs.histories.Witness.{fedOnto, noInputs, Feeds, Taken}
 use Rattle.rules.proofs.histories.Ghost.{Event, fedAt, tookAt, Ghost, eventTime, entryOf, inputOf, put, got, logPut}
 use Rattle.rules.proofs.lists.Members.{In}
-use Rattle.rules.proofs.histories.Passing.{passing, goesOn, heldOf}
+use Rattle.rules.proofs.histories.Passing.{passing, goesOn, heldOf, recorded}
 
 abbrev pub timeOf : Message → ℕ
 timeOf m = m .time
@@ -138,12 +138,12 @@ UnmarkedChildren l n = (c : ℕ) → Leaves (l .plan) n c → UnmarkedEnd l c
 abbrev pub lowOn : Line → ℕ → ℕ → ℕ
 lowOn l b a = lowThrough l (channelAt (l .plan) b .sender) a b
 
--- The log of a node that never crashed: the entries of its events without the first ones, which are gone.
+-- The log of a node that never crashed: the entries of its events that have one, without the first ones, which are gone.
 -- A gone event has reached every child that never crashed; were a child to crash, it would be restored past the event; and its input has reached every child of its sender that never crashed.
 pub record Logged (l : Line) (g : Ghost) (n : ℕ) : Type 0 where
   pub gone : List Event
   pub kept : List Event
-  pub split : g n ≡ gone ++ kept
+  pub split : recorded (l .plan) n (g n) ≡ gone ++ kept
   pub log-is : nodeAt l n .log ≡ map (entryOf (l .plan) n) kept
   pub reached : (e : Event) → In e gone → (c : ℕ) → Leaves (l .plan) n c → UnmarkedEnd l c → eventTime e ≤ laneAt l c .taken
   pub restored-past : (e : Event) → In e gone → (c : ℕ) → Leaves (l .plan) n c → isSink (l .plan) (channelAt (l .plan) c .receiver) ≡ false → UnmarkedChildren l (channelAt (l .plan) c .receiver) → eventTime e ≤ restored l (channelAt (l .plan) c .receiver) n

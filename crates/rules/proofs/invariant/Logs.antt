@@ -1,6 +1,6 @@
 -- The logs of nodes that never crashed: what keeps them at a step, and what they still hold.
 use Prim.Native.Nat.{ℕ, _<_, _≤_}
-use mathlib.Core.Path.{_≡_, sym, ap, subst, _∙_}
+use mathlib.Core.Path.{_≡_, sym, ap, subst, _∙_, refl}
 use mathlib.Core.Logic.{_⊎_, inl, inr}
 use mathlib.Core.Bool.{Bool, false}
 use mathlib.Core.List.{List, [], _++_, map, map-map, append-assoc}
@@ -17,6 +17,7 @@ use Rattle.rules.proofs.lists.Rising.{past, Within, past-none}
 use Rattle.rules.proofs.lists.Members.{In, keep-in, map-in, within-by}
 use Rattle.rules.proofs.histories.Ghost.{Event, Ghost, eventTime, entryOf, sentOf, takesMessage, put, logPut}
 use Rattle.rules.proofs.ending.Targets.{in-triples-at, triples-at-in, low-below, low-above, low-restored, triple-restored, restored-cases}
+use Rattle.rules.proofs.histories.Passing.{recorded, recorded-put}
 use Rattle.rules.proofs.invariant.Inv.{timeOf, Enters, Leaves, UnmarkedChildren, Logged}
 use Rattle.rules.proofs.invariant.Stays.{moved}
 
@@ -69,7 +70,7 @@ module _ (l : Line) (steps : List ℕ) (nodes : List Node) (lanes : List Lane) w
     children-were c f d h = grows .marks (channelAt (l .plan) d .receiver) (f d h)
 
     -- The node's log may grow by more events.
-    pub logged-by : (more : List Event) → nodeAt k n .log ≡ nodeAt l n .log ++ map (entryOf (l .plan) n) more → g′ n ≡ g n ++ more → Logged l g n → Logged k g′ n
+    pub logged-by : (more : List Event) → nodeAt k n .log ≡ nodeAt l n .log ++ map (entryOf (l .plan) n) more → recorded (l .plan) n (g′ n) ≡ recorded (l .plan) n (g n) ++ more → Logged l g n → Logged k g′ n
     logged-by more log events was =
         record {
           gone = was .gone;
@@ -86,20 +87,20 @@ module _ (l : Line) (steps : List ℕ) (nodes : List Node) (lanes : List Lane) w
           low-of = λ b h m t i a u j q. rw (low-same b h) (was .low-of b h m t i a u j q);
         }
 
-    pub logged-stays : nodeAt k n ≡ nodeAt l n → g′ n ≡ g n → Logged l g n → Logged k g′ n
-    logged-stays same events = logged-by [] (ap (λ (x : Node). x .log) same ∙ sym (nil-right (nodeAt l n .log))) (events ∙ sym (nil-right (g n)))
+    pub logged-stays : nodeAt k n ≡ nodeAt l n → recorded (l .plan) n (g′ n) ≡ recorded (l .plan) n (g n) → Logged l g n → Logged k g′ n
+    logged-stays same events = logged-by [] (ap (λ (x : Node). x .log) same ∙ sym (nil-right (nodeAt l n .log))) (events ∙ sym (nil-right (recorded (l .plan) n (g n))))
 
 -- Past a time that no gone event is past, the log holds all that the node put on a channel.
-pub log-late : (l : Line) (g : Ghost) (c t : ℕ) (s : Logged l g (channelAt (l .plan) c .sender)) → ((e : Event) → In e (s .gone) → eventTime e ≤ t) → past timeOf t (logPut l c) ≡ past timeOf t (put (l .plan) g c)
+pub log-late : (l : Line) (g : Ghost) (c : ℕ) → c < channelCount (l .plan) → (t : ℕ) (s : Logged l g (channelAt (l .plan) c .sender)) → ((e : Event) → In e (s .gone) → eventTime e ≤ t) → past timeOf t (logPut l c) ≡ past timeOf t (put (l .plan) g c)
 unfolding logPut put
-log-late l g c t s early =
+log-late l g c on-plan t s early =
     let n = channelAt (l .plan) c .sender in
     let fits = takesMessage (l .plan) c in
     let made = sentOf (l .plan) n in
     let log : keep fits (map messageOf (nodeAt l n .log)) ≡ keep fits (map made (s .kept)) =
     ap (λ (x : List Entry). keep fits (map messageOf x)) (s .log-is) ∙ ap (keep fits) (map-map messageOf (entryOf (l .plan) n) (s .kept)) in
     let puts : keep fits (map made (g n)) ≡ keep fits (map made (s .gone)) ++ keep fits (map made (s .kept)) =
-    ap (λ (x : List Event). keep fits (map made x)) (s .split) ∙ ap (keep fits) (map-append made (s .gone) (s .kept)) ∙ keep-append fits (map made (s .gone)) (map made (s .kept)) in
+    sym (recorded-put (l .plan) n c on-plan refl (g n)) ∙ ap (λ (x : List Event). keep fits (map made x)) (s .split) ∙ ap (keep fits) (map-append made (s .gone) (s .kept)) ∙ keep-append fits (map made (s .gone)) (map made (s .kept)) in
     let within : Within timeOf t (keep fits (map made (s .gone))) = within-by timeOf (keep fits (map made (s .gone)))
     (λ x i. (let (j, _) = keep-in fits (map made (s .gone)) i in let (e, k, q) = map-in made (s .gone) j in subst (λ (y : Message). y .time ≤ t) (sym q) (early e k))) in
     ap (past timeOf t) log

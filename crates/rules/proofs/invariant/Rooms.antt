@@ -1,5 +1,5 @@
 -- The space of a crashed node: what keeps it, and the counts behind it.
-use Prim.Native.Nat.{ℕ, suc, _+_, _<_, _≤_}
+use Prim.Native.Nat.{ℕ, _+_, _<_, _≤_}
 use mathlib.Core.Path.{_≡_, refl, sym, ap, subst, _∙_}
 use mathlib.Core.Bool.{Bool, true, false, _&&_, true≢false}
 use mathlib.Core.List.{List, [], _∷_, _++_, map}
@@ -19,7 +19,7 @@ use Rattle.rules.proofs.lists.Rising.{past}
 use Rattle.rules.proofs.lists.Members.{In, there}
 use Rattle.rules.proofs.lists.Counts.{keep-short, keep-fewer}
 use Rattle.rules.proofs.histories.Witness.{Taken}
-use Rattle.rules.proofs.histories.Ghost.{Event, fedAt, tookAt, Ghost, eventTime, entryOf, inputOf, sentOf, later, later-there, later-else}
+use Rattle.rules.proofs.histories.Ghost.{Event, fedAt, tookAt, Ghost, entryOf, inputOf, sentOf, later, later-there, later-else}
 use Rattle.rules.proofs.histories.Passing.{passing, passing-append, goesOn}
 use Rattle.rules.proofs.line.LineLaws.{node-there, node-else}
 use Rattle.rules.proofs.invariant.Inv.{timeOf, isUp, Enters, Leaves, logPassing, HasRoom, waits, takens, Room}
@@ -118,7 +118,7 @@ room-more p n least es log e was =
     ap (keep late) (passing-append p n es (e ∷ [])) ∙ keep-append late (passing p n es) last ∙ ap (λ (x : List Message). x ++ keep late last) was
     ∙ sym (ap (λ (x : List Message). keep late (keep goes x)) (map-append messageOf log (entryOf p n e ∷ [])) ∙ ap (keep late) (keep-append goes (map messageOf log) (sentOf p n e ∷ [])) ∙ keep-append late (logPassing p n log) last)
 
-module _ (l : Line) (n : ℕ) (e : Event) (there : n < length (l .nodes)) (alive : isUp l n) (own : eventTime e ≡ suc (nodeAt l n .time)) where
+module _ (l : Line) (n : ℕ) (e : Event) (there : n < length (l .nodes)) (alive : isUp l n) where
   abbrev after : Line
   after = withNode n (nodeLogs l n e) l
 
@@ -135,7 +135,7 @@ module _ (l : Line) (n : ℕ) (e : Event) (there : n < length (l .nodes)) (alive
             (let status : nodeAt after m .status ≡ up = ap (λ (x : ℕ). nodeAt after x .status) q ∙ ap (λ (x : Node). x .status) logged-now ∙ alive in
             let was : nodeAt l m .status ≡ up = ap (λ (x : ℕ). nodeAt l x .status) q ∙ alive in
             let old : past timeOf (r .least) (passing (l .plan) m (g m)) ≡ past timeOf (r .least) (logPassing (l .plan) m (nodeAt l m .log)) = rw was at (r .few) in
-            let log : nodeAt after m .log ≡ nodeAt l m .log ++ entryOf (l .plan) m e ∷ [] = subst (λ (x : ℕ). nodeAt after x .log ≡ nodeAt l x .log ++ entryOf (l .plan) x e ∷ []) (sym q) (log-there l n e there own) in
+            let log : nodeAt after m .log ≡ nodeAt l m .log ++ entryOf (l .plan) m e ∷ [] = subst (λ (x : ℕ). nodeAt after x .log ≡ nodeAt l x .log ++ entryOf (l .plan) x e ∷ []) (sym q) (log-there l n e there) in
             record {
               least = r .least;
               below = r .below;

@@ -22,7 +22,7 @@ use Rattle.rules.proofs.lists.Rising.{past, Within, past-none}
 use Rattle.rules.proofs.lists.ListLaws.{keep-append}
 use Rattle.rules.proofs.lists.Members.{In, keep-in, map-in, within-by}
 use Rattle.rules.proofs.histories.Ghost.{Event, Ghost, entryOf, sentOf, put, logPut}
-use Rattle.rules.proofs.histories.Passing.{passing, passing-append}
+use Rattle.rules.proofs.histories.Passing.{passing, passing-append, taken-recorded}
 use Rattle.rules.proofs.ending.Targets.{low-below, low-above}
 use Rattle.rules.proofs.invariant.Inv.{Inv, isUp, named, timeOf, Enters, Leaves, Marks, Channels, Ends, Replays, Room}
 use Rattle.rules.proofs.invariant.InvLaws.{up-not-down, replay-not-down, if-marked, replay-marked, marked-took, ends-up}
@@ -176,7 +176,7 @@ module _ (l : Line) (g : Ghost) (cut base : ℕ → ℕ) (fed : List Act) (recei
           let (d, k, q) = map-in (sentOf (l .plan) n) (s .gone) j in
           subst (λ (y : Message). y .time ≤ low) (sym q) (low-above l n no-sink (λ c h z. s .reached d k c (h, z) (children c (h, z)))))) in
           let late : past timeOf low (passing (l .plan) n (g n)) ≡ past timeOf low (passing (l .plan) n (s .kept)) =
-          ap (λ (x : List Event). past timeOf low (passing (l .plan) n x)) (s .split) ∙ ap (past timeOf low) (passing-append (l .plan) n (s .gone) (s .kept))
+          ap (λ (x : List Event). past timeOf low (passing (l .plan) n x)) (sym (taken-recorded (l .plan) n n (g n) (inv .nodes .others n no-source .1)) ∙ s .split) ∙ ap (past timeOf low) (passing-append (l .plan) n (s .gone) (s .kept))
           ∙ keep-append (λ (m : Message). ltb (lowOf l n) (m .time)) (passing (l .plan) n (s .gone)) (passing (l .plan) n (s .kept))
           ∙ ap (λ (x : List Message). x ++ past timeOf low (passing (l .plan) n (s .kept))) (past-none timeOf early) in
           given low (λ c h. low-below l n c (h .0) (h .1)) (rw late (omega (arith, passing-short (l .plan) n low (s .kept), ap length (s .log-is), length-map (s .kept) (entryOf (l .plan) n), log-few)))

@@ -1,18 +1,20 @@
 -- Take, of a node that is up, keeps the invariant: its history grows by the message, which was the next to come.
-use Prim.Native.Nat.{ℕ, suc, max, _<_, _≤_}
+use Prim.Native.Nat.{ℕ, max, _<_, _≤_}
 use mathlib.Core.Path.{_≡_, refl, sym, ap, subst, _∙_}
 use mathlib.Core.Logic.{_≢_}
-use mathlib.Core.Bool.{Bool, true≢false}
+use mathlib.Core.Bool.{Bool, true, true≢false}
 use mathlib.Core.List.{List, [], _∷_, _++_, map}
 use native.Mathlib.Omega.{arith}
 use native.Mathlib.Decide.{ℕ-discrete}
 use lib.ListN.{length}
 use borrow.Author.Tests.{eq-eqb, ne-eqb}
 use Rattle.basics.specs.Update.{changed, changed-there, changed-else}
-use Rattle.plan.specs.Plan.{channelAt, channelCount, isSource}
+use Rattle.plan.specs.Rule.{applied}
+use Rattle.plan.specs.Plan.{ruleAt, channelAt, channelCount, isSource}
 use Rattle.rules.specs.Lists.{keepOne, greatestOf}
 use Rattle.rules.specs.Line.{Message, down, replay, Node, Lane, Line, nodeAt, laneAt, withNode, withLane, parents}
 use Rattle.rules.specs.Clock.{entryFor}
+use Rattle.rules.specs.Replay.{passedOn, timeFor}
 use Rattle.rules.specs.Plain.{Act, Receipt}
 use Rattle.rules.proofs.lists.ListLaws.{map-append}
 use Rattle.rules.proofs.lists.Rising.{until, Rises}
@@ -20,7 +22,8 @@ use Rattle.rules.proofs.lists.Members.{greatest-snoc}
 use Rattle.rules.proofs.line.LineLaws.{lane-there, lane-else, node-else}
 use Rattle.rules.proofs.histories.PlainRun.{tookIn, grown, receiptsIn, taken-receipt}
 use Rattle.rules.proofs.histories.Witness.{Taken, none, more, taken-append}
-use Rattle.rules.proofs.histories.Ghost.{Event, tookAt, Ghost, inputOf, historyOf, put, got, gotOne, logPut, later, later-there, later-else, put-else, got-there}
+use Rattle.rules.proofs.histories.Ghost.{Event, tookAt, Ghost, eventTime, inputOf, sentOf, historyOf, put, got, gotOne, logPut, later, later-there, later-else, put-else, got-there}
+use Rattle.rules.proofs.histories.Passing.{time-later, time-late}
 use Rattle.rules.proofs.line.Joins.{no-source}
 use Rattle.rules.proofs.invariant.Inv.{Inv, isUp, timeOf, Enters, Leaves, Nodes, Channels, HeardFrom, heardOn, Ends, Replays}
 use Rattle.rules.proofs.invariant.InvLaws.{up-not-replay, up-not-down, ends-up, marked-took}
@@ -87,7 +90,7 @@ module _ (l : Line) (g : Ghost) (cut base : ℕ → ℕ) (fed : List Act) (recei
 
   module _ (receiver : isUp l n) (hears : (a : ℕ) → HeardMore a (parents (l .plan) (channelAt (l .plan) b .sender)) (laneAt l b .heard) heardOf (m .origin)) where
     abbrev pub event : Event
-    event = tookAt b m (suc (nodeAt l n .time))
+    event = tookAt b m (timeFor (l .plan) n (applied (ruleAt (l .plan) n) (m .what)) (nodeAt l n .time))
 
     abbrev after : Line
     after = withNode n (nodeLogs beside n event) beside
@@ -98,6 +101,14 @@ module _ (l : Line) (g : Ghost) (cut base : ℕ → ℕ) (fed : List Act) (recei
     there : n < length (beside .nodes)
     unfolding withLane
     there = rw (inv .shape .nodes-long) (inv .ordered .inside b here)
+
+    later-on : nodeAt beside n .time ≤ eventTime event
+    unfolding withLane
+    later-on = time-later (l .plan) n (applied (ruleAt (l .plan) n) (m .what)) (nodeAt l n .time)
+
+    late-on : passedOn (l .plan) n (sentOf (l .plan) n event .what) ≡ true → nodeAt beside n .time < eventTime event
+    unfolding withLane
+    late-on = time-late (l .plan) n (applied (ruleAt (l .plan) n) (m .what)) (nodeAt l n .time)
 
     apart : channelAt (l .plan) b .sender ≢ n
     apart q = omega (arith, inv .ordered .forward b here)
@@ -125,14 +136,14 @@ module _ (l : Line) (g : Ghost) (cut base : ℕ → ℕ) (fed : List Act) (recei
           cut-up = λ h. newest ∙ ap (λ (x : Lane). x .taken) (sym lane);
           sender-up = λ h.
               sender-receiving {old = nodeAt l n .status ≢ down} (λ r z. r (status-kept beside n event there n ∙ z))
-              (sender-same (ap (λ (x : Node). x .time) (sym (node-else n (nodeLogs beside n event) beside (channelAt (l .plan) b .sender) apart))) (sym lane) (sym (log-put-else beside n event there refl b apart)) (sym puts) (sym newest) s);
+              (sender-same (ap (λ (x : Node). x .time) (sym (node-else n (nodeLogs beside n event) beside (channelAt (l .plan) b .sender) apart))) (sym lane) (sym (log-put-else beside n event there later-on late-on b apart)) (sym puts) (sym newest) s);
         }
 
-    other-channel : (c : ℕ) → c ≢ b → Channels l g cut c → Channels after (later g n event) cutAfter c
+    other-channel : (c : ℕ) → c < channelCount (l .plan) → c ≢ b → Channels l g cut c → Channels after (later g n event) cutAfter c
     unfolding withLane
-    other-channel c d k =
+    other-channel c h d k =
         channel-stays after (after .steps) (after .nodes) (after .lanes) (later g n event) (later g n event) c refl refl refl refl (λ _. refl) cut cutAfter refl (changed-else cut b (m .time) c d)
-        (logging-channels beside n event there refl receiver g cut c (got-none c d) (channel-beside l g cut b c taken d k))
+        (logging-channels beside n event there later-on late-on receiver g cut c h (got-none c d) (channel-beside l g cut b c taken d k))
 
     own-ends : Ends after (later g n event) b
     unfolding withNode withLane
@@ -181,7 +192,7 @@ module _ (l : Line) (g : Ghost) (cut base : ℕ → ℕ) (fed : List Act) (recei
     take-replays k old =
         let d : k ≢ n = λ z. up-not-replay (sym receiver ∙ ap (λ (x : ℕ). nodeAt l x .status) (sym z) ∙ old) in
         replays-cut after (later g n event) cut cutAfter base k (cut-other k d)
-        (logging-replays beside n event there refl receiver g cut base k old
+        (logging-replays beside n event there later-on late-on receiver g cut base k old
         (λ c h s. rw (entering-other k old d c h) (subst (λ (x : ℕ). laneAt l c .taken ≤ nodeAt l x .time) s (inv .channels c (h .0) .sender-up (ap (λ (x : ℕ). nodeAt l x .status) s ∙ receiver) .taken-within))) (replay-beside k old d))
 
     pub take-inv : Inv (withNode n (nodeLogs beside n event) beside) (later g n event) (changed cut b (m .time)) base fed (receipts ++ record { receiver = n; what = m .what; sender = channelAt (l .plan) b .sender } ∷ []) crashes
@@ -193,8 +204,8 @@ module _ (l : Line) (g : Ghost) (cut base : ℕ → ℕ) (fed : List Act) (recei
           marks = logging-marks beside n event there crashes (marks-stay l (l .steps) (l .nodes) (beside .lanes) crashes (λ k. refl) (λ k. refl) (inv .marks));
           nodes = take-nodes;
           logs = λ k s. logging-logs beside n event there refl g k s (logged-stays l (l .steps) (l .nodes) (beside .lanes) beside-grows g g k (sym (mark-kept beside n event there k) ∙ s) refl refl (inv .logs k (sym (mark-kept beside n event there k) ∙ s)));
-          events = λ k. logging-events beside n event there refl receiver g k (events-stay l (l .steps) (l .nodes) (beside .lanes) g g k (λ _. refl) refl (inv .events k));
-          channels = λ c h. elim (ℕ-discrete c b) [ yes q ↦ subst (Channels after (later g n event) cutAfter) (sym q) own-channel | no d ↦ other-channel c d (inv .channels c h) ];
+          events = λ k. logging-events beside n event there later-on late-on receiver g k (events-stay l (l .steps) (l .nodes) (beside .lanes) g g k (λ _. refl) refl (inv .events k));
+          channels = λ c h. elim (ℕ-discrete c b) [ yes q ↦ subst (Channels after (later g n event) cutAfter) (sym q) own-channel | no d ↦ other-channel c h d (inv .channels c h) ];
           ends = λ c h. elim (ℕ-discrete c b) [
             | yes q ↦ subst (Ends after (later g n event)) (sym q) own-ends
             | no d ↦ logging-ends beside n event there g c (got-none c d) (ends-stay l (l .steps) (l .nodes) (beside .lanes) g g c refl refl (lane-else b taken l c d) refl refl (inv .ends c h))
@@ -203,5 +214,5 @@ module _ (l : Line) (g : Ghost) (cut base : ℕ → ℕ) (fed : List Act) (recei
           rooms = λ k q.
               (let old = sym (mark-kept beside n event there k) ∙ q in
               let took = marked-took (inv .marks) (inv .nodes) k old in
-              room-logs beside n event there receiver refl g k took (room-stays l (l .steps) (l .nodes) (beside .lanes) g g k refl refl took (λ c h. not-lower c) (λ c h. not-lower c) (inv .rooms k old)));
+              room-logs beside n event there receiver g k took (room-stays l (l .steps) (l .nodes) (beside .lanes) g g k refl refl took (λ c h. not-lower c) (λ c h. not-lower c) (inv .rooms k old)));
         }

@@ -22,7 +22,7 @@ use Rattle.rules.proofs.lists.ListLaws.{keep-append, map-append}
 use Rattle.rules.proofs.lists.Rising.{until, past, Within, past-none, past-past}
 use Rattle.rules.proofs.lists.Members.{In, keep-in, in-map, map-in, in-left, in-right, append-in, within-by}
 use Rattle.rules.proofs.histories.Ghost.{Event, tookAt, Ghost, entryOf, takesMessage, put, logPut}
-use Rattle.rules.proofs.histories.Passing.{passing}
+use Rattle.rules.proofs.histories.Passing.{passing, hasEntry}
 use Rattle.rules.proofs.histories.Carried.{taken-event}
 use Rattle.rules.proofs.line.Joins.{no-source}
 use Rattle.rules.proofs.ending.Targets.{in-triples-at, triples-at-in, low-below, low-above, low-same, low-restored}
@@ -211,7 +211,7 @@ module _ (l : Line) (g : Ghost) (cut base : ℕ → ℕ) (fed : List Act) (recei
       in-run e i = subst (λ (x : List Entry). In (entryOf (l .plan) n e) x) (sym run-is) (in-map (entryOf (l .plan) n) i)
 
       dropped-event : {e : Event} → In e dropped → In e (g n)
-      dropped-event {e} i = subst (λ (es : List Event). In e es) (sym (was .split)) (in-right (was .gone) (subst (λ (es : List Event). In e es) (sym (leading-behind goes (was .kept))) (in-left left i)))
+      dropped-event {e} i = keep-in (hasEntry (l .plan) n) (g n) (subst (λ (es : List Event). In e es) (sym (was .split)) (in-right (was .gone) (subst (λ (es : List Event). In e es) (sym (leading-behind goes (was .kept))) (in-left left i)))) .0
 
       from : (b : ℕ) → Enters (l .plan) n b → (a : ℕ)
           → (entryFor a (parents (l .plan) (channelAt (l .plan) b .sender)) (drop 1 (lowAfter (parents (l .plan) (senderOf l b)) (senderOf l b) (run l n) (laneAt l b .low))) ≡ 0)

@@ -19,7 +19,7 @@ use Rattle.rules.specs.Line.{logLimit, heldLimit, fed, made, Origin, Mes
 use Rattle.rules.specs.Frame.{Frame, feed, send, take, crash, recover, trim, ask, commit, frameConsole, frameOf}
 use Rattle.rules.specs.Clock.{logged, sentOn, takenFrom, raiseHeard}
 use Rattle.rules.specs.Recover.{highOf, targetsOf, conflict, rowsComplete, recovered, statusOf, answerOf}
-use Rattle.rules.specs.Replay.{passedOn, isHeld, heldByRow, itemsByRow, placing, nodePlaced, holding, replayEnd, endedIfComplete}
+use Rattle.rules.specs.Replay.{passedOn, timed, timeFor, isHeld, heldByRow, itemsByRow, placing, nodePlaced, holding, replayEnd, endedIfComplete}
 use Rattle.rules.specs.Step.{takeLacks, madeBy, toHold, firstRecord, fedLine, sentLine, takenUp, takenLane, takenReplaying, recoveredLine, asking, askedLine, effect, refusal, accepted, step}
 use Rattle.rules.specs.Plain.{Act, Receipt}
 use Rattle.rules.proofs.lists.ListLaws.{empty-none}
@@ -42,8 +42,9 @@ use Rattle.rules.proofs.theorem.StepInv.{up-or-replay, sender-gives, ta
 use Rattle.rules.proofs.theorem.Unmoved.{effect-steps}
 use Rattle.rules.specs.Trim.{droppable, lowRaised}
 use Rattle.rules.proofs.invariant.Trimmed.{leading-behind, run, rest, trimmed, trimmed-is, trimmed-node, trimmed-else, node-same, lane-same}
-use Rattle.rules.proofs.theorem.Accepted.{can-trim, Passed, passed, step-accepted, can-feed, can-send, CanTake, can-take, can-crash, CanRecover, can-recover, can-ask, can-commit, ask-leads}
+use Rattle.rules.proofs.theorem.Accepted.{can-trim, Passed, passed, step-accepted, CanFeed, can-feed, can-send, CanTake, can-take, can-crash, CanRecover, can-recover, can-ask, can-commit, ask-leads}
 use Rattle.rules.proofs.undamaged.Committed.{commit-is, recover-leads, as-recover}
+use Rattle.rules.proofs.histories.Passing.{time-near}
 
 -- The same with a step to spare.
 limits-later : {l : Line} → Limits 0 l → Limits 1 l
@@ -81,17 +82,17 @@ module _ (n : ℕ) (l : Line) (inside : n < length (l .nodes)) (s : Limits 1 l) 
           subst (Steady 1) (some-same e) (record { limits = s; open-rows = λ m. elim (ℕ-discrete m n) [ yes q ↦ λ z. ap (rowsComplete l) q ∙ c | no d ↦ others m d ] })
 
 -- A node that is up logs.
-module _ (l : Line) (s : Steady 0 l) (n : ℕ) (inside : n < length (l .nodes)) (alive : isUp l n) (space : length (nodeAt l n .log) < logLimit) (chosen : ℕ) (what : Record) (origin before : Origin) where
+module _ (l : Line) (s : Steady 0 l) (n : ℕ) (inside : n < length (l .nodes)) (alive : isUp l n) (space : length (nodeAt l n .log) < logLimit) (at : ℕ) (not-far : at ≤ suc (nodeAt l n .time)) (chosen : ℕ) (what : Record) (origin before : Origin) where
   abbrev x : Node
-  x = logged chosen what origin before (nodeAt l n)
+  x = logged at chosen what origin before (nodeAt l n)
 
-  log-steady : Steady 1 (withNode n (logged chosen what origin before (nodeAt l n)) l)
+  log-steady : Steady 1 (withNode n (logged at chosen what origin before (nodeAt l n)) l)
   unfolding withNode logged
   log-steady =
       let now : nodeAt (withNode n x l) n ≡ x = node-there n x l inside in
       let limits = s .limits in
       record {
-        limits = limits-by l (withNode n x l .nodes) (l .lanes) n (node-else n x l) (rw now (omega (arith, length-snoc (nodeAt l n .log) (record { what = what; time = suc (nodeAt l n .time); origin = origin; before = before; set = chosen })))) (rw now (omega (arith, limits .times n)))
+        limits = limits-by l (withNode n x l .nodes) (l .lanes) n (node-else n x l) (rw now (omega (arith, length-snoc (nodeAt l n .log) (record { what = what; time = at; origin = origin; before = before; set = chosen })))) (rw now (omega (arith, limits .times n)))
             (λ b h. omega (arith, limits .entries b h)) (omega arith) limits;
         open-rows = λ m. elim (ℕ-discrete m n) [
           | yes q ↦ λ z. absurd (up-not-replay (sym (ap (λ (y : Node). y .status) now ∙ alive) ∙ ap (λ (y : ℕ). nodeAt (withNode n x l) y .status) (sym q) ∙ z))
@@ -102,10 +103,16 @@ module _ (l : Line) (s : Steady 0 l) (n : ℕ) (inside : n < length (l .nodes)) 
 module _ (l : Line) (g : Ghost) (cut base : ℕ → ℕ) (acts : List Act) (receipts : List Receipt) (crashes : List ℕ) (inv : Inv l g cut base acts receipts crashes) (s : Steady 0 l) where
   feed-steady : (n : ℕ) (r : List ℕ) → {c : ℕ} → Passed l c (feed n r) → (k : Line) → effect l (feed n r) ≡ some k → Steady 1 k
   unfolding effect fedLine
-  feed-steady n r p k e =
-      let can = can-feed p in
-      subst (Steady 1) (some-same e)
-      (log-steady l s n (rw (inv .shape .nodes-long) (can .here)) (source-up (inv .marks) n (can .source)) (leb-false logLimit (length (nodeAt l n .log)) (p .space)) (setOf (l .plan) n (madeBy l n (recordLayout .read r))) (madeBy l n (recordLayout .read r)) fed fed)
+  feed-steady n r p k e = subst (Steady 1) (some-same e) (one (timed (l .plan) n (madeBy l n (recordLayout .read r))) refl)
+    where
+      can : CanFeed l n
+      can = can-feed p
+
+      one : (t : Bool) → timed (l .plan) n (madeBy l n (recordLayout .read r)) ≡ t → Steady 1 (elim t [ true ↦ withNode n (logged (suc (nodeAt l n .time)) (setOf (l .plan) n (madeBy l n (recordLayout .read r))) (madeBy l n (recordLayout .read r)) fed fed (nodeAt l n)) l | false ↦ l ])
+      one true q =
+          log-steady l s n (rw (inv .shape .nodes-long) (can .here)) (source-up (inv .marks) n (can .source))
+          (leb-false logLimit (length (nodeAt l n .log)) (ap (λ (t : Bool). t && leb logLimit (length (nodeAt l n .log))) (sym q) ∙ p .space)) (suc (nodeAt l n .time)) (omega arith) (setOf (l .plan) n (madeBy l n (recordLayout .read r))) (madeBy l n (recordLayout .read r)) fed fed
+      one false q = (let limits = s .limits in record { limits = record { counts = limits .counts; logs = limits .logs; times = λ m. omega (arith, limits .times m); entries = λ b h. omega (arith, limits .entries b h) }; open-rows = s .open-rows })
 
   send-steady : (b : ℕ) → {c : ℕ} → Passed l c (send b) → (k : Line) → effect l (send b) ≡ some k → Steady 1 k
   unfolding effect withLane sentOn
@@ -170,7 +177,7 @@ module _ (l : Line) (g : Ghost) (cut base : ℕ → ℕ) (acts : List Act) (rece
         let steady : Steady 0 beside = record { limits = beside-limits; open-rows = λ k. elim (ℕ-discrete k n) [ yes q ↦ λ z. absurd (up-not-replay (sym alive ∙ ap (λ (y : ℕ). nodeAt l y .status) (sym q) ∙ z)) | no d ↦ beside-open k d ] } in
         let space : leb logLimit (length (nodeAt l n .log)) ≡ false = sym (ap (λ (t : Status). cond (isReplay t) (toHold l n (firstRecord (laneAt l b .queue)) && leb heldLimit (length (nodeAt l n .held))) (leb logLimit (length (nodeAt l n .log)))) alive) ∙ p .space in
         subst (Steady 1) (some-same (sym (taken-is l g cut base acts receipts crashes inv b can alive) ∙ e))
-        (log-steady beside steady n inside alive (leb-false logLimit (length (nodeAt l n .log)) space) (setOf (l .plan) n (madeBy l n (m .what))) (madeBy l n (m .what)) (made (senderOf l b) (m .time)) (m .origin))
+        (log-steady beside steady n inside alive (leb-false logLimit (length (nodeAt l n .log)) space) (timeFor (l .plan) n (madeBy l n (m .what)) (nodeAt l n .time)) (time-near (l .plan) n (madeBy l n (m .what)) (nodeAt l n .time)) (setOf (l .plan) n (madeBy l n (m .what))) (madeBy l n (m .what)) (made (senderOf l b) (m .time)) (m .origin))
 
     -- Held or dropped, the node's log and time are as they were.
     abbrev pub Fair : Line → Type 0

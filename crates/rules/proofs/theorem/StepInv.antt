@@ -2,19 +2,21 @@
 use Prim.Native.Nat.{ℕ, suc, _<_, _≤_}
 use mathlib.Core.Path.{_≡_, refl, sym, ap, subst, _∙_}
 use mathlib.Core.Logic.{_≢_, _⊎_, inl, inr}
-use mathlib.Core.Bool.{true, false}
+use mathlib.Core.Bool.{Bool, true, false}
 use mathlib.Core.List.{List, [], _∷_, _++_, nil≢cons}
 use mathlib.Core.Option.{Option, some}
 use lib.ListN.{length}
 use Rattle.basics.specs.Update.{changed}
 use Rattle.plan.specs.Record.{recordLayout}
 use Rattle.plan.specs.Plan.{channelAt, channelCount}
-use Rattle.rules.specs.Line.{logLimit, Message, Entry, Status, up, down, replay, Asked, Line, nodeAt, laneAt, parents, isReplay, senderOf, receiverOf}
+use Rattle.plan.specs.Mask.{setOf}
+use Rattle.rules.specs.Line.{logLimit, Message, Entry, Status, up, down, replay, Asked, Line, nodeAt, laneAt, parents, isReplay, senderOf, receiverOf, withNode}
+use Rattle.rules.specs.Line as line
 use Rattle.rules.specs.Frame.{Frame, feed, send, take, crash, recover, trim, ask, commit, frameConsole, frameOf}
-use Rattle.rules.specs.Clock.{nextToSend, raiseHeard}
+use Rattle.rules.specs.Clock.{logged, nextToSend, raiseHeard}
 use Rattle.rules.specs.Recover.{targetsOf, answerOf}
-use Rattle.rules.specs.Replay.{endedIfComplete}
-use Rattle.rules.specs.Step.{sendable, replaying, fedLine, sentLine, takenUp, takenLane, takenReplaying, takenFirst, takenLine, recoveredLine, askedLine, effect, refusal, accepted, step}
+use Rattle.rules.specs.Replay.{timed, timeFor, endedIfComplete}
+use Rattle.rules.specs.Step.{sendable, replaying, madeBy, fedLine, sentLine, takenUp, takenLane, takenReplaying, takenFirst, takenLine, recoveredLine, askedLine, effect, refusal, accepted, step}
 use Rattle.rules.specs.Plain.{Act, feeds, Receipt}
 use Rattle.rules.specs.Claim.{firstReceipt, receiptOf, feedOf, crashOf}
 use Rattle.rules.proofs.lists.ListLaws.{nil-right}
@@ -23,7 +25,7 @@ use Rattle.rules.proofs.histories.Ghost.{Ghost, fedAt, tookAt, later}
 use Rattle.rules.proofs.invariant.Inv.{Inv, isUp}
 use Rattle.rules.proofs.invariant.InvLaws.{up-not-down, up-not-replay}
 use Rattle.rules.proofs.invariant.Heard.{raised-more}
-use Rattle.rules.proofs.steps.FeedInv.{feed-inv}
+use Rattle.rules.proofs.steps.FeedInv.{feed-inv, quiet-feed-inv}
 use Rattle.rules.proofs.steps.SendInv.{send-inv}
 use Rattle.rules.proofs.steps.TakeInv.{take-inv}
 use Rattle.rules.proofs.steps.TrimInv.{trim-inv}
@@ -60,12 +62,14 @@ pub first-up : (b : ℕ) (m : Message) (rest : List Message) (l : Line) → repl
 first-up b m rest l e = rw (e, takenFirst)
 
 module _ (l : Line) (g : Ghost) (cut base : ℕ → ℕ) (fed : List Act) (receipts : List Receipt) (crashes : List ℕ) (inv : Inv l g cut base fed receipts crashes) where
-  feed-step : (n : ℕ) (r : List ℕ) → CanFeed l n → (k : Line) → effect l (feed n r) ≡ some k
-      → Inv k (later g n (fedAt (recordLayout .read r) (suc (nodeAt l n .time)))) cut base (fed ++ feeds n (recordLayout .read r) ∷ []) receipts crashes
+  feed-step : (n : ℕ) (r : List ℕ) → CanFeed l n → (k : Line) → effect l (feed n r) ≡ some k → Kept k (fed ++ feeds n (recordLayout .read r) ∷ []) receipts crashes
   unfolding effect fedLine
-  feed-step n r can k e =
-      subst (λ (x : Line). Inv x (later g n (fedAt (recordLayout .read r) (suc (nodeAt l n .time)))) cut base (fed ++ feeds n (recordLayout .read r) ∷ []) receipts crashes) (some-same e)
-      (feed-inv l g cut base fed receipts crashes inv n (recordLayout .read r) (can .here) (can .source))
+  feed-step n r can k e = one (timed (l .plan) n (madeBy l n (recordLayout .read r))) refl (some-same e)
+    where
+      one : (t : Bool) → timed (l .plan) n (madeBy l n (recordLayout .read r)) ≡ t
+          → (elim t [ true ↦ withNode n (logged (suc (nodeAt l n .time)) (setOf (l .plan) n (madeBy l n (recordLayout .read r))) (madeBy l n (recordLayout .read r)) line.fed line.fed (nodeAt l n)) l | false ↦ l ]) ≡ k → Kept k (fed ++ feeds n (recordLayout .read r) ∷ []) receipts crashes
+      one true q z = (_, cut, base, subst (λ (x : Line). Inv x (later g n (fedAt (recordLayout .read r) (suc (nodeAt l n .time)))) cut base (fed ++ feeds n (recordLayout .read r) ∷ []) receipts crashes) z (feed-inv l g cut base fed receipts crashes inv n (recordLayout .read r) (can .here) (can .source) q))
+      one false q z = (_, cut, base, subst (λ (x : Line). Inv x (later g n (fedAt (recordLayout .read r) (nodeAt l n .time))) cut base (fed ++ feeds n (recordLayout .read r) ∷ []) receipts crashes) z (quiet-feed-inv l g cut base fed receipts crashes inv n (recordLayout .read r) (can .here) (can .source) q))
 
   -- A replaying sender has nothing to send, its log is empty.
   pub sender-sends : (b : ℕ) (e : Entry) → sendable l b ≡ some e → nodeAt l (channelAt (l .plan) b .sender) .status ≢ down → isUp l (channelAt (l .plan) b .sender)
@@ -103,13 +107,13 @@ module _ (l : Line) (g : Ghost) (cut base : ℕ → ℕ) (fed : List Act) (recei
     taken-is = ap (λ (q : List Message). takenFirst b q l) (can .first) ∙ first-up b m (can .rest) l (ap isReplay alive)
 
     take-up-step : (k : Line) → effect l (take b) ≡ some k
-        → Inv k (later g n (tookAt b m (suc (nodeAt l n .time)))) (changed cut b (m .time)) base fed (receipts ++ receiptOf l (take b)) crashes
+        → Inv k (later g n (tookAt b m (timeFor (l .plan) n (madeBy l n (m .what)) (nodeAt l n .time)))) (changed cut b (m .time)) base fed (receipts ++ receiptOf l (take b)) crashes
     unfolding takenUp takenLane
     take-up-step k e =
         let one : receiptOf l (take b) ≡ record { receiver = n; what = m .what; sender = channelAt (l .plan) b .sender } ∷ [] = ap (firstReceipt l b) (can .first) in
         let heard = raiseHeard (parents (l .plan) (senderOf l b)) (laneAt l b .heard) (m .origin) in
         rw one
-        (subst (λ (x : Line). Inv x (later g n (tookAt b m (suc (nodeAt l n .time)))) (changed cut b (m .time)) base fed (receipts ++ record { receiver = n; what = m .what; sender = channelAt (l .plan) b .sender } ∷ []) crashes) (some-same (sym taken-is ∙ e))
+        (subst (λ (x : Line). Inv x (later g n (tookAt b m (timeFor (l .plan) n (madeBy l n (m .what)) (nodeAt l n .time)))) (changed cut b (m .time)) base fed (receipts ++ record { receiver = n; what = m .what; sender = channelAt (l .plan) b .sender } ∷ []) crashes) (some-same (sym taken-is ∙ e))
         (take-inv l g cut base fed receipts crashes inv b (can .here) m (can .rest) heard (can .first) (sender-gives b m (can .rest) (can .here) (can .first)) alive (λ a. raised-more a (parents (l .plan) (senderOf l b)) (laneAt l b .heard) (m .origin))))
 
   module _ (b : ℕ) (can : CanTake l b) (again : nodeAt l (channelAt (l .plan) b .receiver) .status ≡ replay) where
@@ -153,7 +157,7 @@ module _ (l : Line) (g : Ghost) (cut base : ℕ → ℕ) (fed : List Act) (recei
   asked-inv n can = ask-inv l g cut base fed receipts crashes inv n (can .here) (can .stopped) (answerOf l n) (targetsOf l n)
 
   effect-inv : {c : ℕ} (f : Frame) → Passed l c f → (k : Line) → effect l f ≡ some k → Kept k (fed ++ feedOf f) (receipts ++ receiptOf l f) (crashes ++ crashOf f)
-  effect-inv (feed n r) p k e = kept-same refl refl (nil-right receipts) (nil-right crashes) (_, _, _, feed-step l g cut base fed receipts crashes inv n r (can-feed p) k e)
+  effect-inv (feed n r) p k e = kept-same refl refl (nil-right receipts) (nil-right crashes) (feed-step l g cut base fed receipts crashes inv n r (can-feed p) k e)
   effect-inv (send b) p k e = kept-same refl (nil-right fed) (nil-right receipts) (nil-right crashes) (_, _, _, send-step l g cut base fed receipts crashes inv b (can-send p) k e)
   effect-inv (take b) p k e = kept-same refl (nil-right fed) refl (nil-right crashes) (take-step b (can-take p) k e)
   effect-inv (crash n) p k e = kept-same refl (nil-right fed) (nil-right receipts) refl (_, _, _, crash-step l g cut base fed receipts crashes inv n (can-crash p) (logs n) k e)

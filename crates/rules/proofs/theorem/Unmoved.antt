@@ -1,19 +1,21 @@
 -- What a frame's effect leaves as it was. The plan and the counts are so, and so no step changes the plan.
-use Prim.Native.Nat.{ℕ}
+use Prim.Native.Nat.{ℕ, suc}
 use mathlib.Core.Path.{_≡_, refl, ap, subst, _∙_}
 use mathlib.Core.Bool.{Bool, true, false}
 use mathlib.Core.List.{List, [], _∷_}
 use mathlib.Core.Option.{Option, none, some, Option·map}
 use native.Mathlib.Decide.{ℕ-discrete}
 use Rattle.plan.specs.Plan.{entering, leaving}
+use Rattle.plan.specs.Record.{recordLayout}
+use Rattle.plan.specs.Mask.{setOf}
 use Rattle.rules.specs.Lists.{allOf, joined, isEmpty}
-use Rattle.rules.specs.Line.{Message, Entry, Held, Asked, Node, Lane, Line, nodeAt, laneAt, withNode, withLane, withLanes, counted, receiverOf, senderOf}
+use Rattle.rules.specs.Line.{Message, Entry, Held, Asked, Node, Lane, Line, nodeAt, laneAt, withNode, withLane, withLanes, counted, receiverOf, fed, senderOf}
 use Rattle.rules.specs.Frame.{Frame, feed, send, take, crash, recover, trim, ask, commit, frameConsole, frameOf}
 use Rattle.rules.specs.Recover.{targetsOf, conflict, rowsComplete, highOf, answerOf, committed, recovered}
-use Rattle.rules.specs.Replay.{passedOn, holding, isHeld, heldByRow, itemsByRow, placing, nodePlaced, replayEnd, endedIfComplete}
+use Rattle.rules.specs.Replay.{passedOn, timed, holding, isHeld, heldByRow, itemsByRow, placing, nodePlaced, replayEnd, endedIfComplete}
 use Rattle.rules.specs.Trim.{trimmedLine}
 use Rattle.rules.specs.Step.{sendable, replaying, madeBy, fedLine, sentLine, takenUp, takenReplaying, takenLane, takenFirst, takenLine, crashedLine, recoveredLine, asking, askedLine, committedBy, committedLine, effect, accepted, refusal, step}
-use Rattle.rules.specs.Clock.{sentOn}
+use Rattle.rules.specs.Clock.{logged, sentOn}
 use Rattle.rules.proofs.theorem.Accepted.{passed, step-accepted, step-refused}
 
 -- A frame's own node, which alone it changes: the one that it names, or the receiver of its channel.
@@ -118,9 +120,17 @@ module _ {A : Type 0} (view : Line → A) (free : ℕ → Type 0) (node-apart : 
   by-kept n none l d = refl
   by-kept n (some a) l d = swept-kept _ _ (entering (l .plan) n) (leaving (l .plan) n) n _ l d
 
+  fed-kept : (n : ℕ) (r : List ℕ) (l : Line) → free n → view (fedLine n r l) ≡ view l
+  unfolding fedLine
+  fed-kept n r l d = one (timed (l .plan) n (madeBy l n (recordLayout .read r)))
+    where
+      one : (t : Bool) → view (elim t [ true ↦ withNode n (logged (suc (nodeAt l n .time)) (setOf (l .plan) n (madeBy l n (recordLayout .read r))) (madeBy l n (recordLayout .read r)) fed fed (nodeAt l n)) l | false ↦ l ]) ≡ view l
+      one true = node-apart n _ l d
+      one false = refl
+
   effect-kept : (l : Line) (f : Frame) → IfThere free (ownNode l f) → Has (view l) (effect l f)
-  unfolding effect fedLine takenLine crashedLine trimmedLine committedLine
-  effect-kept l (feed n r) d = node-apart n _ l d
+  unfolding effect takenLine crashedLine trimmedLine committedLine
+  effect-kept l (feed n r) d = fed-kept n r l d
   effect-kept l (send b) d = sent-kept b (sendable l b) l
   effect-kept l (take b) d = first-kept b (laneAt l b .queue) l d
   effect-kept l (crash n) d = swept-kept _ _ (entering (l .plan) n) (leaving (l .plan) n) n _ l d
@@ -136,7 +146,7 @@ module _ {A : Type 0} (view : Line → A) (free : ℕ → Type 0) (node-apart : 
   effect-keeps l f d e = subst (Has (view l)) e (effect-kept l f d)
 
 -- The plan and the counts, of which no node has a part.
-any-node : (o : Option ℕ) → IfThere (λ (n : ℕ). Unit {0}) o
+pub any-node : (o : Option ℕ) → IfThere (λ (n : ℕ). Unit {0}) o
 any-node none = tt
 any-node (some n) = tt
 

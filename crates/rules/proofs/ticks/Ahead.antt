@@ -1,10 +1,12 @@
--- What a step that is no Crash leaves standing: up nodes stay up, their times and entries do not fall and their logs get only later entries; and what Recover will find of a node that is not up.
+-- What a step that is no Crash leaves standing: up nodes stay up, their times and entries do not fall and what their logs get that a channel takes is later; and what Recover will find of a node that is not up.
 use Prim.Native.Nat.{ℕ, _<_, _≤_}
 use mathlib.Core.Path.{_≡_, refl, sym, ap, subst, _∙_}
 use mathlib.Core.Logic.{_≢_, _⊎_, inl}
 use mathlib.Core.List.{List}
+use mathlib.Core.Bool.{true}
 use native.Mathlib.Omega.{arith}
 use native.Mathlib.Decide.{ℕ-discrete}
+use Rattle.plan.specs.Channel.{takes}
 use Rattle.plan.specs.Plan.{Plan, channelAt, channelCount}
 use Rattle.rules.specs.Line.{made, Entry, Target, up, down, replay, Node, Lane, Line, nodeAt, laneAt, parents}
 use Rattle.rules.specs.Clock.{entryFor}
@@ -29,7 +31,7 @@ same-lower p b s t q = subst (NotLower p b s) (sym q) (omega arith, λ a. omega 
 pub record Ahead (p : Plan) (l k : Line) : Type 0 where
   pub ups : (n : ℕ) → isUp l n → isUp k n
   pub times : (n : ℕ) → isUp l n → nodeAt l n .time ≤ nodeAt k n .time
-  pub logs : (n : ℕ) → isUp l n → (e : Entry) → In e (nodeAt k n .log) → In e (nodeAt l n .log) ⊎ (nodeAt l n .time < e .time)
+  pub logs : (n : ℕ) → isUp l n → (e : Entry) → In e (nodeAt k n .log) → (b : ℕ) → Leaves p n b → takes (channelAt p b) (e .what) ≡ true → In e (nodeAt l n .log) ⊎ (nodeAt l n .time < e .time)
   pub lanes : (b : ℕ) → b < channelCount p → isUp l (channelAt p b .receiver) → NotLower p b (laneAt l b) (laneAt k b)
   pub downs : (n : ℕ) → nodeAt k n .status ≡ down → nodeAt l n .status ≡ down
   pub names : (n : ℕ) → nodeAt k n .status ≡ down → (c : ℕ) → Leaves p n c → (e : Entry) → In e (nodeAt k (channelAt p c .receiver) .log) → (v : ℕ) → e .origin ≡ made n v → In e (nodeAt l (channelAt p c .receiver) .log)
@@ -39,7 +41,7 @@ pub record Ahead (p : Plan) (l k : Line) : Type 0 where
 pub record Change (p : Plan) (l : Line) (n : ℕ) (x : Node) : Type 0 where
   pub ups : isUp l n → x .status ≡ up
   pub times : isUp l n → nodeAt l n .time ≤ x .time
-  pub logs : isUp l n → (e : Entry) → In e (x .log) → In e (nodeAt l n .log) ⊎ (nodeAt l n .time < e .time)
+  pub logs : isUp l n → (e : Entry) → In e (x .log) → (b : ℕ) → Leaves p n b → takes (channelAt p b) (e .what) ≡ true → In e (nodeAt l n .log) ⊎ (nodeAt l n .time < e .time)
   pub not-down : x .status ≢ down
   pub names : (m c : ℕ) → nodeAt l m .status ≡ down → Leaves p m c → channelAt p c .receiver ≡ n → (e : Entry) → In e (x .log) → (v : ℕ) → e .origin ≡ made m v → In e (nodeAt l n .log)
   pub replays : x .status ≡ replay → Replaying p l n (x .targets)
@@ -50,7 +52,7 @@ ahead p l k n x there other lanes change =
     record {
       ups = by (λ (m : ℕ). isUp l m → isUp k m) (c .ups) (λ m q h. ap (λ (x : Node). x .status) q ∙ h);
       times = by (λ (m : ℕ). isUp l m → nodeAt l m .time ≤ nodeAt k m .time) (c .times) (λ m q h. omega (arith, ap (λ (x : Node). x .time) q));
-      logs = by (λ (m : ℕ). isUp l m → (e : Entry) → In e (nodeAt k m .log) → In e (nodeAt l m .log) ⊎ (nodeAt l m .time < e .time)) (c .logs) (λ m q h e i. inl (subst (λ (x : Node). In e (x .log)) q i));
+      logs = by (λ (m : ℕ). isUp l m → (e : Entry) → In e (nodeAt k m .log) → (b : ℕ) → Leaves p m b → takes (channelAt p b) (e .what) ≡ true → In e (nodeAt l m .log) ⊎ (nodeAt l m .time < e .time)) (c .logs) (λ m q h e i b out t. inl (subst (λ (x : Node). In e (x .log)) q i));
       lanes = lanes;
       downs = downs c;
       names = λ m h b out e i v o.
@@ -71,7 +73,7 @@ stands p l =
     record {
       ups = λ n h. h;
       times = λ n h. omega arith;
-      logs = λ n h e i. inl i;
+      logs = λ n h e i b out t. inl i;
       lanes = λ b h r. same-lower p b (laneAt l b) (laneAt l b) refl;
       downs = λ n h. h;
       names = λ n h c out e i v o. i;

@@ -1,8 +1,8 @@
 -- New messages that are followed: what is known of a line makes the facts hold of the next message of a node, and of one that is taken.
-use Prim.Native.Nat.{ℕ, max, _<_, _≤_}
+use Prim.Native.Nat.{ℕ, suc, max, _<_, _≤_}
 use mathlib.Core.Path.{_≡_, refl, sym, ap, subst, _∙_}
 use mathlib.Core.Logic.{inl, inr}
-use mathlib.Core.Bool.{Bool, true, false, true≢false, _&&_}
+use mathlib.Core.Bool.{Bool, true, false, cond, true≢false, _&&_, _||_}
 use mathlib.Core.List.{List, [], _∷_, _++_, map}
 use mathlib.Core.Option.{some}
 use native.Mathlib.Omega.{arith}
@@ -12,10 +12,13 @@ use lib.Dec.{eqb, ltb, leb}
 use borrow.Author.Tests.{eqb-true, lt-ltb}
 use Rattle.basics.specs.Bools.{both-true}
 use Rattle.plan.specs.declared.Record.{Record}
-use Rattle.plan.specs.Record.{recordLayout}
+use Rattle.plan.specs.Record.{recordLayout, isTick}
+use Rattle.plan.specs.Check.{planFits}
+use Rattle.plan.proofs.TickLaws.{tick-taken}
 use Rattle.plan.specs.Channel.{takes}
-use Rattle.plan.specs.Plan.{Plan, channelAt, nodeCount, channelCount}
+use Rattle.plan.specs.Plan.{Plan, channelAt, nodeCount, channelCount, isSink}
 use Rattle.plan.specs.Mask.{setOf}
+use Rattle.rules.specs.Replay.{timed, timeFor, passedOn}
 use Rattle.rules.specs.Lists.{keepOne}
 use Rattle.rules.specs.Line.{Origin, fed, made, Message, Entry, Target, down, replay, Node, Lane, Line, noLane, nodeAt, laneAt, senderOf, receiverOf, withNode, withLane, parents, counted}
 use Rattle.rules.specs.Line as line
@@ -31,7 +34,7 @@ use Rattle.rules.proofs.lists.Members.{In, here, in-none, in-first, in-
 use Rattle.rules.proofs.lists.ListLaws.{nil-right}
 use Rattle.rules.proofs.lists.Options.{some-same}
 use Rattle.rules.proofs.line.LineLaws.{node-there, lane-there}
-use Rattle.rules.proofs.line.Joins.{in-entering}
+use Rattle.rules.proofs.line.Joins.{in-entering, takes-passed, some-leaves}
 use Rattle.rules.proofs.histories.Ghost.{Event, entryOf, takesMessage, put, logPut}
 use Rattle.rules.proofs.histories.Carried.{in-put}
 use Rattle.rules.proofs.invariant.Inv.{timeOf, isUp, Leaves}
@@ -44,6 +47,9 @@ use Rattle.rules.proofs.steps.Floors.{child-of}
 use Rattle.rules.proofs.theorem.Accepted.{Passed, passed, can-feed, CanTake, can-take, step-accepted}
 use Rattle.rules.proofs.theorem.QuietRest.{status-up}
 use Rattle.rules.proofs.theorem.StepInv.{up-or-replay, sender-gives, taken-is}
+use Rattle.rules.proofs.histories.Passing.{hasEntry}
+use Rattle.rules.proofs.undamaged.Undamaged.{undamaged-sound}
+use Rattle.rules.proofs.undamaged.RecordsWithin.{made-tick}
 use Rattle.rules.proofs.restart.Known.{Known}
 use Rattle.rules.proofs.restart.NeverUnplaced.{again-here}
 use Rattle.rules.proofs.ticks.Ahead.{Ahead, stands}
@@ -51,11 +57,23 @@ use Rattle.rules.proofs.ticks.Steps.{fed-not-made, effect-ahead}
 use Rattle.rules.proofs.ticks.Shaped.{Shaped}
 use Rattle.rules.proofs.ticks.Facts.{Alive, alive-kept, Standing, standing-kept, Received, received-kept, Holds, holds-more}
 
+-- A tick always gets a time: a node that is no sink has a channel that takes it.
+tick-timed : (p : Plan) (n : ℕ) (r : Record) → isTick r ≡ true → timed p n r ≡ true
+unfolding timed
+tick-timed p n r e = go (isSink p n) refl
+  where
+    go : (t : Bool) → isSink p n ≡ t → (t || passedOn p n r) ≡ true
+    go true q = refl
+    go false q = let (b, (h, s)) = some-leaves p n q in takes-passed p n r b h s (tick-taken (channelAt p b) r e)
+
 module _ (l : Line) (known : Known l) where
   open Known known using (ghost, cut, base, receipts, crashes, inv)
 
   abbrev acts : List Act
   acts = known .fed
+
+  fits : planFits (l .plan) ≡ true
+  fits = undamaged-sound l (known .whole) .standing .plan-fits
 
   -- What an up node logged and a leaving channel takes is not past the node's time.
   log-early : (b : ℕ) → b < channelCount (l .plan) → isUp l (channelAt (l .plan) b .sender) → (e : Entry) → In e (nodeAt l (channelAt (l .plan) b .sender) .log) → takes (channelAt (l .plan) b) (e .what) ≡ true
@@ -78,7 +96,7 @@ module _ (l : Line) (known : Known l) where
       (λ unmarked.
       (let logs = inv .logs n unmarked in
       let (ev, j, q) = map-in (entryOf (l .plan) n) (logs .kept) (subst (λ (es : List Entry). In e es) (logs .log-is) i) in
-      let event : In ev (ghost n) = subst (λ (es : List Event). In ev es) (sym (logs .split)) (in-right (logs .gone) j) in
+      let (event, _) = keep-in (hasEntry (l .plan) n) (ghost n) (subst (λ (es : List Event). In ev es) (sym (logs .split)) (in-right (logs .gone) j)) in
       let there = in-put (l .plan) ghost b ev event (subst (λ (x : Entry). takes (channelAt (l .plan) b) (x .what) ≡ true) q t) in
       let early = within-in timeOf (side .within) there in
       omega (arith, early, ap (λ (x : Entry). x .time) q)))
@@ -126,12 +144,12 @@ module _ (l : Line) (known : Known l) where
       goals b out = subst (λ (x : ℕ). isUp l x → nodeAt l (channelAt (l .plan) b .receiver) .status ≡ replay → rowGoal (nodeAt l (channelAt (l .plan) b .receiver) .targets) x ≤ nodeAt l x .time) (out .1) (goal-early b (out .0)) alive
 
   -- Once it is logged.
-  new-standing : (k : Line) → Ahead (l .plan) l k → (n chosen : ℕ) (what : Record) (o before : Origin) → isUp l n → ((a v : ℕ) → o ≡ made a v → In a (parents (l .plan) n)) → nodeAt k n ≡ logged chosen what o before (nodeAt l n) → Standing (l .plan) k (nextOf l n o)
+  new-standing : (k : Line) → Ahead (l .plan) l k → (n chosen : ℕ) (what : Record) (o before : Origin) → isTick what ≡ true → isUp l n → ((a v : ℕ) → o ≡ made a v → In a (parents (l .plan) n)) → nodeAt k n ≡ logged (suc (nodeAt l n .time)) chosen what o before (nodeAt l n) → Standing (l .plan) k (nextOf l n o)
   unfolding logged
-  new-standing k ahead n chosen what o before alive parent there =
+  new-standing k ahead n chosen what o before tick alive parent there =
       record {
         alive = alive-kept (l .plan) l k (nextOf l n o) ahead
-            (λ e i. elim (append-in (nodeAt l n .log) (subst (λ (x : Node). In e (x .log)) there i)) [ inl j ↦ inl j | inr j ↦ elim (in-first j) [ inl q ↦ inr (λ _. ap (λ (x : Entry). x .origin) q) | inr z ↦ absurd (in-none z) ] ])
+            (λ e i b out t. elim (append-in (nodeAt l n .log) (subst (λ (x : Node). In e (x .log)) there i)) [ inl j ↦ inl j | inr j ↦ elim (in-first j) [ inl q ↦ inr (λ _. (ap (λ (x : Entry). x .origin) q, ap (λ (x : Entry). isTick (x .what)) q ∙ tick)) | inr z ↦ absurd (in-none z) ] ])
             (next-alive n o alive parent);
         in-time = omega (arith, ap (λ (x : Node). x .time) there);
       }
@@ -199,9 +217,16 @@ module _ (l : Line) (known : Known l) where
           let (e, j, q, is) = first-logged in
           let alive = holds .made-ones y i .alive in
           let origin : m .origin ≡ made a v =
-          ap (λ (x : Message). x .origin) is ∙ alive .from e (subst (λ (x : ℕ). In e (nodeAt l x .log)) (sym n) j) b (can .here, sym n) q (sym (ap timeOf is) ∙ sym t) ∙ made-of in
+          ap (λ (x : Message). x .origin) is ∙ alive .from e (subst (λ (x : ℕ). In e (nodeAt l x .log)) (sym n) j) b (can .here, sym n) q (sym (ap timeOf is) ∙ sym t) .0 ∙ made-of in
           subst (λ (o : Origin). v ≤ entryFor a (parents (l .plan) s) (raiseHeard (parents (l .plan) s) (laneAt l b .heard) o)) (sym origin)
           (raise-holds a v (parents (l .plan) s) (laneAt l b .heard) (subst (λ (x : ℕ). In a (parents (l .plan) x)) n (alive .parent a v made-of)) (shaped b (rw (inv .shape .lanes-long) (can .here))))
+
+      -- And what it took is a tick.
+      tick-taken-here : isFollowed followed s (m .time) ≡ true → isTick (m .what) ≡ true
+      tick-taken-here w =
+          let (y, i, n, t) = which w in
+          let (e, j, q, is) = first-logged in
+          ap (λ (x : Message). isTick (x .what)) is ∙ holds .made-ones y i .alive .from e (subst (λ (x : ℕ). In e (nodeAt l x .log)) (sym n) j) b (can .here, sym n) q (sym (ap timeOf is) ∙ sym t) .1
 
       received-new : isFollowed followed s (m .time) ≡ true → isUp l r → (k : Line) → Ahead (l .plan) l k → laneAt k b ≡ takenFrom (parents (l .plan) s) m (can .rest) (laneAt l b)
           → Received (l .plan) k (followed ++ nextOf l (channelAt (l .plan) b .receiver) (made (channelAt (l .plan) b .sender) (can .message .time)) ∷ []) (record { channel = b; time = m .time })
@@ -232,11 +257,15 @@ module _ (l : Line) (known : Known l) where
       one-more e alive k ahead is =
           let lane = takenFrom (parents (l .plan) s) m (can .rest) (laneAt l b) in
           let below = withLane b lane l in
-          let there : nodeAt k r ≡ logged (setOf (l .plan) r (madeBy l r (m .what))) (madeBy l r (m .what)) (made s (m .time)) (m .origin) (nodeAt l r) = ap (λ (x : Line). nodeAt x r) is ∙ node-there r _ below (rw (inv .shape .nodes-long) (inv .ordered .inside b (can .here))) in
+          let what = madeBy l r (m .what) in
+          let tick = made-tick (l .plan) fits r (m .what) (tick-taken-here e) in
+          let there : nodeAt k r ≡ logged (suc (nodeAt l r .time)) (setOf (l .plan) r what) what (made s (m .time)) (m .origin) (nodeAt l r) =
+          ap (λ (x : Line). nodeAt x r) is ∙ node-there r (logged (timeFor (l .plan) r what (nodeAt l r .time)) (setOf (l .plan) r what) what (made s (m .time)) (m .origin) (nodeAt l r)) below (rw (inv .shape .nodes-long) (inv .ordered .inside b (can .here)))
+          ∙ ap (λ (t : Bool). logged (cond t (suc (nodeAt l r .time)) (nodeAt l r .time)) (setOf (l .plan) r what) what (made s (m .time)) (m .origin) (nodeAt l r)) (tick-timed (l .plan) r what tick) in
           let on : laneAt k b ≡ lane = ap (λ (x : Line). laneAt x b) is ∙ lane-there b lane l (rw (inv .shape .lanes-long) (can .here)) in
           holds-more (l .plan) l k followed (new ∷ []) took (record { channel = b; time = m .time } ∷ []) ahead holds
           (λ x i. elim (in-first i) [
-            | inl q ↦ subst (λ (y : FollowedMessage). Standing (l .plan) k y × (nodeAt l (y .node) .time < y .time)) (sym q) (new-standing k ahead r (setOf (l .plan) r (madeBy l r (m .what))) (madeBy l r (m .what)) (made s (m .time)) (m .origin) alive parent-of there, omega arith)
+            | inl q ↦ subst (λ (y : FollowedMessage). Standing (l .plan) k y × (nodeAt l (y .node) .time < y .time)) (sym q) (new-standing k ahead r (setOf (l .plan) r what) what (made s (m .time)) (m .origin) tick alive parent-of there, omega arith)
             | inr z ↦ absurd (in-none z)
           ])
           (λ o i. elim (in-first i) [ inl q ↦ subst (Received (l .plan) k (followed ++ new ∷ [])) (sym q) (received-new e alive k ahead on) | inr z ↦ absurd (in-none z) ])
@@ -260,21 +289,27 @@ module _ (l : Line) (known : Known l) where
           | inr again ↦ absurd (none-again b can followed took shaped holds again q)
         ]
 
-    feed-holds : (n : ℕ) (f : List ℕ) → isUp l n → n < nodeCount (l .plan) → (k : Line) → Ahead (l .plan) l k → k ≡ fedLine n f l → (t : Bool) → Holds (l .plan) k (followed ++ keepOne t (nextOf l n fed) []) (took ++ [])
+    feed-holds : (n : ℕ) (f : List ℕ) → isUp l n → n < nodeCount (l .plan) → (k : Line) → Ahead (l .plan) l k → k ≡ fedLine n f l → (t : Bool) → (t ≡ true → isTick (recordLayout .read f) ≡ true) → Holds (l .plan) k (followed ++ keepOne t (nextOf l n fed) []) (took ++ [])
     unfolding fedLine
-    feed-holds n f alive inside k ahead is false = none-new k ahead
-    feed-holds n f alive inside k ahead is true =
+    feed-holds n f alive inside k ahead is false ticks = none-new k ahead
+    feed-holds n f alive inside k ahead is true ticks =
+        let what = madeBy l n (recordLayout .read f) in
+        let tick = made-tick (l .plan) fits n (recordLayout .read f) (ticks refl) in
+        let now = logged (suc (nodeAt l n .time)) (setOf (l .plan) n what) what fed fed (nodeAt l n) in
         holds-more (l .plan) l k followed (nextOf l n fed ∷ []) took [] ahead holds
         (λ x i. elim (in-first i) [
           | inl q ↦ subst (λ (y : FollowedMessage). Standing (l .plan) k y × (nodeAt l (y .node) .time < y .time)) (sym q)
-              (new-standing k ahead n (setOf (l .plan) n (madeBy l n (recordLayout .read f))) (madeBy l n (recordLayout .read f)) fed fed alive (λ a v z. fed-not-made z) (ap (λ (x : Line). nodeAt x n) is ∙ node-there n _ l (rw (inv .shape .nodes-long) inside)), omega arith)
+              (new-standing k ahead n (setOf (l .plan) n what) what fed fed tick alive (λ a v z. fed-not-made z) (ap (λ (y : Line). nodeAt y n) (is ∙ ap (λ (t : Bool). by now t) (tick-timed (l .plan) n what tick)) ∙ node-there n now l (rw (inv .shape .nodes-long) inside)), omega arith)
           | inr z ↦ absurd (in-none z)
         ])
         (λ o i. absurd (in-none i))
+      where
+        by : Node → Bool → Line
+        by x t = elim t [ true ↦ withNode n x l | false ↦ l ]
 
     effect-holds : {c : ℕ} (follow : Bool) (f : Frame) → Passed l c f → (k : Line) → Ahead (l .plan) l k → effect l f ≡ some k → Holds (l .plan) k (followed ++ newFollowed follow l followed f) (took ++ newTook l followed f)
     unfolding effect
-    effect-holds follow (feed n r) p k ahead e = feed-holds n r (source-up (inv .marks) n (can-feed p .source)) (can-feed p .here) k ahead (sym (some-same e)) (follow && feedsTick (feed n r))
+    effect-holds follow (feed n r) p k ahead e = feed-holds n r (source-up (inv .marks) n (can-feed p .source)) (can-feed p .here) k ahead (sym (some-same e)) (follow && feedsTick (feed n r)) (λ q. both-true follow (feedsTick (feed n r)) q .1)
     effect-holds follow (send b) p k ahead e = none-new k ahead
     effect-holds follow (take b) p k ahead e = take-holds b (can-take p) k ahead e
     effect-holds follow (crash n) p k ahead e = none-new k ahead

@@ -7,6 +7,7 @@ use mathlib.Core.List.{List, _++_, map}
 use native.Mathlib.Omega.{arith}
 use lib.Dec.{eqb}
 use borrow.Author.Tests.{eqb-true}
+use Rattle.plan.specs.Record.{isTick}
 use Rattle.plan.specs.Channel.{takes}
 use Rattle.plan.specs.Plan.{Plan, channelAt, channelCount}
 use Rattle.rules.specs.Lists.{keep}
@@ -18,12 +19,12 @@ use Rattle.rules.proofs.lists.Members.{In, keep-in, map-in, append-in, 
 use Rattle.rules.proofs.invariant.Inv.{isUp, Leaves}
 use Rattle.rules.proofs.ticks.Ahead.{Ahead}
 
--- Of such a message, while a line runs on: its node is up, what the node logged at its time has its origin, and no child that is not up will be restored as far as it.
+-- Of such a message, while a line runs on: its node is up, what the node logged at its time and passes on has its origin and is a tick, and no child that is not up will be restored as far as it.
 pub record Alive (p : Plan) (l : Line) (m : FollowedMessage) : Type 0 where
   pub is-up : isUp l (m .node)
   pub some-time : 0 < m .time
   pub parent : (a v : ℕ) → m .origin ≡ made a v → In a (parents p (m .node))
-  pub from : (e : Entry) → In e (nodeAt l (m .node) .log) → (b : ℕ) → Leaves p (m .node) b → takes (channelAt p b) (e .what) ≡ true → e .time ≡ m .time → e .origin ≡ m .origin
+  pub from : (e : Entry) → In e (nodeAt l (m .node) .log) → (b : ℕ) → Leaves p (m .node) b → takes (channelAt p b) (e .what) ≡ true → e .time ≡ m .time → (e .origin ≡ m .origin) × (isTick (e .what) ≡ true)
   pub past-named : (b : ℕ) → Leaves p (m .node) b → nodeAt l (channelAt p b .receiver) .status ≡ down → (c : ℕ) → Leaves p (channelAt p b .receiver) c
       → (e : Entry) → In e (nodeAt l (channelAt p c .receiver) .log) → (v w : ℕ) → e .origin ≡ made (channelAt p b .receiver) v → e .before ≡ made (m .node) w → w < m .time
   pub past-goal : (b : ℕ) → Leaves p (m .node) b → nodeAt l (channelAt p b .receiver) .status ≡ replay → rowGoal (nodeAt l (channelAt p b .receiver) .targets) (m .node) < m .time
@@ -41,13 +42,13 @@ goal-below ts n t some each =
     ]
 
 -- It is kept, where what the node logs anew does not have its time, or has its origin.
-pub alive-kept : (p : Plan) (l k : Line) (m : FollowedMessage) → Ahead p l k → ((e : Entry) → In e (nodeAt k (m .node) .log) → In e (nodeAt l (m .node) .log) ⊎ (e .time ≡ m .time → e .origin ≡ m .origin)) → Alive p l m → Alive p k m
+pub alive-kept : (p : Plan) (l k : Line) (m : FollowedMessage) → Ahead p l k → ((e : Entry) → In e (nodeAt k (m .node) .log) → (b : ℕ) → Leaves p (m .node) b → takes (channelAt p b) (e .what) ≡ true → In e (nodeAt l (m .node) .log) ⊎ (e .time ≡ m .time → (e .origin ≡ m .origin) × (isTick (e .what) ≡ true))) → Alive p l m → Alive p k m
 alive-kept p l k m ahead logs was =
     record {
       is-up = ahead .ups (m .node) (was .is-up);
       some-time = was .some-time;
       parent = was .parent;
-      from = λ e i b out t q. elim (logs e i) [ inl j ↦ was .from e j b out t q | inr f ↦ f q ];
+      from = λ e i b out t q. elim (logs e i b out t) [ inl j ↦ was .from e j b out t q | inr f ↦ f q ];
       past-named = λ b out h c next e i v w o before. was .past-named b out (ahead .downs (channelAt p b .receiver) h) c next e (ahead .names (channelAt p b .receiver) h c next e i v o) v w o before;
       past-goal = λ b out h.
           elim (ahead .replays (channelAt p b .receiver) h) [
@@ -67,7 +68,7 @@ standing-kept p l k m ahead was =
     let up = was .alive .is-up in
     let rise = ahead .times (m .node) up in
     record {
-      alive = alive-kept p l k m ahead (λ e i. elim (ahead .logs (m .node) up e i) [ inl j ↦ inl j | inr late ↦ inr (λ q. absurd (let no : ⊥ = omega (arith, late, q, was .in-time) in no)) ]) (was .alive);
+      alive = alive-kept p l k m ahead (λ e i b out t. elim (ahead .logs (m .node) up e i b out t) [ inl j ↦ inl j | inr late ↦ inr (λ q. absurd (let no : ⊥ = omega (arith, late, q, was .in-time) in no)) ]) (was .alive);
       in-time = omega (arith, rise, was .in-time);
     }
 

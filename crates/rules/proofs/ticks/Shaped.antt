@@ -1,5 +1,5 @@
 -- Every channel has as many entries heard as its sender has parents, after every list of frames.
-use Prim.Native.Nat.{ℕ, _<_}
+use Prim.Native.Nat.{ℕ, suc, _<_}
 use mathlib.Core.Path.{_≡_, sym, ap, subst, _∙_}
 use mathlib.Core.Logic.{inl, inr}
 use mathlib.Core.Bool.{Bool, true, false}
@@ -10,11 +10,13 @@ use native.Mathlib.Decide.{ℕ-discrete}
 use lib.ListN.{length, length-map, length-replicate}
 use Rattle.plan.specs.declared.Channel.{Channel}
 use Rattle.plan.specs.Plan.{Plan, channelAt, channelCount, noChannel, entering, leaving}
-use Rattle.rules.specs.Line.{Message, Entry, Asked, Node, Lane, Line, noLane, initialLine, nodeAt, laneAt, senderOf, receiverOf, withNode, withLane, withLanes, counted, parents, freshLane}
+use Rattle.plan.specs.Record.{recordLayout}
+use Rattle.plan.specs.Mask.{setOf}
+use Rattle.rules.specs.Line.{fed, Message, Entry, Asked, Node, Lane, Line, noLane, initialLine, nodeAt, laneAt, senderOf, receiverOf, withNode, withLane, withLanes, counted, parents, freshLane}
 use Rattle.rules.specs.Frame.{Frame, feed, send, take, crash, recover, trim, ask, commit, frameOf, frameConsole}
-use Rattle.rules.specs.Clock.{sentOn, takenFrom}
+use Rattle.rules.specs.Clock.{logged, sentOn, takenFrom}
 use Rattle.rules.specs.Recover.{targetsOf, conflict, restored, beside, committed, recovered}
-use Rattle.rules.specs.Replay.{passedOn, holding, endedIfComplete}
+use Rattle.rules.specs.Replay.{passedOn, timed, holding, endedIfComplete}
 use Rattle.rules.specs.Trim.{lowRaised, trimmedLine}
 use Rattle.rules.specs.Lists.{isEmpty}
 use Rattle.rules.specs.Step.{madeBy, replaying, sendable, sentLine, fedLine, takenLane, takenUp, takenReplaying, takenFirst, takenLine, crashedLine, recoveredLine, askedLine, committedBy, committedLine, effect, refusal, accepted, step}
@@ -63,7 +65,11 @@ module _ (l : Line) (was : Shaped (l .plan) l) where
 
   fed-shaped : (n : ℕ) (r : List ℕ) → Shaped (l .plan) (fedLine n r l)
   unfolding fedLine withNode
-  fed-shaped n r = was
+  fed-shaped n r = one (timed (l .plan) n (madeBy l n (recordLayout .read r)))
+    where
+      one : (t : Bool) → Shaped (l .plan) (elim t [ true ↦ withNode n (logged (suc (nodeAt l n .time)) (setOf (l .plan) n (madeBy l n (recordLayout .read r))) (madeBy l n (recordLayout .read r)) fed fed (nodeAt l n)) l | false ↦ l ])
+      one true = was
+      one false = was
 
   sent-shaped : (b : ℕ) (o : Option Entry) → Shaped (l .plan) (sentLine b o l)
   unfolding sentOn

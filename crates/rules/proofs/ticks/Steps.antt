@@ -1,5 +1,5 @@
 -- Every accepted frame that is no Crash leaves a line ahead.
-use Prim.Native.Nat.{ℕ, _<_}
+use Prim.Native.Nat.{ℕ, suc, _<_, _≤_}
 use mathlib.Core.Path.{_≡_, refl, sym, ap, subst, _∙_}
 use mathlib.Core.Logic.{_≢_, _⊎_, inl, inr}
 use mathlib.Core.Bool.{Bool, true, false, true≢false}
@@ -10,14 +10,14 @@ use native.Mathlib.Decide.{ℕ-discrete}
 use lib.ListN.{length, getD}
 use Rattle.plan.specs.declared.Record.{Record}
 use Rattle.plan.specs.Record.{recordLayout}
-use Rattle.plan.specs.Plan.{Plan, channelAt, nodeCount, channelCount, entering}
+use Rattle.plan.specs.Plan.{channelAt, nodeCount, channelCount, entering}
 use Rattle.plan.specs.Mask.{setOf}
 use Rattle.rules.specs.Lists.{allOf, joined}
 use Rattle.rules.specs.Line.{Origin, fed, made, Message, Entry, Target, up, down, replay, Node, Lane, Line, noLane, nodeAt, laneAt, senderOf, withNode, withLane, parents}
 use Rattle.rules.specs.Frame.{Frame, feed, send, take, crash, recover, trim, ask, commit}
 use Rattle.rules.specs.Clock.{logged, sentOn, takenFrom, entryFor}
 use Rattle.rules.specs.Recover.{highOf, answerOf, targetsOf, statusOf, rowsComplete, recovered}
-use Rattle.rules.specs.Replay.{heldByRow, isHeld, itemsByRow, placing, nodePlaced, replayEnd, endedIfComplete}
+use Rattle.rules.specs.Replay.{passedOn, timed, timeFor, heldByRow, isHeld, itemsByRow, placing, nodePlaced, replayEnd, endedIfComplete}
 use Rattle.rules.specs.Trim.{droppable, leading, behind, withLog, trimmedLine, lowRaised}
 use Rattle.rules.specs.Step.{madeBy, sentLine, fedLine, takenLane, takenUp, takenReplaying, asking, askedLine, effect}
 use Rattle.rules.specs.Plain.{Act}
@@ -40,23 +40,26 @@ use Rattle.rules.proofs.undamaged.Committed.{commit-is}
 use Rattle.rules.proofs.undamaged.StepSound.{answered-whole}
 use Rattle.rules.proofs.restart.Known.{Known}
 use Rattle.rules.proofs.restart.NeverUnplaced.{recover-goes, again-here}
-use Rattle.rules.proofs.ticks.Ahead.{NotLower, same-lower, Ahead, Change, ahead}
+use Rattle.rules.proofs.histories.Passing.{time-later, time-late}
+use Rattle.rules.proofs.line.Joins.{takes-passed}
+use Rattle.plan.specs.Channel.{takes}
+use Rattle.rules.proofs.ticks.Ahead.{NotLower, same-lower, Ahead, Change, ahead, stands}
 
 -- What is made from a node is not fed.
 pub fed-not-made : {A : Type 0} {m v : ℕ} → fed ≡ made m v → A
 fed-not-made e = absurd (let z : _≡_ {A = ℕ} 0 1 = cc in omega arith)
 
 -- One more entry in a log: from a node that is not down, or fed.
-module _ (l : Line) (n chosen : ℕ) (what : Record) (o before : Origin) where
-  pub logged-change : (p : Plan) → isUp l n → ((m v : ℕ) → nodeAt l m .status ≡ down → o ≡ made m v → ⊥) → Change p l n (logged chosen what o before (nodeAt l n))
+module _ (l : Line) (n at chosen : ℕ) (what : Record) (o before : Origin) (later-on : nodeAt l n .time ≤ at) (late-on : passedOn (l .plan) n what ≡ true → nodeAt l n .time < at) where
+  pub logged-change : isUp l n → ((m v : ℕ) → nodeAt l m .status ≡ down → o ≡ made m v → ⊥) → Change (l .plan) l n (logged at chosen what o before (nodeAt l n))
   unfolding logged
-  logged-change p alive apart =
+  logged-change alive apart =
       record {
         ups = λ h. h;
         times = λ h. omega arith;
-        logs = λ h e i. elim (append-in (nodeAt l n .log) i) [
+        logs = λ h e i b out t. elim (append-in (nodeAt l n .log) i) [
           | inl j ↦ inl j
-          | inr j ↦ elim (in-first j) [ inl q ↦ inr (let t = ap (λ (y : Entry). y .time) q in omega arith) | inr z ↦ absurd (in-none z) ]
+          | inr j ↦ elim (in-first j) [ inl q ↦ inr (let late = late-on (takes-passed (l .plan) n what b (out .0) (out .1) (ap (λ (y : Entry). takes (channelAt (l .plan) b) (y .what)) (sym q) ∙ t)) in omega (arith, late, ap (λ (y : Entry). y .time) q)) | inr z ↦ absurd (in-none z) ]
         ];
         not-down = λ h. up-not-down (sym alive ∙ h);
         names = λ m c h out q e i v made-of. elim (append-in (nodeAt l n .log) i) [
@@ -93,9 +96,19 @@ module _ (l : Line) (known : Known l) where
 
   feed-ahead : (n : ℕ) (r : List ℕ) → CanFeed l n → Ahead (l .plan) l (fedLine n r l)
   unfolding fedLine withNode
-  feed-ahead n r can =
-      ahead (l .plan) l (fedLine n r l) n _ (node-there n _ l (node-here n (can .here))) (node-else n _ l) (λ b h q. same-lower (l .plan) b (laneAt l b) (laneAt l b) refl)
-      (logged-change l n (setOf (l .plan) n (madeBy l n (recordLayout .read r))) (madeBy l n (recordLayout .read r)) fed fed (l .plan) (source-up (inv .marks) n (can .source)) (λ m v h. fed-not-made))
+  feed-ahead n r can = one (timed (l .plan) n what)
+    where
+      what : Record
+      what = madeBy l n (recordLayout .read r)
+
+      x : Node
+      x = logged (suc (nodeAt l n .time)) (setOf (l .plan) n what) what fed fed (nodeAt l n)
+
+      one : (t : Bool) → Ahead (l .plan) l (elim t [ true ↦ withNode n x l | false ↦ l ])
+      one true =
+          ahead (l .plan) l (withNode n x l) n x (node-there n x l (node-here n (can .here))) (node-else n x l) (λ b h q. same-lower (l .plan) b (laneAt l b) (laneAt l b) refl)
+          (logged-change l n (suc (nodeAt l n .time)) (setOf (l .plan) n what) what fed fed (omega arith) (λ _. omega arith) (source-up (inv .marks) n (can .source)) (λ m v h. fed-not-made))
+      one false = stands (l .plan) l
 
   send-ahead : (b : ℕ) (can : CanSend l b) → Ahead (l .plan) l (withLane b (sentOn (can .entry) (laneAt l b)) l)
   unfolding withLane sentOn
@@ -107,7 +120,7 @@ module _ (l : Line) (known : Known l) where
         | yes w ↦ subst (λ (x : ℕ). NotLower (l .plan) x (laneAt l x) (laneAt (withLane b s l) x)) (sym w) (subst (NotLower (l .plan) b (laneAt l b)) (sym (lane-there b s l (lane-here b (can .here)))) (omega arith, λ a. omega arith))
         | no d ↦ same-lower (l .plan) c (laneAt l c) (laneAt (withLane b s l) c) (lane-else b s l c d)
       ])
-      (record { ups = λ h. h; times = λ h. omega arith; logs = λ h e i. inl i; not-down = can .sender; names = λ m c h out q e i v o. i; replays = λ h. inl (h, refl) })
+      (record { ups = λ h. h; times = λ h. omega arith; logs = λ h e i b out t. inl i; not-down = can .sender; names = λ m c h out q e i v o. i; replays = λ h. inl (h, refl) })
 
   module _ (b : ℕ) (can : CanTake l b) where
     abbrev n : ℕ
@@ -132,7 +145,7 @@ module _ (l : Line) (known : Known l) where
     take-ahead alive =
         let k = withLane b lane l in
         ahead (l .plan) l (takenUp b m (takenLane b m (can .rest) l)) n _ (node-there n _ k (node-here n (inv .ordered .inside b (can .here)))) (node-else n _ k) (λ c h q. taken-lanes c)
-        (logged-change l n (setOf (l .plan) n (madeBy l n (m .what))) (madeBy l n (m .what)) (made (senderOf l b) (m .time)) (m .origin) (l .plan) alive (λ x v h q. can .sender (ap (λ (y : ℕ). nodeAt l y .status) (made-parts q .0) ∙ h)))
+        (logged-change l n (timeFor (l .plan) n (madeBy l n (m .what)) (nodeAt l n .time)) (setOf (l .plan) n (madeBy l n (m .what))) (madeBy l n (m .what)) (made (senderOf l b) (m .time)) (m .origin) (time-later (l .plan) n (madeBy l n (m .what)) (nodeAt l n .time)) (time-late (l .plan) n (madeBy l n (m .what)) (nodeAt l n .time)) alive (λ x v h q. can .sender (ap (λ (y : ℕ). nodeAt l y .status) (made-parts q .0) ∙ h)))
 
     module _ (again : nodeAt l (channelAt (l .plan) b .receiver) .status ≡ replay) where
       abbrev K : Line
@@ -229,7 +242,7 @@ module _ (l : Line) (known : Known l) where
       (record {
         ups = λ h. h;
         times = λ h. omega arith;
-        logs = λ h e i. inl (stays e i);
+        logs = λ h e i b out t. inl (stays e i);
         not-down = λ h. up-not-down (sym (can .all-up n (can .here)) ∙ h);
         names = λ x c h out q e i v o. stays e i;
         replays = λ h. inl (h, refl);
@@ -251,7 +264,7 @@ module _ (l : Line) (known : Known l) where
       record {
         ups = λ m h. status m ∙ h;
         times = λ m h. omega (arith, time m);
-        logs = λ m h e i. inl (subst (λ (es : List Entry). In e es) (log m) i);
+        logs = λ m h e i b out t. inl (subst (λ (es : List Entry). In e es) (log m) i);
         lanes = λ b h q. same-lower (l .plan) b (laneAt l b) (laneAt l b) refl;
         downs = λ m h. sym (status m) ∙ h;
         names = λ m h c out e i v o. subst (λ (es : List Entry). In e es) (log (channelAt (l .plan) c .receiver)) i;

@@ -8,11 +8,14 @@ use lib.Dec.{leb}
 use lib.ListN.{length, getD, List·getD-eq-default, length-append}
 use lib.Seq.{set-out}
 use borrow.Author.Tests.{eqb-true, lt-leb, leb-true, leb-false}
+use Rattle.plan.specs.Record.{recordLayout}
+use Rattle.rules.specs.Replay.{timed}
 use Rattle.rules.specs.Line.{logLimit, up, Node, Line, freshNode, nodeAt, receiverOf, counted, withNode}
 use Rattle.rules.specs.Frame.{Frame, feed, send, take, crash, recover, trim, ask, commit, frameConsole, frameOf}
 use Rattle.rules.specs.Trim.{droppable, behind, trimmedLine}
-use Rattle.rules.specs.Step.{noSpace, takeLacks, accepted, effect, step}
+use Rattle.rules.specs.Step.{noSpace, takeLacks, accepted, effect, step, madeBy}
 use Rattle.rules.specs.Trimming.{logsAt, TrimFrees, FreedAreUsed}
+use Rattle.rules.proofs.undamaged.TestLaws.{by-unless}
 use Rattle.rules.proofs.invariant.Trimmed.{leading-behind, run, rest, nodeAfter, trimmed-is, trimmed-node}
 use Rattle.rules.proofs.theorem.Accepted.{lacking, step-accepted}
 use Rattle.rules.proofs.console.Counted.{step-number}
@@ -39,7 +42,7 @@ trim-frees l n f is z =
 module _ (l : Line) (n : ℕ) (is-up : nodeAt l n .status ≡ up) (room : length (nodeAt l n .log) < logLimit) where
   has-space : (f : Frame) → logsAt l n f ≡ true → noSpace l f ≡ true → ⊥
   unfolding takeLacks
-  has-space (feed m r) at lacks = let same : m ≡ n = eqb-true m n at in true≢false (sym lacks ∙ rw same (lt-leb logLimit (length (nodeAt l n .log)) room))
+  has-space (feed m r) at lacks = let same : m ≡ n = eqb-true m n at in true≢false (sym lacks ∙ by-unless (timed (l .plan) m (madeBy l m (recordLayout .read r))) (leb logLimit (length (nodeAt l m .log))) (λ e. rw same (lt-leb logLimit (length (nodeAt l n .log)) room)))
   has-space (send b) at lacks = true≢false (sym at)
   has-space (take b) at lacks = let same : receiverOf l b ≡ n = eqb-true (receiverOf l b) n at in true≢false (sym lacks ∙ rw (same, is-up) (lt-leb logLimit (length (nodeAt l n .log)) room))
   has-space (crash m) at lacks = true≢false (sym at)

@@ -1,5 +1,5 @@
 -- The steps other than Trim, taken by a line and by the same with more trimmed.
-use Prim.Native.Nat.{ℕ, suc, _-_, _<_, _≤_}
+use Prim.Native.Nat.{ℕ, _-_, _<_, _≤_}
 use mathlib.Core.Path.{_≡_, refl, sym, ap, subst, fun-ext, _∙_}
 use mathlib.Core.Logic.{_≢_, inl, inr}
 use mathlib.Core.Bool.{Bool, true, false, true≢false}
@@ -62,19 +62,19 @@ module _ (u : Line) (steps : List ℕ) (nodes : List Node) (lanes : List Lane) (
   k = moved u steps nodes lanes
 
   -- A node logs.
-  pub logs-thinner : (n chosen : ℕ) (what : Record) (origin before : Origin) → n < nodeCount (u .plan)
-      → Thinner (withNode n (logged chosen what origin before (nodeAt (moved u steps nodes lanes) n)) (moved u steps nodes lanes)) (withNode n (logged chosen what origin before (nodeAt u n)) u)
+  pub logs-thinner : (n at chosen : ℕ) (what : Record) (origin before : Origin) → n < nodeCount (u .plan)
+      → Thinner (withNode n (logged at chosen what origin before (nodeAt (moved u steps nodes lanes) n)) (moved u steps nodes lanes)) (withNode n (logged at chosen what origin before (nodeAt u n)) u)
   unfolding logged
-  logs-thinner n chosen what origin before inside =
-      thinner-node k u thinner shape n (logged chosen what origin before (nodeAt k n)) (logged chosen what origin before (nodeAt u n)) inside (ap (λ (x : Node). bare (logged chosen what origin before x)) same)
-      (ap (λ (x : List Entry). x ++ entry (nodeAt u n) ∷ []) (thinner .logs n) ∙ append-assoc (thinner .gone n) (nodeAt k n .log) (entry (nodeAt u n) ∷ []) ∙ ap (λ (t : ℕ). thinner .gone n ++ (nodeAt k n .log ++ record { what = what; time = suc t; origin = origin; before = before; set = chosen } ∷ [])) (ap (λ (x : Node). x .time) (sym same)))
-      refl (λ d z. d z) (λ d i. in-left (entry (nodeAt u n) ∷ []) i)
+  logs-thinner n at chosen what origin before inside =
+      thinner-node k u thinner shape n (logged at chosen what origin before (nodeAt k n)) (logged at chosen what origin before (nodeAt u n)) inside (ap (λ (x : Node). bare (logged at chosen what origin before x)) same)
+      (ap (λ (x : List Entry). x ++ entry ∷ []) (thinner .logs n) ∙ append-assoc (thinner .gone n) (nodeAt k n .log) (entry ∷ []))
+      refl (λ d z. d z) (λ d i. in-left (entry ∷ []) i)
     where
       same : bare (nodeAt k n) ≡ bare (nodeAt u n)
       same = same-node k u (thinner .alike) n
 
-      entry : Node → Entry
-      entry x = record { what = what; time = suc (x .time); origin = origin; before = before; set = chosen }
+      entry : Entry
+      entry = record { what = what; time = at; origin = origin; before = before; set = chosen }
 
   -- A message goes on a channel.
   pub sends-thinner : (b : ℕ) (e : Entry) → b < channelCount (u .plan) → Thinner (withLane b (sentOn e (laneAt (moved u steps nodes lanes) b)) (moved u steps nodes lanes)) (withLane b (sentOn e (laneAt u b)) u)

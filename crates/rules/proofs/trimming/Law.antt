@@ -1,8 +1,8 @@
 -- Trims change nothing that anybody receives.
-use Prim.Native.Nat.{ℕ, _<_}
+use Prim.Native.Nat.{ℕ, _<_, suc}
 use mathlib.Core.Path.{_≡_, refl, sym, ap, subst, _∙_}
 use mathlib.Core.Logic.{inl, inr}
-use mathlib.Core.Bool.{true, true≢false, false}
+use mathlib.Core.Bool.{true, true≢false, false, Bool}
 use mathlib.Core.List.{List, [], _∷_, _++_, append-assoc}
 use mathlib.Core.Option.{Option, some}
 use native.Mathlib.Omega.{arith}
@@ -11,9 +11,10 @@ use lib.ListN.{length, replicate}
 use Rattle.plan.specs.Plan.{Plan, planOf, channelAt, nodeCount}
 use Rattle.plan.specs.Record.{recordLayout}
 use Rattle.plan.specs.Mask.{setOf}
-use Rattle.rules.specs.Line.{fed, made, Message, Entry, Asked, down, Node, Lane, Line, initialLine, nodeAt, laneAt, senderOf, isReplay, counted, oneMore, withLane}
+use Rattle.rules.specs.Line.{fed, made, Message, Entry, Asked, down, Node, Lane, Line, initialLine, nodeAt, laneAt, senderOf, isReplay, counted, oneMore, withNode, withLane}
 use Rattle.rules.specs.Frame.{Frame, feed, send, take, crash, recover, trim, ask, commit, frameConsole, frameOf}
 use Rattle.rules.specs.Trim.{trimmedLine}
+use Rattle.rules.specs.Clock.{logged}
 use Rattle.rules.specs.Recover.{recovered}
 use Rattle.rules.specs.Step.{madeBy, sendable, sentLine, fedLine, takenLane, takenUp, takenReplaying, takenFirst, takenLine, crashedLine, isNothing, askedLine, committedBy, committedLine, effect, refusal, accepted, step}
 use Rattle.rules.specs.Plain.{Act, Receipt}
@@ -32,6 +33,7 @@ use Rattle.rules.proofs.restart.NeverUnplaced.{again-here}
 use Rattle.rules.proofs.restart.Known.{Known, known-start, known-step, known-all}
 use Rattle.rules.proofs.trimming.Alike.{same-node, same-lane, same-plan}
 use Rattle.plan.specs.Lawful.{Each, Bytes}
+use Rattle.rules.specs.Replay.{timeFor, timed}
 use Rattle.rules.proofs.undamaged.Committed.{committed-by, committed-is}
 use Rattle.rules.proofs.undamaged.StepSound.{frame-bytes, answered-whole}
 use Rattle.rules.proofs.trimming.Restores.{Thinner}
@@ -77,10 +79,21 @@ module _ (u : Line) (known : Known u) (steps : List ℕ) (nodes : List Node) (la
   status-same : (n : ℕ) → nodeAt k n .status ≡ nodeAt u n .status
   status-same n = ap (λ (x : Node). x .status) (same-node k u (thinner .alike) n)
 
+  time-same : (n : ℕ) → nodeAt k n .time ≡ nodeAt u n .time
+  time-same n = ap (λ (x : Node). x .time) (same-node k u (thinner .alike) n)
+
   feeds : (n : ℕ) (r : List ℕ) → n < nodeCount (u .plan) → (k′ u′ : Line) → effect k (feed n r) ≡ some k′ → effect u (feed n r) ≡ some u′ → Thinner k′ u′
   unfolding effect fedLine
   feeds n r inside k′ u′ ek eu =
-      subst (λ (x : Line). Thinner x u′) (some-same ek) (subst (Thinner (fedLine n r k)) (some-same eu) (logs-thinner u steps nodes lanes thinner (inv .shape) n (setOf (u .plan) n (madeBy u n (recordLayout .read r))) (madeBy u n (recordLayout .read r)) fed fed inside))
+      let t = timed (u .plan) n (madeBy u n (recordLayout .read r)) in
+      subst (λ (x : Line). Thinner x u′) (ap (by k t) (sym (time-same n)) ∙ some-same ek) (subst (Thinner (by k t (nodeAt u n .time))) (some-same eu) (one t))
+    where
+      by : Line → Bool → ℕ → Line
+      by l t now = elim t [ true ↦ withNode n (logged (suc now) (setOf (u .plan) n (madeBy u n (recordLayout .read r))) (madeBy u n (recordLayout .read r)) fed fed (nodeAt l n)) l | false ↦ l ]
+
+      one : (t : Bool) → Thinner (by k t (nodeAt u n .time)) (by u t (nodeAt u n .time))
+      one true = logs-thinner u steps nodes lanes thinner (inv .shape) n (suc (nodeAt u n .time)) (setOf (u .plan) n (madeBy u n (recordLayout .read r))) (madeBy u n (recordLayout .read r)) fed fed inside
+      one false = thinner
 
   sends : (b : ℕ) → CanSend u b → (k′ u′ : Line) → effect k (send b) ≡ some k′ → effect u (send b) ≡ some u′ → Thinner k′ u′
   unfolding effect
@@ -106,7 +119,9 @@ module _ (u : Line) (known : Known u) (steps : List ℕ) (nodes : List Node) (la
     unfolding takenUp takenLane withLane
     logs =
         let K = takenLane b (can .message) (can .rest) k in
-        logs-thinner (takenLane b (can .message) (can .rest) u) (K .steps) (K .nodes) (K .lanes) first shape n (setOf (u .plan) n (madeBy u n (can .message .what))) (madeBy u n (can .message .what)) (made (senderOf u b) (can .message .time)) (can .message .origin) (inv .ordered .inside b (can .here))
+        let what = madeBy u n (can .message .what) in
+        subst (λ (t : ℕ). Thinner (withNode n (logged (timeFor (u .plan) n what t) (setOf (u .plan) n what) what (made (senderOf u b) (can .message .time)) (can .message .origin) (nodeAt K n)) K) (takenUp b (can .message) (takenLane b (can .message) (can .rest) u))) (sym (time-same n))
+        (logs-thinner (takenLane b (can .message) (can .rest) u) (K .steps) (K .nodes) (K .lanes) first shape n (timeFor (u .plan) n what (nodeAt u n .time)) (setOf (u .plan) n (madeBy u n (can .message .what))) (madeBy u n (can .message .what)) (made (senderOf u b) (can .message .time)) (can .message .origin) (inv .ordered .inside b (can .here)))
 
     holds : Thinner (takenReplaying b (can .message) (takenLane b (can .message) (can .rest) k)) (takenReplaying b (can .message) (takenLane b (can .message) (can .rest) u))
     unfolding takenLane withLane

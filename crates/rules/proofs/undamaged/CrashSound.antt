@@ -22,7 +22,7 @@ use Rattle.rules.proofs.invariant.MarkedLaws.{at-ends}
 use Rattle.rules.proofs.theorem.Accepted.{Passed, CanCrash, can-crash}
 use Rattle.rules.proofs.lists.Options.{some-same, none-some}
 use Rattle.rules.specs.Damaged.{lowWrong}
-use Rattle.rules.proofs.undamaged.Standing.{NodeFits, NodeSound, Covers, LaneFits, ChannelSound, Standing, Stopped, Sound}
+use Rattle.rules.proofs.undamaged.Standing.{NodeFits, NodeSound, Covers, LaneFits, ChannelSound, Standing, Stopped, Sound, log-none}
 use Rattle.rules.proofs.undamaged.SoundStays.{node-stays, channel-stays, stopped-same, counted-sound}
 use Rattle.rules.proofs.undamaged.StartSound.{fresh-fits, fresh-flows, fresh-cleared}
 use Rattle.rules.proofs.undamaged.Undamaged.{ordered-fit}
@@ -52,7 +52,7 @@ module _ (l : Line) (sound : Sound l) (n : ℕ) (can : CanCrash l n) where
         entries = λ e i. absurd (in-none i);
         targets = λ t i. absurd (in-none i);
         time = omega arith;
-        rises = none;
+        rises = log-none;
         within = none-in;
         sets = λ e i. absurd (in-none i);
         passed = λ h i. absurd (in-none i);

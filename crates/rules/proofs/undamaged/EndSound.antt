@@ -25,6 +25,7 @@ use Rattle.rules.proofs.invariant.InvLaws.{up-not-down, up-not-replay}
 use Rattle.rules.proofs.lists.Options.{some-same, none-some}
 use Rattle.rules.proofs.undamaged.Standing.{heldTime, heldFrom, EntryFits, NodeFits, Covers, NodeSound, Standing, Stopped, Sound}
 use Rattle.rules.proofs.undamaged.SoundStays.{node-stays, channel-like, stopped-same}
+use Rattle.rules.proofs.undamaged.LogRising.{rising-log}
 use Rattle.rules.proofs.undamaged.Undamaged.{rows-in}
 use Rattle.rules.proofs.undamaged.PlacedLog.{placed-from, log-placed}
 use Rattle.rules.proofs.undamaged.CrashSound.{stopped-marked}
@@ -94,7 +95,7 @@ module _ (l : Line) (s : Standing l) (n : ℕ) (inside : n < nodeCount (l .plan)
           entries = λ e i. placed-entry e (only-log i);
           targets = λ t i. absurd (in-none i);
           time = high-within l s n;
-          rises = rises-lower _ (omega arith) (g .rises);
+          rises = rising-log (l .plan) n (rises-lower _ (omega arith) (g .rises));
           within = g .within;
           sets = λ e i. (let y = placed-from (setOf (l .plan) n) (joined rows) columns i in rw (y .entry-is));
           passed = λ h i. absurd (in-none i);

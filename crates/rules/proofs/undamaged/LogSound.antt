@@ -2,6 +2,7 @@
 use Prim.Native.Nat.{ℕ, suc, _<_, _≤_}
 use mathlib.Core.Path.{_≡_, refl, sym, ap, subst, _∙_}
 use mathlib.Core.Logic.{_≢_, _⊎_, inl, inr}
+use mathlib.Core.Bool.{false}
 use mathlib.Core.List.{List, [], _∷_, _++_, map}
 use native.Mathlib.Omega.{arith}
 use native.Mathlib.Decide.{ℕ-discrete}
@@ -14,8 +15,8 @@ use Rattle.plan.specs.Mask.{setOf}
 use Rattle.rules.specs.Recover.{triple, triples}
 use Rattle.rules.specs.Replay.{heldEntry}
 use Rattle.rules.specs.Clock.{logged}
-use Rattle.rules.specs.Damaged.{workedOn}
-use Rattle.rules.proofs.lists.Rising.{rises-snoc, within-snoc, within-higher}
+use Rattle.rules.specs.Damaged.{workedOn, mayRepeat}
+use Rattle.rules.proofs.lists.Rising.{within-snoc, within-higher}
 use Rattle.rules.proofs.lists.Members.{In, in-none, in-first, in-left, in-right, append-in}
 use Rattle.rules.proofs.line.LineLaws.{node-there, node-else}
 use Rattle.rules.proofs.line.Consoles.{CountsFit}
@@ -24,6 +25,7 @@ use Rattle.rules.proofs.invariant.Inv.{Enters, Leaves}
 use Rattle.rules.proofs.ending.Targets.{triples-snoc}
 use Rattle.rules.proofs.undamaged.Standing.{entryTime, EntryFits, Empties, NodeFits, Covers, NodeSound, ChannelSound, Standing, Sound}
 use Rattle.rules.proofs.undamaged.SoundStays.{node-later, node-stays, stopped-same}
+use Rattle.rules.proofs.undamaged.LogRising.{log-snoc}
 
 -- One more of what was worked on.
 worked-more : (x : Node) (e : Entry) {d : Entry} → In d ((x .log ++ e ∷ []) ++ map heldEntry (x .held)) → (d ≡ e) ⊎ In d (workedOn x)
@@ -35,11 +37,11 @@ worked-more x e i = elim (append-in (x .log ++ e ∷ []) i) [
   | inr j ↦ inr (in-right (x .log) j)
 ]
 
-module _ (p : Plan) (steps n : ℕ) (x : Node) (f : NodeFits p steps n x) (is-up : x .status ≡ up) (room : length (x .log) < logLimit) (what : Record) (chosen : ℕ) (is-set : chosen ≡ setOf p n what) (origin before : Origin) where
+module _ (p : Plan) (steps n : ℕ) (x : Node) (f : NodeFits p steps n x) (is-up : x .status ≡ up) (room : length (x .log) < logLimit) (at : ℕ) (later-on : x .time ≤ at) (not-far : at ≤ suc (x .time)) (what : Record) (late-on : mayRepeat p n what ≡ false → x .time < at) (chosen : ℕ) (is-set : chosen ≡ setOf p n what) (origin before : Origin) where
   abbrev entry : Entry
-  entry = record { what = what; time = suc (x .time); origin = origin; before = before; set = chosen }
+  entry = record { what = what; time = at; origin = origin; before = before; set = chosen }
 
-  pub logged-fits : EntryFits p (suc steps) n (record { what = what; time = suc (x .time); origin = origin; before = before; set = chosen }) → NodeFits p (suc steps) n (logged chosen what origin before x)
+  pub logged-fits : EntryFits p (suc steps) n (record { what = what; time = at; origin = origin; before = before; set = chosen }) → NodeFits p (suc steps) n (logged at chosen what origin before x)
   unfolding logged
   logged-fits new =
       let later : steps ≤ suc steps = omega arith in
@@ -51,37 +53,38 @@ module _ (p : Plan) (steps n : ℕ) (x : Node) (f : NodeFits p steps n x) (is-up
         entries = λ d i. elim (worked-more x entry i) [ inl q ↦ subst (EntryFits p (suc steps) n) (sym q) new | inr j ↦ g .entries d j ];
         targets = g .targets;
         time = omega (arith, f .time);
-        rises = rises-snoc entryTime entry (omega arith) (f .within) (omega arith) (f .rises);
+        rises = log-snoc p n entry (omega arith) (f .within) later-on late-on (f .rises);
         within = within-snoc entryTime entry (omega arith) (within-higher entryTime (omega arith) (f .within));
         sets = λ d i. elim (append-in (x .log) i) [ inl j ↦ f .sets d j | inr j ↦ elim (in-first j) [ inl q ↦ rw q is-set | inr z ↦ absurd (in-none z) ] ];
         passed = f .passed;
         unmarked = f .unmarked;
         between = f .between;
-        empties = subst (λ (s : Status). Empties s (logged chosen what origin before x)) (sym is-up) (subst (λ (s : Status). Empties s x) is-up (f .empties));
+        empties = subst (λ (s : Status). Empties s (logged at chosen what origin before x)) (sym is-up) (subst (λ (s : Status). Empties s x) is-up (f .empties));
       }
 
 -- The counts afterwards are any that are one step more.
 module _ (l : Line) (sound : Sound l) {counts : List ℕ} (counts-fit : CountsFit counts) (rise : sumOf counts ≡ suc (acceptedSteps l)) (n : ℕ) (inside : n < nodeCount (l .plan)) (is-up : nodeAt l n .status ≡ up) (room : length (nodeAt l n .log) < logLimit)
-    (what : Record) (chosen : ℕ) (is-set : chosen ≡ setOf (l .plan) n what) (origin before : Origin) (new : EntryFits (l .plan) (suc (acceptedSteps l)) n (record { what = what; time = suc (nodeAt l n .time); origin = origin; before = before; set = chosen })) (lanes : List Lane) where
+    (at : ℕ) (later-on : nodeAt l n .time ≤ at) (not-far : at ≤ suc (nodeAt l n .time)) (what : Record) (late-on : mayRepeat (l .plan) n what ≡ false → nodeAt l n .time < at) (chosen : ℕ) (is-set : chosen ≡ setOf (l .plan) n what) (origin before : Origin)
+    (new : EntryFits (l .plan) (suc (acceptedSteps l)) n (record { what = what; time = at; origin = origin; before = before; set = chosen })) (lanes : List Lane) where
   abbrev s : Standing l
   s = sound .standing
 
   abbrev pub after : Line
-  after = moved l counts (set (l .nodes) n (logged chosen what origin before (nodeAt l n))) lanes
+  after = moved l counts (set (l .nodes) n (logged at chosen what origin before (nodeAt l n))) lanes
 
   there : n < length (l .nodes)
   there = rw (s .shape .nodes-long) inside
 
-  pub node-now : nodeAt after n ≡ logged chosen what origin before (nodeAt l n)
+  pub node-now : nodeAt after n ≡ logged at chosen what origin before (nodeAt l n)
   unfolding withNode
-  node-now = node-there n (logged chosen what origin before (nodeAt l n)) l there
+  node-now = node-there n (logged at chosen what origin before (nodeAt l n)) l there
 
   pub node-other : (m : ℕ) → m ≢ n → nodeAt after m ≡ nodeAt l m
   unfolding withNode
-  node-other m d = node-else n (logged chosen what origin before (nodeAt l n)) l m d
+  node-other m d = node-else n (logged at chosen what origin before (nodeAt l n)) l m d
 
   -- What logging does not change.
-  same-part : {A : Type 0} (f : Node → A) → f (logged chosen what origin before (nodeAt l n)) ≡ f (nodeAt l n) → (m : ℕ) → f (nodeAt after m) ≡ f (nodeAt l m)
+  same-part : {A : Type 0} (f : Node → A) → f (logged at chosen what origin before (nodeAt l n)) ≡ f (nodeAt l n) → (m : ℕ) → f (nodeAt after m) ≡ f (nodeAt l m)
   same-part f e m = elim (ℕ-discrete m n) [
     | yes q ↦ ap (λ (z : ℕ). f (nodeAt after z)) q ∙ ap f node-now ∙ e ∙ ap (λ (z : ℕ). f (nodeAt l z)) (sym q)
     | no d ↦ ap f (node-other m d)
@@ -98,7 +101,7 @@ module _ (l : Line) (sound : Sound l) {counts : List ℕ} (counts-fit : CountsFi
   -- A replaying node's triples: the new entry is of another.
   triples-stay : (m : ℕ) → triple m origin before ≡ [] → (c : ℕ) → triples m (nodeAt after c .log) ≡ triples m (nodeAt l c .log)
   unfolding logged
-  triples-stay m e = same-part (λ (x : Node). triples m (x .log)) (triples-snoc m (nodeAt l n .log) (record { what = what; time = suc (nodeAt l n .time); origin = origin; before = before; set = chosen }) e)
+  triples-stay m e = same-part (λ (x : Node). triples m (x .log)) (triples-snoc m (nodeAt l n .log) (record { what = what; time = at; origin = origin; before = before; set = chosen }) e)
 
   module _ (long : length lanes ≡ length (l .lanes)) (raised : (b : ℕ) → b < channelCount (l .plan) → (o bef : Origin) → Covers (l .plan) b (laneAt l b) o bef → Covers (l .plan) b (laneAt after b) o bef)
       (own : (b : ℕ) → Enters (l .plan) n b → Covers (l .plan) b (laneAt after b) origin before) (channels : (b : ℕ) → b < channelCount (l .plan) → ChannelSound after b)
@@ -109,8 +112,8 @@ module _ (l : Line) (sound : Sound l) {counts : List ℕ} (counts-fit : CountsFi
     node-logs =
         let f = s .nodes n inside in
         record {
-          fits = subst (NodeFits (l .plan) (sumOf counts) n) (sym node-now) (rw rise (logged-fits (l .plan) (acceptedSteps l) n (nodeAt l n) (f .fits) is-up room what chosen is-set origin before new));
-          clock = λ e i b h. elim (worked-more (nodeAt l n) (record { what = what; time = suc (nodeAt l n .time); origin = origin; before = before; set = chosen }) (subst (λ (x : Node). In e (workedOn x)) node-now i)) [
+          fits = subst (NodeFits (l .plan) (sumOf counts) n) (sym node-now) (rw rise (logged-fits (l .plan) (acceptedSteps l) n (nodeAt l n) (f .fits) is-up room at later-on not-far what late-on chosen is-set origin before new));
+          clock = λ e i b h. elim (worked-more (nodeAt l n) (record { what = what; time = at; origin = origin; before = before; set = chosen }) (subst (λ (x : Node). In e (workedOn x)) node-now i)) [
             | inl q ↦ subst (λ (d : Entry). Covers (l .plan) b (laneAt after b) (d .origin) (d .before)) (sym q) (own b h)
             | inr j ↦ raised b (h .0) (e .origin) (e .before) (f .clock e j b h)
           ];
@@ -124,7 +127,7 @@ module _ (l : Line) (sound : Sound l) {counts : List ℕ} (counts-fit : CountsFi
         record {
           standing = record {
             plan-fits = s .plan-fits;
-            shape = record { nodes-long = length-set (l .nodes) n (logged chosen what origin before (nodeAt l n)) ∙ s .shape .nodes-long; lanes-long = long ∙ s .shape .lanes-long };
+            shape = record { nodes-long = length-set (l .nodes) n (logged at chosen what origin before (nodeAt l n)) ∙ s .shape .nodes-long; lanes-long = long ∙ s .shape .lanes-long };
             counts = counts-fit;
             nodes = λ m h. elim (ℕ-discrete m n) [
               | yes q ↦ subst (NodeSound after) (sym q) node-logs

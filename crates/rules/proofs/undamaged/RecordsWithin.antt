@@ -71,3 +71,7 @@ rule-within (Cap q) r e w = record { material = known (known-cases r (w .materia
 
 pub made-within : (p : Plan) → planFits p ≡ true → (n : ℕ) (r : Record) → recordPastLimits r ≡ false → recordPastLimits (applied (ruleAt p n) r) ≡ false
 made-within p fits n r e = of-within (applied (ruleAt p n) r) (rule-within (ruleAt p n) r (rule-allowed (p .rules) n (fitting p fits .rules)) (within r e))
+
+-- What a node makes of a tick is the tick.
+pub made-tick : (p : Plan) → planFits p ≡ true → (n : ℕ) (r : Record) → isTick r ≡ true → isTick (applied (ruleAt p n) r) ≡ true
+made-tick p fits n r e = ap isTick (tick-kept (ruleAt p n) r (rule-allowed (p .rules) n (fitting p fits .rules)) e) ∙ e

@@ -27,7 +27,7 @@ use Rattle.rules.proofs.theorem.Accepted.{Passed, CanRecover, can-recov
 use Rattle.rules.proofs.lists.Options.{some-same, none-some}
 use Rattle.rules.specs.Damaged.{lowWrong}
 use Rattle.rules.proofs.undamaged.LowLaws.{low-within, entry-within}
-use Rattle.rules.proofs.undamaged.Standing.{heldTime, heldFrom, OriginFits, BeforeFits, TargetFits, Empties, NodeFits, Covers, NodeSound, LaneFits, Flows, ChannelSound, Standing, Replays, Stopped, Sound}
+use Rattle.rules.proofs.undamaged.Standing.{heldTime, heldFrom, OriginFits, BeforeFits, TargetFits, Empties, NodeFits, Covers, NodeSound, LaneFits, Flows, ChannelSound, Standing, Replays, Stopped, Sound, log-none}
 use Rattle.rules.proofs.undamaged.SoundStays.{node-stays, channel-stays, low-kept, targets-kept, rows-kept, stopped-same, counted-sound}
 use Rattle.rules.proofs.undamaged.StartSound.{fresh-fits, fresh-flows}
 use Rattle.rules.proofs.undamaged.Undamaged.{ordered-fit}
@@ -106,7 +106,7 @@ module _ (l : Line) (s : Standing l) (n : ℕ) where
           entries = λ e i. absurd (in-none i);
           targets = λ t i. triple-fits t (targets-from l n t i .0);
           time = (let a = low-high l n in let b = high-within l s n in omega arith);
-          rises = none;
+          rises = log-none;
           within = none-in;
           sets = λ e i. absurd (in-none i);
           passed = λ h i. absurd (in-none i);

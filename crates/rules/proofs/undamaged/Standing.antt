@@ -15,7 +15,7 @@ use Rattle.rules.specs.Line.{logLimit, queueLimit, heldLimit, targetLimi
 use Rattle.rules.specs.Recover.{lowOf, targetsOf, restored, conflict, rowGoal, answerOf}
 use Rattle.rules.specs.Replay.{passedOn}
 use Rattle.rules.specs.Step.{endDown}
-use Rattle.rules.specs.Damaged.{lowWrong, workedOn, recordPastLimits, isParent, isFed, pastHeard}
+use Rattle.rules.specs.Damaged.{lowWrong, workedOn, mayRepeat, recordPastLimits, isParent, isFed, pastHeard}
 use Rattle.rules.proofs.lists.Rising.{Rises, Within}
 use Rattle.rules.proofs.lists.Members.{In}
 use Rattle.rules.proofs.line.Consoles.{CountsFit}
@@ -58,6 +58,11 @@ Empties up x = (x .held ≡ []) × (x .targets ≡ []) × (x .asked ≡ none)
 Empties down x = (x .time ≡ 0) × (x .log ≡ []) × (x .held ≡ []) × (x .asked ≡ none → x .targets ≡ [])
 Empties replay x = (x .log ≡ []) × (x .asked ≡ none)
 
+-- Log times rise, but where a record got no time of its own.
+pub data LogRises (p : Plan) (n : ℕ) : ℕ → List Entry → Type 0 where
+  log-none : {last : ℕ} → LogRises p n last []
+  log-more : {last : ℕ} {e : Entry} {es : List Entry} → last ≤ e .time → (mayRepeat p n (e .what) ≡ false → last < e .time) → LogRises p n (e .time) es → LogRises p n last (e ∷ es)
+
 -- A node n by itself.
 pub record NodeFits (p : Plan) (steps n : ℕ) (x : Node) : Type 0 where
   pub log-few : length (x .log) ≤ logLimit
@@ -66,7 +71,7 @@ pub record NodeFits (p : Plan) (steps n : ℕ) (x : Node) : Type 0 where
   pub entries : (e : Entry) → In e (workedOn x) → EntryFits p steps n e
   pub targets : (t : Target) → In t (x .targets) → TargetFits p steps n t
   pub time : x .time ≤ steps
-  pub rises : Rises entryTime 0 (x .log)
+  pub rises : LogRises p n 0 (x .log)
   pub within : Within entryTime (x .time) (x .log)
   pub sets : (e : Entry) → In e (x .log) → e .set ≡ setOf p n (e .what)
   pub passed : (h : Held) → In h (x .held) → passedOn p n (h .what) ≡ true

@@ -20,7 +20,7 @@ use Rattle.rules.proofs.invariant.InvLaws.{up-not-replay}
 use Rattle.rules.proofs.line.Consoles.{start-counts}
 use Rattle.rules.specs.Damaged.{lowWrong}
 use Rattle.rules.proofs.undamaged.LowLaws.{none-past}
-use Rattle.rules.proofs.undamaged.Standing.{NodeFits, NodeSound, LaneFits, Flows, ChannelSound, Sound}
+use Rattle.rules.proofs.undamaged.Standing.{log-none, NodeFits, NodeSound, LaneFits, Flows, ChannelSound, Sound}
 use Rattle.rules.proofs.undamaged.Undamaged.{ordered-fit, sound-undamaged}
 
 pub replicate-in : {A : Type 0} (n : ℕ) (x : A) {y : A} → In y (replicate n x) → y ≡ x
@@ -72,7 +72,7 @@ module _ (p : Plan) (fits : planFits p ≡ true) where
         entries = λ e i. absurd (in-none i);
         targets = λ t i. absurd (in-none i);
         time = omega arith;
-        rises = none;
+        rises = log-none;
         within = none-in;
         sets = λ e i. absurd (in-none i);
         passed = λ h i. absurd (in-none i);

@@ -2,14 +2,14 @@
 use Prim.Native.Nat.{ℕ, suc, max, _<_, _≤_}
 use mathlib.Core.Path.{_≡_, refl, sym, ap, subst, _∙_}
 use mathlib.Core.Logic.{_≢_, inl, inr}
-use mathlib.Core.Bool.{true, false, cond, _&&_, true≢false}
+use mathlib.Core.Bool.{Bool, true, false, cond, not, _&&_, true≢false}
 use mathlib.Core.List.{List, [], _∷_}
 use mathlib.Core.Option.{some}
 use native.Mathlib.Omega.{arith}
 use native.Mathlib.Decide.{ℕ-discrete}
 use lib.ListN.{length, set, length-set}
 use lib.Dec.{leb, eqb}
-use borrow.Author.Tests.{leb-false, eq-eqb, ne-eqb}
+use borrow.Author.Tests.{leb-false, eq-eqb, ne-eqb, not-false}
 use Rattle.plan.specs.Plan.{Plan, nodeCount, channelCount, channelAt}
 use Rattle.rules.specs.Line.{logLimit, heldLimit, Origin, fed, made, Message, Status, up, Node, Lane, Line, nodeAt, laneAt, parents, withNode, withLane, oneMore, counted, isReplay, acceptedSteps}
 use Rattle.plan.specs.Layout.{sumOf}
@@ -17,8 +17,11 @@ use Rattle.plan.specs.Mask.{setOf}
 use Rattle.rules.specs.Frame.{take}
 use Rattle.rules.specs.Recover.{triple}
 use Rattle.rules.specs.Clock.{raiseHeard, takenFrom}
+use Rattle.plan.specs.declared.Record.{Record}
+use Rattle.rules.specs.Replay.{timed, timeFor}
+use Rattle.rules.proofs.histories.Passing.{time-later, time-near, timed-late}
 use Rattle.rules.specs.Step.{firstRecord, toHold, takeLacks, madeBy, takenUp, takenLane, takenFirst, takenLine, effect}
-use Rattle.rules.specs.Damaged.{isParent, pastHeard}
+use Rattle.rules.specs.Damaged.{mayRepeat, isParent, pastHeard}
 use Rattle.rules.proofs.invariant.InvLaws.{up-not-replay}
 use Rattle.rules.proofs.theorem.StepInv.{first-up, up-or-replay}
 use Rattle.rules.proofs.lists.Rising.{Rises, more, Within, within-first}
@@ -216,19 +219,28 @@ module _ (l : Line) (sound : Sound l) (b : ℕ) {who : ℕ} (p : Passed l who (t
         leb-false logLimit (length (nodeAt l n .log))
         (sym (ap (λ (x : Status). cond (isReplay x) (toHold l n (firstRecord (was .queue)) && leb heldLimit (length (nodeAt l n .held))) (leb logLimit (length (nodeAt l n .log)))) is-up) ∙ p .space)
 
+    -- No source takes: an entry that may not repeat has a time of its own.
+    once-timed : (r : Record) → mayRepeat (l .plan) n r ≡ false → timed (l .plan) n r ≡ true
+    unfolding mayRepeat
+    once-timed r e = not-false (timed (l .plan) n r) (sym (ap (λ (t : Bool). not t && not (timed (l .plan) n r)) (no-source (l .plan) b (can .here))) ∙ e)
+
     taken-sound : Sound (counted who (takenUp b m (takenLane b m (can .rest) l)))
     unfolding counted takenUp takenLane withNode withLane
     taken-sound =
         let what = madeBy l n (m .what) in
-        let new = taken-entry (suc (acceptedSteps l)) (omega arith) (suc (nodeAt l n .time)) (setOf (l .plan) n what) in
+        let at : ℕ = timeFor (l .plan) n (madeBy l n (m .what)) (nodeAt l n .time) in
+        let on : nodeAt l n .time ≤ at = time-later (l .plan) n (madeBy l n (m .what)) (nodeAt l n .time) in
+        let far : at ≤ suc (nodeAt l n .time) = time-near (l .plan) n (madeBy l n (m .what)) (nodeAt l n .time) in
+        let late : mayRepeat (l .plan) n (madeBy l n (m .what)) ≡ false → nodeAt l n .time < at = λ q. timed-late (l .plan) n (madeBy l n (m .what)) (nodeAt l n .time) (once-timed (madeBy l n (m .what)) q) in
+        let new = taken-entry (suc (acceptedSteps l)) (omega arith) at (setOf (l .plan) n what) in
         let counts = sound .standing .counts in
         let fits = more-fit counts (p .console) (p .steps-left) in
         let rise = counts-rise counts (p .console) (p .steps-left) in
         let origin : Origin = made from (m .time) in
         let steps = oneMore who (l .steps) in
-        let nodes = after l sound fits rise n inside is-up room what (setOf (l .plan) n what) refl origin (m .origin) new lanes .nodes in
-        log-sound l sound fits rise n inside is-up room what (setOf (l .plan) n what) refl origin (m .origin) new lanes (length-set (l .lanes) b now) (raised steps nodes) (own steps nodes)
-        (channels steps nodes (omega (arith, rise)) (status-same l sound fits rise n inside is-up room what (setOf (l .plan) n what) refl origin (m .origin) new lanes) (mark-same l sound fits rise n inside is-up room what (setOf (l .plan) n what) refl origin (m .origin) new lanes))
+        let nodes = after l sound fits rise n inside is-up room at on far what late (setOf (l .plan) n what) refl origin (m .origin) new lanes .nodes in
+        log-sound l sound fits rise n inside is-up room at on far what late (setOf (l .plan) n what) refl origin (m .origin) new lanes (length-set (l .lanes) b now) (raised steps nodes) (own steps nodes)
+        (channels steps nodes (omega (arith, rise)) (status-same l sound fits rise n inside is-up room at on far what late (setOf (l .plan) n what) refl origin (m .origin) new lanes) (mark-same l sound fits rise n inside is-up room at on far what late (setOf (l .plan) n what) refl origin (m .origin) new lanes))
         (entries steps nodes) (λ j q. triple-else j from (m .time) (m .origin) (not-silent j q)) (lows steps nodes)
 
     taken-is : effect l (take b) ≡ some (takenUp b m (takenLane b m (can .rest) l))

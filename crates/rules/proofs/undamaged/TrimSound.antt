@@ -8,14 +8,14 @@ use mathlib.Core.Option.{some}
 use native.Mathlib.Omega.{arith}
 use native.Mathlib.Decide.{ℕ-discrete}
 use lib.ListN.{length, length-append}
-use Rattle.plan.specs.Plan.{channelAt, channelCount}
+use Rattle.plan.specs.Plan.{Plan, channelAt, channelCount}
 use Rattle.rules.specs.Line.{Origin, fed, made, Entry, Held, Status, Node, Lane, Line, nodeAt, laneAt, parents, senderOf, isDown, counted, acceptedSteps}
 use Rattle.rules.specs.Frame.{trim}
 use Rattle.rules.specs.Trim.{droppable, behind, lowRaised, withLog}
 use Rattle.rules.specs.Step.{endDown, effect}
 use Rattle.rules.specs.Replay.{heldEntry}
 use Rattle.rules.specs.Damaged.{workedOn, pastHeard, lowWrong}
-use Rattle.rules.proofs.lists.Rising.{Rises, none, more, Within, none-in, more-in, rises-lower}
+use Rattle.rules.proofs.lists.Rising.{Rises, Within, none-in, more-in}
 use Rattle.rules.proofs.lists.Members.{In, in-left, in-right, append-in}
 use Rattle.rules.proofs.lists.Options.{some-same}
 use Rattle.rules.proofs.invariant.Inv.{Enters, Shape}
@@ -23,18 +23,19 @@ use Rattle.rules.proofs.invariant.Trimmed.{leading-behind, run, rest, l
 use Rattle.rules.proofs.invariant.Lows.{after-long}
 use Rattle.rules.proofs.theorem.Accepted.{Passed, CanTrim, can-trim}
 use Rattle.rules.proofs.theorem.Unmoved.{effect-steps}
-use Rattle.rules.proofs.undamaged.Standing.{entryTime, heldTime, heldFrom, Empties, NodeFits, Covers, NodeSound, LaneFits, Flows, ChannelSound, Sound}
+use Rattle.rules.proofs.undamaged.Standing.{entryTime, heldTime, heldFrom, Empties, LogRises, log-none, log-more, NodeFits, Covers, NodeSound, LaneFits, Flows, ChannelSound, Sound}
+use Rattle.rules.proofs.undamaged.LogRising.{log-lower}
 use Rattle.rules.proofs.undamaged.LowLaws.{Below, after-below}
 use Rattle.rules.proofs.undamaged.SoundStays.{node-stays, channel-stays, counted-sound}
 
 -- What is behind a run rises as it did.
-behind-rises : (f : Entry → Bool) {a : ℕ} {xs : List Entry} → Rises entryTime a xs → Rises entryTime a (behind f xs)
-behind-rises f none = none
-behind-rises f {a} (more {x = x} {xs = xs} h r) = one (f x) (behind-rises f r)
+behind-rises : (p : Plan) (n : ℕ) (f : Entry → Bool) {a : ℕ} {xs : List Entry} → LogRises p n a xs → LogRises p n a (behind f xs)
+behind-rises p n f log-none = log-none
+behind-rises p n f {a} (log-more {e = x} {es = xs} h g r) = one (f x) (behind-rises p n f r)
   where
-    one : (t : Bool) → Rises entryTime (x .time) (behind f xs) → Rises entryTime a (elim t [ true ↦ behind f xs | false ↦ x ∷ xs ])
-    one true s = rises-lower entryTime (omega arith) s
-    one false s = more h r
+    one : (t : Bool) → LogRises p n (x .time) (behind f xs) → LogRises p n a (elim t [ true ↦ behind f xs | false ↦ x ∷ xs ])
+    one true s = log-lower p n h s
+    one false s = log-more {last = a} {e = x} h g r
 
 behind-within : (f : Entry → Bool) {k : ℕ} {xs : List Entry} → Within entryTime k xs → Within entryTime k (behind f xs)
 behind-within f none-in = none-in
@@ -70,7 +71,7 @@ module _ (l : Line) (sound : Sound l) (n : ℕ) (can : CanTrim l n) where
         entries = λ e i. f .entries e (worked e i);
         targets = f .targets;
         time = f .time;
-        rises = behind-rises (droppable l n) (f .rises);
+        rises = behind-rises (l .plan) n (droppable l n) (f .rises);
         within = behind-within (droppable l n) (f .within);
         sets = λ e i. f .sets e (in-rest i);
         passed = f .passed;

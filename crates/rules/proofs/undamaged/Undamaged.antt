@@ -237,7 +237,7 @@ module _ (l : Line) (n : ℕ) (ordered : Ordered (l .plan)) (shape : Shape l) (i
       let p = l .plan in
       let x = nodeAt l n in
       let (few, (parent, (past, (zeros, (maker, (log, (set, (clock, (rows, (passed, (mark, (end, (again, (answer, (holds, _))))))))))))))) =
-      all-false (nodePastLimits x) (nodeWrongParent p n x ∷ nodeTimePast (acceptedSteps l) x ∷ nodeTimeZero x ∷ nodeMakerWrong p n x ∷ logWrong x ∷ setWrong p n x ∷ pastClock l n ∷ heldWrong l n ∷ heldNotPassed p n x ∷ markMissing x ∷ markOnEnd p n x ∷ replayWrong l n ∷ answerWrong l n ∷ nodeHolds x ∷ []) e in
+      all-false (nodePastLimits x) (nodeWrongParent p n x ∷ nodeTimePast (acceptedSteps l) x ∷ nodeTimeZero x ∷ nodeMakerWrong p n x ∷ logWrong p n x ∷ setWrong p n x ∷ pastClock l n ∷ heldWrong l n ∷ heldNotPassed p n x ∷ markMissing x ∷ markOnEnd p n x ∷ replayWrong l n ∷ answerWrong l n ∷ nodeHolds x ∷ []) e in
       (record { fits = node-fits p (acceptedSteps l) n x few parent past zeros maker log set passed mark end holds; clock = clock-of l n clock; rows = rows-of l n rows }, record { replays = replaying-right again; answers = answering-right answer })
 
   sound-node : NodeSound l n → Stopped l n → nodeDamaged l n ≡ false

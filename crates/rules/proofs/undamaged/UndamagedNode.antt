@@ -2,28 +2,29 @@
 use Prim.Native.Nat.{ℕ, _<_, _≤_}
 use mathlib.Core.Path.{_≡_, refl, sym, ap, subst, _∙_}
 use mathlib.Core.Option.{Option, none, some}
-use mathlib.Core.Logic.{_⊎_, inl, inr}
+use mathlib.Core.Logic.{inl, inr}
 use mathlib.Core.Bool.{Bool, true, false, not, _&&_, _||_, true≢false}
 use mathlib.Core.List.{List, [], _∷_, _++_, map}
 use native.Mathlib.Omega.{arith}
 use lib.ListN.{length}
-use lib.Dec.{ltb, eqb}
+use lib.Dec.{leb, ltb, eqb}
 use borrow.Author.Tests.{ltb-false, le-ltb, eqb-true, eqb-false, eq-eqb, ne-eqb, not-false}
 use Rattle.basics.specs.Bools.{both-true, neither-true}
 use Rattle.plan.specs.Plan.{Plan, isSource, isSink}
 use Rattle.plan.specs.Mask.{setOf}
-use Rattle.rules.specs.Lists.{isEmpty, anyOf}
+use Rattle.rules.specs.Lists.{isEmpty, allOf, anyOf}
 use Rattle.rules.specs.Line.{logLimit, heldLimit, targetLimit, Origin, fed, made, Entry, Held, Target, Status, up, down, replay, Asked, Node, isUp}
 use Rattle.rules.specs.Replay.{passedOn}
-use Rattle.rules.specs.Damaged.{workedOn, recordPastLimits, nodePastLimits, isParent, notParent, beforeNotParent, nodeWrongParent, originTimes, nodeNamedTimes, nodeOtherTimes, nodeTimePast, nodeTimeZero, originWrong, isFed, beforeWrong, nodeMakerWrong, risesTo, logWrong, setWrong, heldNotPassed, markMissing, markOnEnd, holdsByStatus, nodeHolds}
+use Rattle.rules.specs.Damaged.{workedOn, recordPastLimits, nodePastLimits, isParent, notParent, beforeNotParent, nodeWrongParent, originTimes, nodeNamedTimes, nodeOtherTimes, nodeTimePast, nodeTimeZero, originWrong, isFed, beforeWrong, nodeMakerWrong, logRises, logWrong, setWrong, heldNotPassed, markMissing, markOnEnd, holdsByStatus, nodeHolds}
 use Rattle.rules.specs.Step.{isNothing}
-use Rattle.rules.proofs.lists.Rising.{Rises, Within}
-use Rattle.rules.proofs.lists.Members.{In, here, there, in-none, in-first, in-left, in-right, append-in, in-map, map-in, in-joined, joined-in, rises-in, within-in, none-any}
+use Rattle.rules.proofs.lists.Rising.{Within}
+use Rattle.rules.proofs.lists.Members.{In, here, there, in-none, in-first, in-left, in-right, append-in, in-map, map-in, in-joined, joined-in, within-in, none-any}
 use Rattle.rules.proofs.invariant.InvLaws.{up-not-down, up-not-replay}
 use Rattle.rules.proofs.lists.Options.{nothing-none}
 use Rattle.rules.proofs.lists.ListLaws.{empty-none}
-use Rattle.rules.proofs.undamaged.TestLaws.{none-by, all-false, unless, by-unless, to-of, of-to}
-use Rattle.rules.proofs.undamaged.Standing.{entryTime, OriginFits, BeforeFits, TargetFits, Empties, NodeFits}
+use Rattle.rules.proofs.undamaged.TestLaws.{none-by, all-false, unless, by-unless, within-of, of-within}
+use Rattle.rules.proofs.undamaged.LogRising.{log-of, of-log}
+use Rattle.rules.proofs.undamaged.Standing.{entryTime, OriginFits, BeforeFits, TargetFits, Empties, LogRises, NodeFits}
 
 -- Every time that an origin names is above 0 and not past the steps.
 abbrev pub TimesIn : ℕ → Origin → Type 0
@@ -68,17 +69,13 @@ abbrev timesOf : Entry → List ℕ
 timesOf e = originTimes (e .origin) ++ originTimes (e .before)
 
 in-named : (x : Node) {e : Entry} {t : ℕ} → In e (workedOn x) → In t (timesOf e) → In t (nodeNamedTimes x)
-in-named x i j = in-right (map entryTime (x .log)) (in-joined j (in-map timesOf i))
+in-named x i j = in-joined j (in-map timesOf i)
 
-named-in : (x : Node) {t : ℕ} → In t (nodeNamedTimes x) → ((e : Entry) × In e (x .log) × (t ≡ e .time)) ⊎ ((e : Entry) × In e (workedOn x) × In t (timesOf e))
+named-in : (x : Node) {t : ℕ} → In t (nodeNamedTimes x) → (e : Entry) × In e (workedOn x) × In t (timesOf e)
 named-in x {t} i =
-    elim (append-in (map entryTime (x .log)) i) [
-      | inl j ↦ inl (map-in entryTime (x .log) j)
-      | inr j ↦
-          (let (ts, k, h) = joined-in (map timesOf (workedOn x)) j in
-          let (e, a, q) = map-in timesOf (workedOn x) k in
-          inr (e, a, subst (λ (z : List ℕ). In t z) q h))
-    ]
+    let (ts, k, h) = joined-in (map timesOf (workedOn x)) i in
+    let (e, a, q) = map-in timesOf (workedOn x) k in
+    (e, a, subst (λ (z : List ℕ). In t z) q h)
 
 abbrev targetTimes : Target → List ℕ
 targetTimes t = t .time ∷ t .parentTime ∷ []
@@ -159,9 +156,12 @@ module _ (p : Plan) (steps n : ℕ) (x : Node) where
   unfolding nodeMakerWrong
   makers e f i = neither-true (originWrong p n (f .origin)) (beforeWrong p (f .origin) (f .before)) (none-any (λ (d : Entry). originWrong p n (d .origin) || beforeWrong p (d .origin) (d .before)) e i)
 
-  log-rises : logWrong x ≡ false → Rises entryTime 0 (x .log) × Within entryTime (x .time) (x .log)
+  log-rises : logWrong p n x ≡ false → LogRises p n 0 (x .log) × Within entryTime (x .time) (x .log)
   unfolding logWrong
-  log-rises e = to-of entryTime 0 (x .time) (x .log) (not-false (risesTo 0 (x .time) (map entryTime (x .log))) e)
+  log-rises e =
+      let ends : Bool = allOf (λ (t : ℕ). leb t (x .time)) (map entryTime (x .log)) in
+      let (a, b) = both-true (logRises p n 0 (x .log)) ends (not-false (logRises p n 0 (x .log) && ends) e) in
+      (log-of p n 0 (x .log) a, within-of entryTime (x .time) (x .log) b)
 
   sets-right : setWrong p n x ≡ false → (e : Entry) → In e (x .log) → e .set ≡ setOf p n (e .what)
   unfolding setWrong
@@ -183,13 +183,13 @@ module _ (p : Plan) (steps n : ℕ) (x : Node) where
   unfolding nodeHolds
   holds e = empties-of (x .status) x e
 
-  pub node-fits : nodePastLimits x ≡ false → nodeWrongParent p n x ≡ false → nodeTimePast steps x ≡ false → nodeTimeZero x ≡ false → nodeMakerWrong p n x ≡ false → logWrong x ≡ false → setWrong p n x ≡ false
+  pub node-fits : nodePastLimits x ≡ false → nodeWrongParent p n x ≡ false → nodeTimePast steps x ≡ false → nodeTimeZero x ≡ false → nodeMakerWrong p n x ≡ false → logWrong p n x ≡ false → setWrong p n x ≡ false
       → heldNotPassed p n x ≡ false → markMissing x ≡ false → markOnEnd p n x ≡ false → nodeHolds x ≡ false → NodeFits p steps n x
   node-fits few parent past zeros maker log set passed mark end hold =
       let (a, b, c, limits) = counts few in
       let (named, parents) = named-parents parent in
       let other : (t : ℕ) → In t (nodeOtherTimes x) → t ≤ steps = λ t i. times-in past t (in-right (nodeNamedTimes x) i) in
-      let of-targets : (t : Target) → In t (x .targets) → (u : ℕ) → In u (targetTimes t) → u ≤ steps = λ t i u j. other u (there (in-joined j (in-map targetTimes i))) in
+      let of-targets : (t : Target) → In t (x .targets) → (u : ℕ) → In u (targetTimes t) → u ≤ steps = λ t i u j. other u (there (in-right (map entryTime (x .log)) (in-joined j (in-map targetTimes i)))) in
       let both : (t : ℕ) → In t (nodeNamedTimes x) → (0 < t) × (t ≤ steps) = λ t i. (times-above zeros t i, times-in past t (in-left (nodeOtherTimes x) i)) in
       record {
         log-few = a;
@@ -232,16 +232,12 @@ module _ (p : Plan) (steps n : ℕ) (x : Node) where
         )
 
     named-times : (t : ℕ) → In t (nodeNamedTimes x) → (0 < t) × (t ≤ steps)
-    named-times t i = elim (named-in x i) [
-      | inl (e, j, q) ↦
-          (let a = rises-in entryTime (f .rises) j in
-          let b = within-in entryTime (f .within) j in
-          (omega (arith, f .time), omega (arith, f .time)))
-      | inr (e, j, k) ↦ elim (append-in (originTimes (e .origin)) k) [
-        | inl h ↦ fits-times p steps n (e .origin) (f .entries e j .origin) t h
-        | inr h ↦ before-times p steps (e .origin) (e .before) (f .entries e j .before) t h
-      ]
-    ]
+    named-times t i =
+        let (e, j, k) = named-in x i in
+        elim (append-in (originTimes (e .origin)) k) [
+          | inl h ↦ fits-times p steps n (e .origin) (f .entries e j .origin) t h
+          | inr h ↦ before-times p steps (e .origin) (e .before) (f .entries e j .before) t h
+        ]
 
     of-target : (u : Target) → TargetFits p steps n u → (t : ℕ) → In t (targetTimes u) → t ≤ steps
     of-target u g t i = elim (in-first i) [
@@ -252,10 +248,13 @@ module _ (p : Plan) (steps n : ℕ) (x : Node) where
     other-times : (t : ℕ) → In t (nodeOtherTimes x) → t ≤ steps
     other-times t i = elim (in-first i) [
       | inl q ↦ omega (arith, f .time)
-      | inr j ↦
-          (let (ts, k, h) = joined-in (map targetTimes (x .targets)) j in
-          let (u, a, q) = map-in targetTimes (x .targets) k in
-          of-target u (f .targets u a) t (subst (λ (z : List ℕ). In t z) q h))
+      | inr j ↦ elim (append-in (map entryTime (x .log)) j) [
+        | inl k ↦ (let (e, a, q) = map-in entryTime (x .log) k in let b = within-in entryTime (f .within) a in omega (arith, f .time))
+        | inr k ↦
+            (let (ts, a, h) = joined-in (map targetTimes (x .targets)) k in
+            let (u, b, q) = map-in targetTimes (x .targets) a in
+            of-target u (f .targets u b) t (subst (λ (z : List ℕ). In t z) q h))
+      ]
     ]
 
     pub within-steps : nodeTimePast steps x ≡ false
@@ -273,9 +272,9 @@ module _ (p : Plan) (steps n : ℕ) (x : Node) where
         none-by (λ (e : Entry). originWrong p n (e .origin) || beforeWrong p (e .origin) (e .before)) (workedOn x)
         (λ e i. rw (fits-maker p steps n (e .origin) (f .entries e i .origin), before-maker p steps (e .origin) (e .before) (f .entries e i .before)))
 
-    pub log-right : logWrong x ≡ false
+    pub log-right : logWrong p n x ≡ false
     unfolding logWrong
-    log-right = ap not (of-to entryTime (f .rises) (f .within))
+    log-right = rw (of-log p n (f .rises), of-within entryTime (f .within))
 
     pub right-sets : setWrong p n x ≡ false
     unfolding setWrong

@@ -14,7 +14,7 @@ pub mod section {
     pub const ANSWERS: &str = "answers";
     pub const CALLERS: &str = "accepted frames, by who sends them";
     pub const TICKS: &str = "Feeds of ticks and of what is almost one";
-    pub const SETS: &str = "Feeds and Takes, by the leaving channels that take what is logged";
+    pub const SETS: &str = "Feeds and Takes, by the leaving channels that take what is made";
     pub const LINES: &str = "lines of nodes";
 }
 
@@ -54,9 +54,10 @@ pub const ALMOST: [&str; FIELDS.len()] = [
     "17 for the mass",
 ];
 
-/// Of the set that an entry is logged with.
+/// Of the set of what a Feed or Take makes.
 pub mod set {
-    pub const NONE: &str = "none of them";
+    pub const NONE: &str = "none of them, by a Take";
+    pub const NONE_FED: &str = "none of them, by a Feed";
     pub const SOME: &str = "some of them, and not all";
     pub const ALL: &str = "all of them";
     pub const SINK: &str = "a sink has none";
@@ -72,6 +73,9 @@ pub mod line {
         ("N replay", |line| line.contains(" replay ")),
         ("L of a tick", |line| {
             line.starts_with("L ") && line.ends_with(" 0 255 0")
+        }),
+        ("L at time 0", |line| {
+            line.starts_with("L ") && line.split(' ').nth(2) == Some("0")
         }),
         ("L of a source", |line| line.contains(" - - ")),
         ("L made from a message", |line| line.starts_with("L ")),
@@ -89,6 +93,14 @@ pub mod line {
         ("T of two layers", |line| layers(line) == Some(2)),
         ("T of three layers", |line| layers(line) == Some(3)),
     ];
+
+    /// Of such a line, with the one before it.
+    pub const AGAIN: &str = "L with the time of the one before it";
+
+    pub fn is_again(before: &str, line: &str) -> bool {
+        let mut heads = before.split(' ').zip(line.split(' ')).take(3);
+        line.starts_with("L ") && heads.all(|(before, word)| before == word)
+    }
 
     fn layers(line: &str) -> Option<usize> {
         let clock = line.strip_prefix("T ")?;
@@ -110,7 +122,7 @@ pub fn all() -> Vec<Floor> {
         ],
     );
     floors.extend(under(section::SHEETS, 200, [kind::LIMITS, kind::LONG]));
-    floors.extend(under(section::SHEETS, 280, [kind::KEPT]));
+    floors.extend(under(section::SHEETS, 315, [kind::KEPT]));
     floors.extend(under(section::SHEETS, SHIFTS, [kind::MANY]));
     floors.extend(under(section::SHEETS, 1, [kind::MILLION]));
     floors.extend(under(section::PIECES, 20_000, [WHOLE]));
@@ -130,11 +142,12 @@ pub fn all() -> Vec<Floor> {
     floors.extend(under(section::CALLERS, 3_000, [ASK, COMMIT]));
     floors.extend(under(section::TICKS, 20_000, [TICK]));
     floors.extend(under(section::TICKS, 200, ALMOST));
-    let sets = [set::NONE, set::SOME, set::ALL, set::SINK];
+    let sets = [set::NONE, set::NONE_FED, set::SOME, set::ALL, set::SINK];
     floors.extend(under(section::SETS, 20_000, sets));
     let lines = line::KINDS.iter().map(|(name, _)| *name);
     let (kept, others): (Vec<_>, Vec<_>) = lines.partition(|name| name.starts_with('Q'));
     floors.extend(under(section::LINES, 1_000, others));
+    floors.extend(under(section::LINES, 1_000, [line::AGAIN]));
     floors.extend(under(section::LINES, 100, kept));
     floors
 }

@@ -239,19 +239,28 @@ impl Work<'_> {
         }
     }
 
-    /// Of an accepted frame, if it leaves a node up with what it logs.
+    /// Of an accepted frame, if it leaves a node up with what it makes.
     fn count_set(&mut self, frame: &[u8], after: &Line) {
-        let node = match Frame::read(frame) {
-            Ok((_, Frame::Feed { node, .. })) => usize::from(node),
-            Ok((_, Frame::Take { channel })) => after.plan.channels[usize::from(channel)].receiver,
+        let plan = &after.plan;
+        let (node, made, none) = match Frame::read(frame) {
+            Ok((_, Frame::Feed { node, record })) => {
+                let record = Record::read(record).expect("an accepted record");
+                let made = plan.rules[usize::from(node)].apply(record);
+                (usize::from(node), Some(made), set::NONE_FED)
+            }
+            Ok((_, Frame::Take { channel })) => {
+                let node = plan.channels[usize::from(channel)].receiver;
+                // The log of one that replays is empty.
+                let last = after.nodes[node].log.last();
+                (node, last.map(|entry| entry.message.record), set::NONE)
+            }
             _ => return,
         };
-        // The log of one that replays is empty.
-        if let Some(entry) = after.nodes[node].log.last() {
-            let row = match entry.set {
-                _ if after.plan.is_sink(node) => set::SINK,
-                0 => set::NONE,
-                some if is_partial(&after.plan, node, some) => set::SOME,
+        if let Some(made) = made {
+            let row = match plan.set_of(node, &made) {
+                _ if plan.is_sink(node) => set::SINK,
+                0 => none,
+                some if is_partial(plan, node, some) => set::SOME,
                 _ => set::ALL,
             };
             self.counts.add(section::SETS, row);
@@ -263,7 +272,12 @@ impl Work<'_> {
             self.counts.add(section::ANSWERS, answer(number));
         }
         let text = String::from_utf8_lossy(text);
+        let mut before = "";
         for line in text.lines() {
+            if line::is_again(before, line) {
+                self.counts.add(section::LINES, line::AGAIN);
+            }
+            before = line;
             if let Some((name, _)) = line::KINDS.iter().find(|(_, is_it)| is_it(line)) {
                 self.counts.add(section::LINES, *name);
             }

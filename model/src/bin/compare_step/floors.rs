@@ -22,6 +22,8 @@ pub mod section {
     pub const RESTARTS: &str = "Commit and Recover on the same state";
     pub const BETWEEN: &str = "Commits, by the accepted steps since the Ask";
     pub const EVENTS: &str = "what steps do and why they are refused";
+    pub const TIMES: &str = "times, where they count what leaves, after accepted steps";
+    pub const BESIDE: &str = "full logs where a Feed that no channel takes is accepted";
     pub const REFILLED: &str = "accepted where the log has been full and was trimmed";
     pub const HARMLESS: &str = "undamaged states that no run leads to, each with every frame";
     pub const DAMAGED: &str = "damaged states";
@@ -87,6 +89,8 @@ pub fn all() -> Vec<Floor> {
     floors.extend(under(section::BETWEEN, 100, BETWEEN));
     let events = EVENTS.iter().map(|event| event.name);
     floors.extend(under(section::EVENTS, 100, events));
+    floors.extend(under(section::TIMES, 5_000, TIMES));
+    floors.extend(under(section::BESIDE, 100, [BESIDE]));
     let [feed, take] = REFILLED;
     floors.extend(under(section::REFILLED, 500, [feed]));
     floors.extend(under(section::REFILLED, 50, [take]));
@@ -127,6 +131,16 @@ pub const FROM_ALL: [&str; 4] = [
     "12 from some, accepted from others",
     "12 from some, refused from others",
 ];
+
+/// The node of the step, which no Crash has named.
+pub const TIMES: [&str; 4] = [
+    "a source, raised",
+    "a source, as it was",
+    "a node that takes, raised",
+    "a node that takes, as it was",
+];
+
+pub const BESIDE: &str = "21 for a tick and for another record";
 
 /// Of a source and of a sink: no Crash empties their logs.
 pub const REFILLED: [&str; 2] = ["a Feed", "a Take of a sink"];

@@ -2,7 +2,7 @@
 // model's step on lines: on runs from Load and from late times, on undamaged
 // states that no run leads to, and on damaged ones; and the engine's Step with
 // itself, on the same step from every caller and with the plan in either version, and
-// on a Commit beside a Recover.
+// on a Commit beside a Recover. Times have to count what leaves.
 // Run in model/:
 //   cargo run --release --offline --features engine-state --bin compare_step [seed]
 

@@ -1,16 +1,17 @@
 // Calls on states and frames as they are drawn, counted.
 
-use model::answer::{ACCEPTED, FRAME_LENGTH, NO_REPLAY, STATE};
+use model::answer::{ACCEPTED, FRAME_LENGTH, NO_REPLAY, NO_SPACE, STATE};
 use model::compare::{self, as_recover, from_all, in_both_versions, Counts};
 use model::engine;
 use model::line::practice::{
     age, caller, cut_frames, every_frame, random_frames, stray, torn, Practice, Stepped, EVENTS,
 };
-use model::line::{stepped, Frame, Line};
+use model::line::{stepped, Caller, Frame, Line};
 use model::plan::practice::any_plan;
 use model::random::Random;
+use model::record::Record;
 use model::state::practice::{
-    self, call, replay_on, restart, staged, trim_all, Case, Kind, Played,
+    self, any_record, call, replay_on, restart, staged, trim_all, Case, Kind, Played,
 };
 use model::state::{self, direct, line_bytes};
 
@@ -197,6 +198,7 @@ impl Run {
             staged::mixed(),
             staged::full(),
             staged::nearly_full(),
+            staged::silent(),
             staged::replaying(),
             staged::down(),
             staged::half_heard(),
@@ -304,8 +306,12 @@ impl Run {
                 frame: asked,
                 after: outcome.map_err(|&refusal| refusal),
             });
-            if after.is_ok() {
-                self.count_refilled(states, before, asked);
+            if let Ok((line, _)) = &after {
+                self.count_times(before, asked, line);
+                self.count_refilled(states, before, asked, line);
+                if let Frame::Feed { node, .. } = asked {
+                    self.call_beside(before, &states.bytes, caller, node);
+                }
                 if let Frame::Commit { node } = asked {
                     let row = floors::between(states.since_ask(node.into()));
                     self.counts.add(section::BETWEEN, row);
@@ -380,7 +386,51 @@ impl Run {
         }
     }
 
-    fn count_refilled(&mut self, states: &States, before: &Line, accepted: Frame) {
+    /// Of an accepted Feed that leaves nothing, where the log is full: what a channel takes is
+    /// refused with 21 in the same state.
+    fn call_beside(&mut self, before: &Line, bytes: &[u8], caller: Caller, node: u8) {
+        let number = usize::from(node);
+        if before.nodes[number].log.len() < Line::MOST_ENTRIES {
+            return;
+        }
+        let mut records = (0..64).map(|_| any_record(&mut self.random));
+        let taken = records.find(|record| {
+            let made = before.plan.rules[number].apply(*record);
+            before.plan.passes_on(number, &made)
+        });
+        for record in [Some(Record::TICK), taken].into_iter().flatten() {
+            let record = record.write();
+            let frame = Frame::Feed { node, record }.sent_by(caller);
+            for step in [engine::step, direct::step, state::step] {
+                let mut left = bytes.to_vec();
+                let answer = step(&mut left, &frame);
+                if answer != NO_SPACE || left != bytes {
+                    let told = format!("seed {}, frame {frame:02X?}", self.seed);
+                    compare::fail(&told, &format!("{answer}, and the log is full"), bytes);
+                }
+            }
+        }
+        self.counts.add(section::BESIDE, floors::BESIDE);
+    }
+
+    /// Of a node that no Crash has named.
+    fn count_times(&mut self, before: &Line, accepted: Frame, after: &Line) {
+        let [fed, fed_quietly, taken, taken_silently] = floors::TIMES;
+        let (rows, node) = match accepted {
+            Frame::Feed { node, .. } => ([fed, fed_quietly], usize::from(node)),
+            Frame::Take { channel } => {
+                let receiver = before.plan.channels[usize::from(channel)].receiver;
+                ([taken, taken_silently], receiver)
+            }
+            _ => return,
+        };
+        if !before.nodes[node].crash_marked {
+            let is_same = after.nodes[node].time() == before.nodes[node].time();
+            self.counts.add(section::TIMES, rows[usize::from(is_same)]);
+        }
+    }
+
+    fn count_refilled(&mut self, states: &States, before: &Line, accepted: Frame, after: &Line) {
         let [feed, take] = floors::REFILLED;
         let (row, node) = match accepted {
             Frame::Feed { node, .. } => (feed, usize::from(node)),
@@ -391,7 +441,8 @@ impl Run {
             _ => return,
         };
         let is_kept = before.plan.is_source(node) || before.plan.is_sink(node);
-        if is_kept && states.has_been_full(node) {
+        let is_logged = after.nodes[node].log.len() > before.nodes[node].log.len();
+        if is_kept && is_logged && states.has_been_full(node) {
             self.counts.add(section::REFILLED, row);
         }
     }

@@ -2,7 +2,7 @@
 // it.
 
 use model::answer::{ACCEPTED, STATE};
-use model::compare::{same_answers, Compared, Lent};
+use model::compare::{same_answers, Compared, Departures, Lent};
 use model::engine;
 use model::line::{stepped, Frame, Line};
 use model::plan::Plan;
@@ -43,6 +43,8 @@ pub struct States {
     full: u32,
     /// Of each node, the accepted steps since an Ask of it, or since there are these states.
     since_ask: [u32; Plan::MOST_NODES],
+    /// None where the state is damaged.
+    departures: Option<Departures>,
 }
 
 /// The line after an accepted step with its bytes, or the refusal.
@@ -63,6 +65,7 @@ impl States {
             loaded.push(lent);
         }
         Ok(States {
+            departures: Some(Departures::new(&line)),
             line: Some(line),
             bytes,
             lent: loaded,
@@ -77,13 +80,15 @@ impl States {
         States {
             lent: lent.collect(),
             full: line.as_ref().map_or(0, full),
+            departures: line.as_ref().map(Departures::new),
             line,
             bytes: bytes.to_vec(),
             since_ask: [0; Plan::MOST_NODES],
         }
     }
 
-    /// The call of each beside the model's, on its own bytes. The line stays.
+    /// The call of each beside the model's, on its own bytes; times have to count what
+    /// leaves. The line stays.
     pub fn call(&mut self, random: &mut Random, frame: &[u8]) -> Compared<After> {
         let after = match &self.line {
             None => Err(STATE),
@@ -103,6 +108,12 @@ impl States {
             same_answers(beside.name, given, answer)?;
             lent.holds("state", expected)?;
             lent_frame.holds("frame", frame)?;
+        }
+        if let Ok((line, _)) = &after {
+            let wrong = self.departed(frame).and_then(|left| left.wrong(line));
+            if let Some(node) = wrong {
+                return Err(format!("the time of {node} does not count what leaves"));
+            }
         }
         Ok(after)
     }
@@ -125,8 +136,16 @@ impl States {
         if let Ok((_, Frame::Ask { node })) = Frame::read(frame) {
             self.since_ask[usize::from(node)] = 0;
         }
+        self.departures = self.departed(frame);
         self.line = Some(line);
         self.bytes = bytes;
+    }
+
+    /// What has left after an accepted step.
+    fn departed(&self, frame: &[u8]) -> Option<Departures> {
+        let mut departures = self.departures.clone()?;
+        departures.follow(self.line.as_ref()?, frame);
+        Some(departures)
     }
 
     /// To before the call.

@@ -3,6 +3,7 @@
 mod asks;
 mod sets;
 mod ticks;
+mod times;
 mod trims;
 
 use std::collections::BTreeSet;
@@ -22,6 +23,7 @@ use crate::record::{Record, MATERIALS};
 use asks::do_entries_differ;
 use sets::has_partial;
 use ticks::{is_tick, lets_go_by_ticks};
+use times::drops;
 use trims::past;
 
 pub struct Stepped<'a> {
@@ -347,22 +349,22 @@ pub const EVENTS: &[Event] = &[
         step.trims(lets_go_by_ticks)
     }),
     event("Feed of what some channels take, and not all", |step| {
-        step.feeds() && step.logs(is_partial)
+        step.feeds() && step.makes(is_partial)
     }),
     event("Feed of what none of two channels or more takes", |step| {
-        step.feeds() && step.logs(|plan, node, set| set == 0 && all_leaving(plan, node) > 1)
+        step.feeds() && step.makes(|plan, node, set| set == 0 && all_leaving(plan, node) > 1)
     }),
     event("Take of what some channels take, and not all", |step| {
-        !step.feeds() && step.logs(is_partial)
+        !step.feeds() && step.makes(is_partial)
     }),
     event("Take of what none of two channels or more takes", |step| {
-        !step.feeds() && step.logs(|plan, node, set| set == 0 && all_leaving(plan, node) > 1)
+        !step.feeds() && step.makes(|plan, node, set| set == 0 && all_leaving(plan, node) > 1)
     }),
     event("a rule changes which channels take a record", |step| {
         step.works(|channel, came, made| channel.takes(came) != channel.takes(made))
     }),
     event("Send passes over what other channels take", |step| {
-        step.passes_over_others()
+        step.passes_over_set(|set| set != 0)
     }),
     event("replay ended with what some take, and not all", |step| {
         step.ended()
@@ -490,6 +492,52 @@ pub const EVENTS: &[Event] = &[
     event("26: Trim while an answer is kept", |step| {
         step.after == Err(SOME_NOT_UP) && step.before.nodes.iter().any(|node| node.kept.is_some())
     }),
+    event("Feed that no channel takes", |step| {
+        step.feeds() && step.lacks_time(|_| true)
+    }),
+    event("the same, and the log is full", |step| {
+        step.feeds() && step.lacks_time(|node| node.log.len() == Line::MOST_ENTRIES)
+    }),
+    event("Feed of a node without channels", |step| {
+        let is_alone = |plan: &Plan, node, _| plan.is_source(node) && plan.is_sink(node);
+        step.feeds() && step.makes(is_alone)
+    }),
+    event("Take without a time of its own, at time 0", |step| {
+        !step.feeds() && step.lacks_time(|node| node.time() == 0)
+    }),
+    event("Take without a time of its own, above time 0", |step| {
+        !step.feeds() && step.lacks_time(|node| node.time() > 0)
+    }),
+    event("the same of a node that has recovered", |step| {
+        !step.feeds() && step.lacks_time(|node| node.crash_marked)
+    }),
+    event("Take with a time of its own after one without", |step| {
+        step.has_time_after_none()
+    }),
+    event("21: Take without a time of its own", |step| {
+        step.after == Err(NO_SPACE) && step.without_time().is_some()
+    }),
+    event("a rule keeps a record from leaving", |step| {
+        step.leaves() == Some((true, false))
+    }),
+    event("a rule lets a record leave", |step| {
+        step.leaves() == Some((false, true))
+    }),
+    event("Send passes over what has no time of its own", |step| {
+        step.passes_over_set(|set| set == 0)
+    }),
+    event("Trim that drops what has no time of its own", |step| {
+        step.trims(|line, node, run| drops(line, node, run, |_| true))
+    }),
+    event("the same, at time 0", |step| {
+        step.trims(|line, node, run| drops(line, node, run, |time| time == 0))
+    }),
+    event("Recover told by what has no time of its own", |step| {
+        step.recovered().is_some() && step.is_told_by_silent(step.to_recover())
+    }),
+    event("Ask told by what has no time of its own", |step| {
+        step.after.is_ok() && step.is_told_by_silent(step.to_ask())
+    }),
 ];
 
 impl Stepped<'_> {
@@ -541,22 +589,28 @@ impl Stepped<'_> {
     /// An accepted Feed or Take, and a channel that leaves its node: what the
     /// record is before and after the node's rule.
     fn works(&self, is_such: fn(&Channel, &Record, &Record) -> bool) -> bool {
-        let line = self.before;
-        let (node, came) = match (self.frame, self.after) {
-            (Frame::Feed { node, record }, Ok(_)) => {
-                let record = Record::read(record).expect("an accepted record");
-                (usize::from(node), record)
-            }
-            (Frame::Take { channel }, Ok(_)) => {
-                let number = usize::from(channel);
-                let message = line.queues[number].messages[0];
-                (line.plan.channels[number].receiver, message.record)
-            }
-            _ => return false,
+        let Some((node, came, made)) = self.made() else {
+            return false;
         };
-        let made = line.plan.rules[node].apply(came);
-        let mut leaving = line.plan.leaving(node);
-        leaving.any(|channel| is_such(&line.plan.channels[channel], &came, &made))
+        let plan = &self.before.plan;
+        let mut leaving = plan.leaving(node);
+        self.after.is_ok() && leaving.any(|channel| is_such(&plan.channels[channel], &came, &made))
+    }
+
+    /// Of a Feed or Take the node, and the record before and after its rule.
+    fn made(&self) -> Option<(usize, Record, Record)> {
+        let line = self.before;
+        let (node, came) = match self.frame {
+            Frame::Feed { node, record } => (usize::from(node), Record::read(record)?),
+            Frame::Take { channel } => {
+                let number = usize::from(channel);
+                let receiver = line.plan.channels.get(number)?.receiver;
+                (receiver, line.queues[number].messages.first()?.record)
+            }
+            _ => return None,
+        };
+        let rule = line.plan.rules.get(node)?;
+        Some((node, came, rule.apply(came)))
     }
 
     /// An accepted Send: the channel, and the record sent.
@@ -645,12 +699,11 @@ impl Stepped<'_> {
         let Frame::Take { channel } = self.frame else {
             return None;
         };
-        let ends = self.before.plan.channels.get(usize::from(channel))?;
-        let message = self.before.queues[usize::from(channel)].messages.first()?;
-        let record = self.before.plan.rules[ends.receiver].apply(message.record);
+        let (_, _, record) = self.made()?;
+        let number = usize::from(channel);
         let input = Origin {
-            sender: ends.sender,
-            time: message.time,
+            sender: self.before.plan.channels[number].sender,
+            time: self.before.queues[number].messages[0].time,
         };
         Some((record, input))
     }

@@ -39,7 +39,7 @@ impl Seen {
 fn practised_lines_stay_undamaged() {
     let mut random = Random::new(5);
     let mut seen = Seen::default();
-    for _ in 0..1_000 {
+    for _ in 0..1_500 {
         let plan = any_plan(&mut random);
         assert_eq!(Plan::read(&plan.write()), Ok(plan.clone()));
         let mut line = Line::of(plan);
@@ -75,14 +75,13 @@ fn practised_lines_stay_undamaged() {
         (400, "replay ended"),
         (100, "replay ended with an empty time"),
         (50, "replay ended with a free record"),
-        (2, "replay ended otherwise than without floors"),
         (20, "Take that drops a record for its mass alone"),
         (20, "a cap brings a record to the end of a window"),
         (4, "replay ended with a record that is free by its mass"),
         (100, "Take that holds a tick"),
         (50, "replay ended with a tick"),
         (100, "Trim that drops a tick"),
-        (20, "Trim that drops what ticks alone let go"),
+        (10, "Trim that drops what ticks alone let go"),
         (100, "Feed of what some channels take, and not all"),
         (100, "Take of what some channels take, and not all"),
         (50, "replay ended with what some take, and not all"),
@@ -95,6 +94,16 @@ fn practised_lines_stay_undamaged() {
         (100, "Take while an answer is kept"),
         (20, "Crash while another answer is kept"),
         (50, "26: Trim while an answer is kept"),
+        (1_000, "Feed that no channel takes"),
+        (50, "the same, and the log is full"),
+        (100, "Feed of a node without channels"),
+        (500, "Take without a time of its own, at time 0"),
+        (1_000, "Take without a time of its own, above time 0"),
+        (500, "Take with a time of its own after one without"),
+        (100, "a rule keeps a record from leaving"),
+        (100, "a rule lets a record leave"),
+        (20, "Trim that drops what has no time of its own"),
+        (50, "Recover told by what has no time of its own"),
     ] {
         assert!(seen.events[event] > least, "{event} too seldom: {seen:?}");
     }

@@ -80,7 +80,9 @@ fn taken() -> Line {
 
 #[test]
 fn of_a_feed() {
-    assert_eq!(sets(&fed(), 0), SORTED.map(|(_, set)| set));
+    // What no channel takes is not logged.
+    let sorted = SORTED.iter().map(|(_, set)| *set).filter(|&set| set != 0);
+    assert_eq!(sets(&fed(), 0), sorted.collect::<Vec<u8>>());
 }
 
 #[test]
@@ -117,7 +119,7 @@ fn after_the_rule() {
     line.plan.rules[0] = Rule::Relabel { from: 2, to: 1 };
     line.plan.rules[1] = Rule::Relabel { from: 1, to: 2 };
     accept(&mut line, &[feed(0, 1, 2), feed(0, 2, 1), feed(0, 3, 3)]);
-    assert_eq!(sets(&line, 0), [0b01, 0b01, 0]);
+    assert_eq!(sets(&line, 0), [0b01, 0b01]);
     pass(&mut line, &[0, 0]);
     assert_eq!(sets(&line, 1), [1, 1]);
 }
@@ -216,7 +218,7 @@ fn plan_gives_others() {
         |line| line.nodes[0].log[0].message.record.material = 4,
         |line| line.nodes[0].log[0].message.record.mass = 100,
         |line| line.nodes[0].log[0].message.record = Record::TICK,
-        |line| line.nodes[0].log[9].message.record.material = 0,
+        |line| line.nodes[0].log[7].message.record.material = 0,
     ];
     for (number, change) in changes.iter().enumerate() {
         let mut line = fed();

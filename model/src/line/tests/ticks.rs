@@ -2,11 +2,6 @@
 
 use super::*;
 
-fn tick(node: u8) -> Vec<u8> {
-    let record = Record::TICK.write();
-    Frame::Feed { node, record }.write()
-}
-
 /// 1 sends material 1 to 2; to 3 it sends pieces 3, 7, .. of material 2, over 900
 /// tenths, of which there are none. The rules would change what else is fed.
 #[test]

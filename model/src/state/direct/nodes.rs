@@ -30,10 +30,13 @@ impl View<'_> {
             return false;
         };
         let sets = self.shape.sets(number);
+        // What a router takes and does not pass on has no time of its own.
+        let is_router = !has(self.shape.sources | self.shape.sinks, number);
         let mut last = 0;
         for slot in block[LOG.slot(0)..LOG.slot(count)].chunks_exact(LOG.length) {
             let time = number_at(slot, MESSAGE_TIME);
-            let is_sound = time > last
+            let may_repeat = is_router && slot[ENTRY_SET] == 0;
+            let is_sound = (time > last || may_repeat && time == last)
                 && is_record_sound(slot)
                 && self.is_entry_heard(number, &slot[..ENTRY_SET])
                 && slot[ENTRY_SET..] == [sets.of(slot), 0];

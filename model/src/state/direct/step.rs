@@ -76,7 +76,11 @@ impl InPlace<'_> {
         }
         let record = Record::read(record).ok_or(WRONG_RECORD)?;
         let record = self.worked(node, record);
-        self.log(node, &record, &[0; 2 * ORIGIN])
+        let set = self.sets(node).of(&record);
+        if !self.is_timed(node, set) {
+            return Ok(());
+        }
+        self.log(node, &record, set, &[0; 2 * ORIGIN])
     }
 
     fn send(&mut self, channel: usize) -> Result<(), u32> {
@@ -124,12 +128,11 @@ impl InPlace<'_> {
         Ok(())
     }
 
-    /// Raises the node's time by 1 and logs a record. The origins are what it and
-    /// its input were made from.
-    fn log(&mut self, node: usize, record: &[u8], origins: &[u8]) -> Result<(), u32> {
-        let set = self.sets(node).of(record);
+    /// Logs a record that such channels take, and raises the node's time by 1 if it gets
+    /// one of its own. The origins are what it and its input were made from.
+    fn log(&mut self, node: usize, record: &[u8], set: u8, origins: &[u8]) -> Result<(), u32> {
+        let time = number_at(self.node(node), TIME) + u32::from(self.is_timed(node, set));
         let block = self.node_mut(node);
-        let time = number_at(block, TIME) + 1;
         let slot = free_slot(block, LOG).ok_or(NO_SPACE)?;
         put(slot, RECORD, record);
         put_number(slot, MESSAGE_TIME, time);
@@ -137,6 +140,11 @@ impl InPlace<'_> {
         slot[ENTRY_SET] = set;
         put_number(block, TIME, time);
         Ok(())
+    }
+
+    /// Whether what such channels take gets a time of its own.
+    fn is_timed(&self, node: usize, set: u8) -> bool {
+        set != 0 || self.leaving(node).next().is_none()
     }
 
     fn check_node(&self, node: usize) -> Result<(), u32> {

@@ -1,4 +1,4 @@
-//! The paragraph "Damaged" of document 01 and requests 2026-04, 2026-06 and 2026-07, clause by
+//! The paragraph "Damaged" of document 01 and requests 2026-04 and 2026-06 to 2026-08, clause by
 //! clause: ways to damage a line or its bytes, each with other places and values as it is
 //! drawn.
 
@@ -23,6 +23,7 @@ use super::pick;
 use super::places::places;
 use crate::line::practice::reach;
 use crate::line::Line;
+use crate::plan::Plan;
 use crate::random::Random;
 use crate::state::line_bytes;
 

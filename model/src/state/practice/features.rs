@@ -113,6 +113,32 @@ pub const FEATURES: &[Feature] = &[
             is_recovered(&line.nodes[number]) && is_partial(&line.plan, number, entry.set)
         })
     }),
+    feature("an entry without a time of its own", |line| {
+        has_silent(line, |_, _| true)
+    }),
+    feature("the same at time 0", |line| {
+        has_silent(line, |_, entry| entry.message.time == 0)
+    }),
+    feature("the same of a recovered node", |line| {
+        has_silent(line, |number, _| is_recovered(&line.nodes[number]))
+    }),
+    feature("the same in a full log", |line| {
+        has_silent(line, |number, _| {
+            line.nodes[number].log.len() == Line::MOST_ENTRIES
+        })
+    }),
+    feature("a time that a log has twice", |line| {
+        has_pair(line, |one, other| one == other)
+    }),
+    feature("a time that a log has three times", |line| {
+        has_node(line, |node| {
+            let times = |index: usize| node.log[index].message.time;
+            (2..node.log.len()).any(|index| times(index - 2) == times(index))
+        })
+    }),
+    feature("a log that goes on from time 0", |line| {
+        has_pair(line, |one, other| one == 0 && other > 0)
+    }),
     feature("a plan of version 2", |line| {
         line.plan.version == Version::Second
     }),
@@ -175,6 +201,21 @@ fn has_kept(line: &Line, is_such: impl Fn(&Restart) -> bool) -> bool {
 fn has_entry(line: &Line, is_such: impl Fn(usize, &Entry) -> bool) -> bool {
     let mut nodes = line.nodes.iter().enumerate();
     nodes.any(|(number, node)| node.log.iter().any(|entry| is_such(number, entry)))
+}
+
+/// The same of one that a router does not pass on.
+fn has_silent(line: &Line, is_such: impl Fn(usize, &Entry) -> bool) -> bool {
+    has_entry(line, |number, entry| {
+        line.plan.may_repeat(number, &entry.message.record) && is_such(number, entry)
+    })
+}
+
+/// The times of an entry and of the next one.
+fn has_pair(line: &Line, is_such: fn(u32, u32) -> bool) -> bool {
+    has_node(line, |node| {
+        let mut pairs = node.log.windows(2);
+        pairs.any(|pair| is_such(pair[0].message.time, pair[1].message.time))
+    })
 }
 
 /// An entry of a low clock, and the clock's in the same place.

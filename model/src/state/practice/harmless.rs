@@ -51,16 +51,14 @@ pub const HARMLESS: &[Harmless] = &[
     harmless("another mask of a channel", |random, line| {
         let channel = free_channel(random, line)?;
         line.plan.channels[channel].mask = random.between(1, 0xFFFF) as u16;
-        give_sets(line);
-        Some(())
+        settle(random, line)
     }),
     harmless("another remainder of a channel", |random, line| {
         let channel = free_channel(random, line)?;
         let channel = &mut line.plan.channels[channel];
         channel.modulus = random.between(1, 255) as u8;
         channel.remainder = random.index(usize::from(channel.modulus)) as u8;
-        give_sets(line);
-        Some(())
+        settle(random, line)
     }),
     harmless("another window of a channel", |random, line| {
         let channel = free_channel(random, line)?;
@@ -69,8 +67,7 @@ pub const HARMLESS: &[Harmless] = &[
         let any = random.between(least.into(), 0xFFFF) as u16;
         let greatest = random.pick(&[least, any]);
         line.plan.channels[channel].window = Window { least, greatest };
-        give_sets(line);
-        Some(())
+        settle(random, line)
     }),
     harmless("the plan in the other version", |_, line| {
         line.plan = in_other_version(&line.plan)?;
@@ -108,15 +105,45 @@ pub const HARMLESS: &[Harmless] = &[
     harmless("another record in a log", |random, line| {
         let (node, index) = pick::entry(random, line, |_, _| true)?;
         line.nodes[node].log[index].message.record = any_record(random);
-        give_sets(line);
-        Some(())
+        settle(random, line)
     }),
     harmless("a tick in a log", |random, line| {
         let (node, index) = pick::entry(random, line, |_, _| true)?;
         line.nodes[node].log[index].message.record = Record::TICK;
-        give_sets(line);
+        settle(random, line)
+    }),
+    harmless("an entry that no channel takes", |random, line| {
+        let (node, index) = pick::entry(random, line, |_, _| true)?;
+        silence(random, line, node, index)
+    }),
+    harmless(
+        "the same, at the time of the one before it",
+        |random, line| {
+            let (node, index) = router_entry(random, line, |index| index > 0)?;
+            silence(random, line, node, index)?;
+            let log = &mut line.nodes[node].log;
+            log[index].message.time = log[index - 1].message.time;
+            Some(())
+        },
+    ),
+    harmless("the same, at time 0", |random, line| {
+        let (node, index) = router_entry(random, line, |index| index == 0)?;
+        silence(random, line, node, index)?;
+        line.nodes[node].log[index].message.time = 0;
         Some(())
     }),
+    harmless(
+        "a log that no channel takes, at one time",
+        |random, line| {
+            let (node, index) = router_entry(random, line, |_| true)?;
+            let time = random.pick(&[0, line.nodes[node].log[index].message.time]);
+            for index in 0..line.nodes[node].log.len() {
+                silence(random, line, node, index)?;
+                line.nodes[node].log[index].message.time = time;
+            }
+            Some(())
+        },
+    ),
     harmless("a tick that is held", |random, line| {
         let (node, index) = pick::held(random, line, |_, _| true)?;
         line.nodes[node].buffered[index].record = Record::TICK;
@@ -372,6 +399,51 @@ fn lowered_node(random: &mut Random, line: &Line) -> Option<usize> {
         node.clock.parents.iter().any(|part| part.time > 0)
             && parents.all(|parent| !is_told(&line.nodes[parent]))
     })
+}
+
+/// Gives log entries the sets of a plan or of records that are new, and times that rise
+/// where they now have to.
+fn settle(random: &mut Random, line: &mut Line) -> Option<()> {
+    give_sets(line);
+    for (number, node) in line.nodes.iter_mut().enumerate() {
+        let mut last = 0;
+        for message in node.log.iter_mut().map(|entry| &mut entry.message) {
+            let may_repeat = line.plan.may_repeat(number, &message.record);
+            message.time = message.time.max(last + u32::from(!may_repeat));
+            last = message.time;
+        }
+        node.clock.time = node.clock.time.max(last);
+    }
+    let greatest = greatest_time(line);
+    reach(random, line, greatest);
+    (greatest <= line.accepted_steps()).then_some(())
+}
+
+/// Gives the entry a record that none of its node's channels takes, where one is found.
+pub fn silence(random: &mut Random, line: &mut Line, node: usize, index: usize) -> Option<()> {
+    let entry = &mut line.nodes[node].log[index];
+    let mut records = (0..64).map(|_| Record {
+        material: random.index(16) as u8,
+        ..any_record(random)
+    });
+    entry.message.record = records.find(|record| !line.plan.is_timed(node, record))?;
+    entry.set = 0;
+    Some(())
+}
+
+/// An entry of a node that is neither source nor sink.
+fn router_entry(
+    random: &mut Random,
+    line: &Line,
+    will_do: fn(usize) -> bool,
+) -> Option<(usize, usize)> {
+    let node = pick::node(random, line, |number, node| {
+        !line.plan.is_source(number)
+            && !line.plan.is_sink(number)
+            && (0..node.log.len()).any(will_do)
+    })?;
+    let indices = (0..line.nodes[node].log.len()).filter(|&index| will_do(index));
+    Some((node, pick::any(random, indices)?))
 }
 
 /// One whose sender holds nothing that it would have to take.

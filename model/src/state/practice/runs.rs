@@ -184,7 +184,12 @@ fn fill(random: &mut Random, played: &mut dyn Played, lazy: u32, ticks: u32) {
                 }
                 Frame::Take { channel }
             };
-            is_stuck &= call(random, played, frame) != ACCEPTED;
+            let time = |line: &Line| line.nodes.get(place).map(Node::time);
+            let before = time(played.line());
+            let is_accepted = call(random, played, frame) == ACCEPTED;
+            // A Feed that no channel takes leaves nothing.
+            let is_quiet = place < nodes && time(played.line()) == before;
+            is_stuck &= !is_accepted || is_quiet;
         }
         if is_stuck {
             return;

@@ -89,6 +89,23 @@ pub fn nearly_full() -> Line {
     line
 }
 
+/// All but full and by piece: router 5 can take, on the first channel that enters it, what
+/// none of its channels takes; that of node 0 does not take odd pieces.
+pub fn silent() -> Line {
+    let mut line = by_piece(nearly_full());
+    let router = 5;
+    line.nodes[router].log.pop();
+    line.nodes[router].clock.time -= 1;
+    let record = Record {
+        material: 5,
+        ..piece(2)
+    };
+    assert!(!line.plan.is_timed(router, &record));
+    let entering = line.plan.entering(router).next().expect("a parent");
+    line.queues[entering].messages[0].record = record;
+    line
+}
+
 /// The full line, by hand as if every node had heard of all that there is: a Trim
 /// drops all of a log.
 pub fn heard_by_all() -> Line {

@@ -36,6 +36,7 @@ fn lines_that_hold_most() {
     assert_round_trip(&staged::fresh());
     assert_round_trip(&staged::mixed());
     assert_round_trip(&staged::nearly_full());
+    assert_round_trip(&staged::silent());
     assert_round_trip(&staged::down());
     let full = staged::full();
     assert_round_trip(&full);

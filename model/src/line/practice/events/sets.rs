@@ -5,27 +5,20 @@ use crate::plan::practice::is_partial;
 
 impl Stepped<'_> {
     /// An accepted Feed, or Take of a node that is up: the plan, the node and the set
-    /// of what is logged.
-    pub(super) fn logs(&self, is_such: fn(&Plan, usize, u8) -> bool) -> bool {
-        let node = match self.frame {
-            Frame::Feed { node, .. } => Some(usize::from(node)),
-            _ => self.receiver(Status::Up),
-        };
-        match (node, self.after) {
-            (Some(node), Ok(after)) => {
-                let entry = after.nodes[node].log.last().expect("what is logged");
-                is_such(&after.plan, node, entry.set)
-            }
-            _ => false,
-        }
+    /// of what it makes.
+    pub(super) fn makes(&self, is_such: fn(&Plan, usize, u8) -> bool) -> bool {
+        let plan = &self.before.plan;
+        let is_up = self.feeds() || self.receiver(Status::Up).is_some();
+        let made = self.made().filter(|_| is_up && self.after.is_ok());
+        made.is_some_and(|(node, _, made)| is_such(plan, node, plan.set_of(node, &made)))
     }
 
     pub(super) fn feeds(&self) -> bool {
         matches!(self.frame, Frame::Feed { .. })
     }
 
-    /// A Send that passes over what another channel of the sender takes.
-    pub(super) fn passes_over_others(&self) -> bool {
+    /// A Send that passes over an entry with such a set.
+    pub(super) fn passes_over_set(&self, is_such: fn(u8) -> bool) -> bool {
         let (Frame::Send { channel }, Ok(_)) = (self.frame, self.after) else {
             return false;
         };
@@ -33,7 +26,7 @@ impl Stepped<'_> {
         let sent = line.next_to_send(number).expect("it is sent");
         let passed = line.queues[number].mark + 1..sent.time;
         let mut log = line.nodes[line.plan.channels[number].sender].log.iter();
-        log.any(|entry| passed.contains(&entry.message.time) && entry.set != 0)
+        log.any(|entry| passed.contains(&entry.message.time) && is_such(entry.set))
     }
 }
 

@@ -38,7 +38,8 @@ impl InPlace<'_> {
             origins[0] = sender as u8 + 1;
             put(&mut origins, 1, time);
             put(&mut origins, ORIGIN, origin);
-            self.log(receiver, &record, &origins)?;
+            let set = self.sets(receiver).of(&record);
+            self.log(receiver, &record, set, &origins)?;
         }
         self.raise_clock(channel, sender, &message);
         self.remove_first(channel);

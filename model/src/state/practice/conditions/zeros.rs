@@ -4,7 +4,10 @@ pub const ZERO: Clause = Clause {
     words: "a message's, a held record's or a named sender's time is 0",
     conditions: &[
         line("time of an entry", |random, line| {
-            let node = pick::node(random, line, |_, node| !node.log.is_empty())?;
+            let node = pick::node(random, line, |number, node| {
+                let first = node.log.first().map(|entry| entry.message.record);
+                first.is_some_and(|record| !line.plan.may_repeat(number, &record))
+            })?;
             line.nodes[node].log[0].message.time = 0;
             Some(())
         }),
