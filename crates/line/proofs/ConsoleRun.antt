@@ -1,19 +1,18 @@
 -- What the line does with a step does not depend on who sent it, on bytes: the rules' statement, carried to the states that hold the lines.
-use Prim.Native.Nat.{ℕ, _+_, _<_}
-use mathlib.Core.Path.{_≡_, refl, sym, ap, ap₂, _∙_}
+use Prim.Native.Nat.{ℕ, _+_}
+use mathlib.Core.Path.{_≡_, sym, ap, ap₂, _∙_}
 use mathlib.Core.List.{List, _++_}
 use lib.ListN.{length, take, drop}
 use lib.Seq.{take-at, drop-at, drop-drop}
 use Rattle.plan.specs.Layout.{fields, writeFields}
 use Rattle.plan.specs.Lawful.{Bytes}
-use Rattle.rules.specs.Line.{consoleCount, Line, stepsFrom, withSteps}
+use Rattle.rules.specs.Line.{Line, stepsFrom, withSteps}
 use Rattle.rules.specs.Frame.{frameConsole}
 use Rattle.rules.specs.Step.{step}
-use Rattle.rules.specs.Console.{SameButCounts, SameAsked, countsOne}
+use Rattle.rules.specs.Console.{SameButCounts, countsOne}
 use Rattle.rules.proofs.console.Counted.{counts-caller}
 use Rattle.rules.proofs.console.WhoeverSends.{whoever-sends}
-use Rattle.state.specs.Sizes.{stepsAt, stepsOfAt, stepsWidths, stepsSize}
-use Rattle.state.specs.Right.{wordAt}
+use Rattle.state.specs.Sizes.{stepsAt, stepsWidths, stepsSize}
 use Rattle.state.specs.Fits.{LineFits}
 use Rattle.state.specs.State.{lineBytes, lineOf, stateAnswer}
 use Rattle.state.proofs.LineLaws.{line-read}
@@ -24,7 +23,7 @@ use Rattle.state.proofs.Swapped.{Swapped}
 use Rattle.state.proofs.Written.{line-steps-swap, fits-steps}
 use Rattle.buffer.proofs.ReadyLaws.{count-read}
 use Rattle.buffer.proofs.HoldsLaws.{sane-undamaged}
-use Rattle.line.specs.Step.{stepAnswer, stepLeft}
+use Rattle.line.specs.Step.{stepLeft}
 use Rattle.line.specs.Console.{SameOutside, CountsCallerOnBytes, WhoeverSendsOnBytes}
 use Rattle.line.proofs.StepLaws.{OneCall, one-call}
 

@@ -218,7 +218,7 @@ fn log_taken(s: &mut [u8], n: usize, from: usize, what: Record, made: Made, befo
     log_made(s, n, time, set, what, made, before);
 }
 
-// "the receiver removes the belt's first message, raises its clock by it, applies its rule, raises its time by 1 and logs": of a receiver that is up, where there is something to take. A record that none of a node's leaving channels takes is logged at the present time.
+// "the receiver removes the belt's first message, raises its clock by it, applies its rule, raises its time by 1 and logs": of a receiver that is up, where there is something to take. Where channels leave the receiver and none of them takes the record, it is logged at the present time.
 pub fn take_up(s: &mut [u8], b: usize) -> u32
     requires { ⌜ Taking (now s) b ⌝ }
     ensures { λ r. ⌜ Did (now (s .entry)) (frames.take b) (now (s .exit)) r ⌝ }
