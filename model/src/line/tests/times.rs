@@ -260,17 +260,15 @@ fn times_that_repeat() {
     let mut line = six_taken();
     line.steps = [100; 4];
     line.nodes[1].clock.time = 9;
-    for times in [
+    let sound = [
         [0, 0, 1, 1, 1, 2],
         [0, 1, 2, 2, 3, 9],
         [5, 5, 6, 6, 6, 7],
         [0, 7, 8, 8, 8, 9],
         [1, 2, 3, 4, 5, 6],
         [0, 0, 1, 5, 8, 9],
-    ] {
-        assert!(!is_damaged(&line, 1, &times), "{times:?}");
-    }
-    for times in [
+    ];
+    let wrong = [
         // What a channel takes: 0, or that of the one before it.
         [0, 0, 0, 1, 1, 2],
         [0, 1, 1, 1, 1, 2],
@@ -284,8 +282,11 @@ fn times_that_repeat() {
         [0, 0, 1, 1, 1, 10],
         [10, 10, 11, 11, 11, 12],
         [0, u32::MAX, 1, 1, 1, 2],
-    ] {
-        assert!(is_damaged(&line, 1, &times), "{times:?}");
+    ];
+    for (lists, is_wrong) in [(&sound[..], false), (&wrong, true)] {
+        for times in lists {
+            assert_eq!(is_damaged(&line, 1, times), is_wrong, "{times:?}");
+        }
     }
 }
 
