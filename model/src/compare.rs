@@ -1,12 +1,13 @@
 //! What the programs that compare the engine with the model have in common:
 //! lent buffers, the same step from every caller, with the plan in either version and
-//! by Commit as by Recover, times that count what leaves, and counts that have to reach
-//! their floors.
+//! by Commit as by Recover, two restarts in either order, times that count what leaves, and
+//! counts that have to reach their floors.
 
 mod callers;
 mod commits;
 mod counts;
 mod departures;
+mod either_order;
 mod lent;
 mod versions;
 
@@ -17,6 +18,7 @@ pub use callers::{from_all, FromAll};
 pub use commits::as_recover;
 pub use counts::{answer, under, Counts, Floor};
 pub use departures::Departures;
+pub use either_order::{in_either_order, EitherOrder};
 pub use lent::Lent;
 pub use versions::in_both_versions;
 

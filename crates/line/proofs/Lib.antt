@@ -24,3 +24,5 @@ pub mod AskRun
 pub mod TickRun
 -- Time only for what leaves, on bytes.
 pub mod TimesRun
+-- Two routers restarted in either order, on bytes.
+pub mod EitherOrderRun

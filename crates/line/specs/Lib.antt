@@ -8,6 +8,7 @@ pub mod Versions
 pub mod Trimming
 pub mod Ask
 pub mod Times
+pub mod EitherOrder
 pub mod Ticks
 pub mod Step
 pub mod Whole

@@ -19,6 +19,7 @@ pub mod Console
 pub mod Sets
 pub mod Ask
 pub mod Times
+pub mod EitherOrder
 pub mod Versions
 pub mod Marked
 pub mod Examples

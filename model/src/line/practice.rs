@@ -4,6 +4,7 @@ mod disturb;
 mod events;
 mod frames;
 mod late;
+mod several_down;
 mod torn;
 
 pub use disturb::{disturb, give_sets, retarget};
@@ -12,6 +13,7 @@ pub use frames::{
     almost_tick, caller, cut_frames, every_frame, is_tick_but_for, random_frames, stray, FIELDS,
 };
 pub use late::{age, drawn_steps, greatest_time, make_late, reach, share_steps};
+pub use several_down::{several_down, TwoRestarts};
 pub use torn::torn;
 
 use super::{stepped, Frame, Line, Status};

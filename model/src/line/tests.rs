@@ -2,6 +2,7 @@
 
 mod asks;
 mod damage;
+mod either_order;
 mod handmade;
 mod practised;
 mod refusals;
@@ -72,6 +73,13 @@ fn accept(line: &mut Line, frames: &[Vec<u8>]) {
         assert_eq!(direct::step(&mut state, frame), 0);
         assert_eq!(read_line(&state).as_ref(), Some(&*line));
     }
+}
+
+/// The line after the frame, accepted.
+fn after(line: &Line, frame: Vec<u8>) -> Line {
+    let mut next = line.clone();
+    accept(&mut next, &[frame]);
+    next
 }
 
 /// Each is sent and taken on once.

@@ -5,7 +5,7 @@ use mathlib.Core.List.{List, [], _∷_}
 use native.Mathlib.Omega.{arith}
 use native.Mathlib.Decide.{ℕ-discrete}
 use lib.ListN.{length, getD, length-set}
-use lib.Seq.{getD-set-same, getD-set-other}
+use lib.Seq.{set-comm, getD-set-same, getD-set-other}
 use Rattle.basics.specs.Replicate.{replicate-default}
 use Rattle.plan.specs.Layout.{sumOf}
 use Rattle.rules.specs.Line.{stepLimit, consoleCount, onlyCount, oneMore, timeLimit}
@@ -53,3 +53,12 @@ module _ {counts : List ℕ} (f : CountsFit counts) {c : ℕ} (inside : c < cons
   -- All of them together have one left, too.
   pub counts-left : sumOf counts < timeLimit
   counts-left = omega (arith, counts-rise, counts-most more-fit)
+
+-- Two steps are counted alike in either order.
+pub more-swap : (c d : ℕ) (counts : List ℕ) → oneMore d (oneMore c counts) ≡ oneMore c (oneMore d counts)
+more-swap c d counts =
+    elim (ℕ-discrete c d) [
+      | yes q ↦ (λ i. oneMore (sym q i) (oneMore (q i) counts))
+      | no q ↦ rw (getD-set-other counts c d (suc (getD counts c 0)) 0 (λ z. q (sym z)), getD-set-other counts d c (suc (getD counts d 0)) 0 q)
+          (set-comm counts c d (suc (getD counts c 0)) (suc (getD counts d 0)) q)
+    ]

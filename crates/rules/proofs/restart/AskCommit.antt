@@ -40,10 +40,10 @@ use Rattle.rules.proofs.console.Counted.{step-number}
 use Rattle.rules.proofs.console.Recounted.{restored-recounted}
 
 -- The first that applies of the tests of an Ask or a Recover, and of a Commit.
-abbrev refusedBy : Bool → Bool → Bool → Bool → Bool → ℕ
+abbrev pub refusedBy : Bool → Bool → Bool → Bool → Bool → ℕ
 refusedBy a b c d e = elim a [ true ↦ 13 | false ↦ elim b [ true ↦ 14 | false ↦ elim c [ true ↦ 15 | false ↦ elim d [ true ↦ 21 | false ↦ elim e [ true ↦ 24 | false ↦ 0 ] ] ] ] ]
 
-abbrev commitRefusedBy : Bool → Bool → Bool → Bool → ℕ
+abbrev pub commitRefusedBy : Bool → Bool → Bool → Bool → ℕ
 commitRefusedBy a b c d = elim a [ true ↦ 13 | false ↦ elim b [ true ↦ 14 | false ↦ elim c [ true ↦ 15 | false ↦ elim d [ true ↦ 27 | false ↦ 0 ] ] ] ]
 
 -- What a line refuses of an Ask and of a Recover.

@@ -121,11 +121,14 @@ module _ (l : Line) (steps : List ℕ) (nodes : List Node) (lanes : List Lane) (
     pub targets-kept : targetsOf k n ≡ targetsOf l n
     targets-kept = targets-same l k n low-kept triples-kept
 
+    pub restored-kept : (parent : ℕ) → restored k n parent ≡ restored l n parent
+    restored-kept parent = restored-same l k n low-kept triples-kept parent (lows-same l k n refl (λ c on leaves. lows c (on, leaves)) parent)
+
     pub rows-kept : restoredComplete k n ≡ restoredComplete l n
     rows-kept =
         let p = l .plan in
         all-same (λ (c : ℕ). leb (rowGoal (targetsOf k n) (channelAt p c .sender)) (restored k n (channelAt p c .sender))) (λ (c : ℕ). leb (rowGoal (targetsOf l n) (channelAt p c .sender)) (restored l n (channelAt p c .sender))) (entering p n)
-        (λ c i. rw (targets-kept, restored-same l k n low-kept triples-kept (channelAt p c .sender) (lows-same l k n refl (λ d on leaves. lows d (on, leaves)) (channelAt p c .sender))))
+        (λ c i. rw (targets-kept, restored-kept (channelAt p c .sender)))
 
     pub answer-kept : answerOf k n ≡ answerOf l n
     unfolding answerOf
@@ -134,7 +137,7 @@ module _ (l : Line) (steps : List ℕ) (nodes : List Node) (lanes : List Lane) (
         λ i. record {
           low = low-kept i;
           high = high-same l k n refl (λ c on leaves. entries c (on, leaves)) i;
-          entries = map-same (λ (c : ℕ). restored k n (channelAt p c .sender)) (λ (c : ℕ). restored l n (channelAt p c .sender)) (entering p n) (λ c j. restored-same l k n low-kept triples-kept (channelAt p c .sender) (lows-same l k n refl (λ d on leaves. lows d (on, leaves)) (channelAt p c .sender))) i ++ replicate (4 - length (entering p n)) 0;
+          entries = map-same (λ (c : ℕ). restored k n (channelAt p c .sender)) (λ (c : ℕ). restored l n (channelAt p c .sender)) (entering p n) (λ c j. restored-kept (channelAt p c .sender)) i ++ replicate (4 - length (entering p n)) 0;
         }
 
     pub stuck-kept : stuck k n ≡ stuck l n

@@ -2,10 +2,11 @@
 
 use std::fmt::Display;
 
-use model::compare::{answer, under, Floor};
+use model::answer::ACCEPTED;
+use model::compare::{answer, under, EitherOrder, Floor};
 use model::line::practice::EVENTS;
 use model::line::{Caller, Frame};
-use model::plan::Version;
+use model::plan::{Plan, Version};
 use model::state::practice::{Kind, AFTER_A_SET, HARMLESS, OTHER_SETS};
 
 /// What the rows stand under.
@@ -20,6 +21,11 @@ pub mod section {
     pub const BOTH: &str = "the same step with the plan in either version";
     pub const FROM_ALL: &str = "the same step from every caller";
     pub const RESTARTS: &str = "Commit and Recover on the same state";
+    pub const EITHER: &str = "two restarts in either order";
+    pub const EITHER_NODES: &str = "the same, by how the nodes stand to each other";
+    pub const EITHER_KINDS: &str = "the same, by their kinds, the lower node's first";
+    pub const EITHER_CALLERS: &str = "the same, by who sends them";
+    pub const EITHER_LEFT: &str = "the same where both are accepted, by what they leave";
     pub const BETWEEN: &str = "Commits, by the accepted steps since the Ask";
     pub const EVENTS: &str = "what steps do and why they are refused";
     pub const TIMES: &str = "times, where they count what leaves, after accepted steps";
@@ -86,6 +92,7 @@ pub fn all() -> Vec<Floor> {
     floors.extend(under(section::BOTH, 5_000, [true, false].map(both)));
     floors.extend(under(section::FROM_ALL, 1_000, FROM_ALL));
     floors.extend(under(section::RESTARTS, 2_000, [true, false].map(restarts)));
+    floors.extend(either_order());
     floors.extend(under(section::BETWEEN, 100, BETWEEN));
     let events = EVENTS.iter().map(|event| event.name);
     floors.extend(under(section::EVENTS, 100, events));
@@ -100,6 +107,25 @@ pub fn all() -> Vec<Floor> {
     floors.extend(under(section::DAMAGED, 500, damaged));
     let others = OTHER_SETS.iter().map(|other| other.name);
     floors.extend(under(section::SETS, 200, others.chain([AFTER_A_SET])));
+    floors
+}
+
+fn either_order() -> Vec<Floor> {
+    let mut floors = Vec::new();
+    for (least, row) in EITHER {
+        floors.extend(under(section::EITHER, least, [row]));
+    }
+    for (section, rows) in [
+        (section::EITHER_NODES, &RELATIONS[..]),
+        (section::EITHER_KINDS, &RESTARTS),
+        (section::EITHER_CALLERS, &TWO_CALLERS),
+    ] {
+        let outcomes = rows
+            .iter()
+            .flat_map(|row| [true, false].map(|is| outcome(row, is)));
+        floors.extend(under(section, 1_000, outcomes));
+    }
+    floors.extend(under(section::EITHER_LEFT, 2_000, LEFT));
     floors
 }
 
@@ -173,6 +199,85 @@ pub fn both(is_accepted: bool) -> String {
 
 pub fn restarts(is_accepted: bool) -> String {
     outcome("both", is_accepted)
+}
+
+const EITHER: [(usize, &str); 11] = [
+    (10_000, "both accepted"),
+    (100, "one accepted, the other 12"),
+    (50, "one accepted, the other 21"),
+    (300, "one accepted, the other 24"),
+    (2_000, "one accepted, the other 27"),
+    (1_000, "both refused with one number"),
+    (200, "both refused with two numbers"),
+    (1_000, "accepted as the first, 12 as the second"),
+    (10, "one accepted, the other 21 or after it 12"),
+    (50, "one accepted, the other 24 or after it 12"),
+    (300, "one accepted, the other 27 or after it 12"),
+];
+
+pub fn either(either: &EitherOrder) -> String {
+    let mut answers = either.answers;
+    answers.sort_unstable();
+    match (answers, either.is_last_step) {
+        ([ACCEPTED, ACCEPTED], false) => "both accepted".to_string(),
+        ([ACCEPTED, ACCEPTED], true) => "accepted as the first, 12 as the second".to_string(),
+        ([ACCEPTED, refusal], false) => format!("one accepted, the other {refusal}"),
+        ([_, refusal], true) => format!("one accepted, the other {refusal} or after it 12"),
+        ([one, other], false) if one == other => "both refused with one number".to_string(),
+        _ => "both refused with two numbers".to_string(),
+    }
+}
+
+const RELATIONS: [&str; 4] = [
+    "they share a child",
+    "they share a parent",
+    "one is the other's grandparent",
+    "none of these",
+];
+
+/// Of two nodes that no channel joins, the lower one first.
+pub fn relations(plan: &Plan, [one, other]: [usize; 2]) -> Vec<&'static str> {
+    let mut hold = vec![
+        do_meet(plan.children(one), plan.children(other)),
+        do_meet(plan.parents(one), plan.parents(other)),
+        do_meet(plan.children(one), plan.parents(other)),
+    ];
+    hold.push(!hold.contains(&true));
+    let rows = RELATIONS.into_iter().zip(hold);
+    rows.filter_map(|(row, holds)| holds.then_some(row))
+        .collect()
+}
+
+fn do_meet(mut ones: impl Iterator<Item = usize>, others: impl Iterator<Item = usize>) -> bool {
+    let others: Vec<usize> = others.collect();
+    ones.any(|node| others.contains(&node))
+}
+
+const RESTARTS: [&str; 4] = [
+    "Recover and Recover",
+    "Recover and Commit",
+    "Commit and Recover",
+    "Commit and Commit",
+];
+
+pub fn two_restarts(frames: [Frame; 2]) -> &'static str {
+    let commits = frames.map(|frame| usize::from(matches!(frame, Frame::Commit { .. })));
+    RESTARTS[2 * commits[0] + commits[1]]
+}
+
+const TWO_CALLERS: [&str; 3] = ["one caller", "one console in two versions", "two consoles"];
+
+pub fn two_callers([one, other]: [Caller; 2]) -> &'static str {
+    TWO_CALLERS[match one.console() == other.console() {
+        true => usize::from(one != other),
+        false => 2,
+    }]
+}
+
+const LEFT: [&str; 3] = ["both are up", "one replays", "both replay"];
+
+pub fn left(replaying: usize) -> &'static str {
+    LEFT[replaying]
 }
 
 const BETWEEN: [&str; 3] = ["none", "1 to 7", "8 or more"];

@@ -1,8 +1,9 @@
 // Compares the engine's Step, and the model's own step in place, with the
 // model's step on lines: on runs from Load and from late times, on undamaged
 // states that no run leads to, and on damaged ones; and the engine's Step with
-// itself, on the same step from every caller and with the plan in either version, and
-// on a Commit beside a Recover. Times have to count what leaves.
+// itself, on the same step from every caller and with the plan in either version, on a
+// Commit beside a Recover and on two restarts in either order. Times have to count what
+// leaves.
 // Run in model/:
 //   cargo run --release --offline --features engine-state --bin compare_step [seed]
 
@@ -20,6 +21,7 @@ const RUNS: u64 = 600;
 const CHANGED_RUNS: u64 = 80;
 const LAST_RUNS: u64 = 200;
 const TORN: u64 = 20_000;
+const PAIRED: u64 = 1_500;
 
 fn main() {
     let mut run = Run::new();
@@ -37,6 +39,7 @@ fn one(run: &mut Run, seed: u64) {
     run.change(seed, on::LATE, &lines);
     run.play_to_the_end(seed, &staged::worn());
     run.tear(seed);
+    run.restart_pairs(seed);
 }
 
 fn all(run: &mut Run) {
@@ -55,6 +58,9 @@ fn all(run: &mut Run) {
     }
     for seed in 0..TORN {
         run.tear(seed);
+    }
+    for seed in 0..PAIRED {
+        run.restart_pairs(seed);
     }
     run.stage();
     run.spoil_sets();

@@ -1,12 +1,13 @@
 // Calls on states and frames as they are drawn, counted.
 
 use model::answer::{ACCEPTED, FRAME_LENGTH, NO_REPLAY, NO_SPACE, STATE};
-use model::compare::{self, as_recover, from_all, in_both_versions, Counts};
+use model::compare::{self, as_recover, from_all, in_both_versions, in_either_order, Counts};
 use model::engine;
 use model::line::practice::{
-    age, caller, cut_frames, every_frame, random_frames, stray, torn, Practice, Stepped, EVENTS,
+    age, caller, cut_frames, every_frame, random_frames, several_down, stray, torn, Practice,
+    Stepped, TwoRestarts, EVENTS,
 };
-use model::line::{stepped, Caller, Frame, Line};
+use model::line::{restart as told, stepped, Caller, Frame, Line};
 use model::plan::practice::any_plan;
 use model::random::Random;
 use model::record::Record;
@@ -27,6 +28,8 @@ const WRONG: usize = 8;
 const AGAIN: u32 = 64;
 /// One with a kept answer in so many: a Commit of it and a Recover are made.
 const RESTARTED: u32 = 8;
+/// One state in so many: two of the nodes that are down are restarted in either order.
+const PAIRED: u32 = 16;
 
 pub struct Run {
     /// Of what is drawn for the calls, the practice's draws aside.
@@ -188,6 +191,25 @@ impl Run {
         }
     }
 
+    /// Several routers that are down: each two of them restarted in either order, and then
+    /// all.
+    pub fn restart_pairs(&mut self, seed: u64) {
+        self.seed = seed;
+        let mut random = Random::new(seed);
+        let line = several_down(&mut random);
+        let states = States::of(&mut self.random, &line_bytes(&line));
+        if states.line.is_none() {
+            compare::fail("several down", "damaged", &states.bytes);
+        }
+        for two in TwoRestarts::all(&mut random, &line) {
+            self.call_in_either_order(&line, &states.bytes, &two);
+        }
+        let mut playing = self.playing(states, on::TORN);
+        for node in 0..line.nodes.len() as u8 {
+            restart(&mut random, &mut playing, node);
+        }
+    }
+
     /// The staged lines in both versions and with channels by piece, with every frame;
     /// most nodes restarted, replays to the end, a Trim of each node and some steps more.
     pub fn stage(&mut self) {
@@ -320,6 +342,13 @@ impl Run {
             if self.random.one_in(RESTARTED) {
                 self.call_as_recover(before, &states.bytes);
             }
+            if self.random.one_in(PAIRED) {
+                let all = TwoRestarts::all(&mut self.random, before);
+                if !all.is_empty() {
+                    let two = &all[self.random.index(all.len())];
+                    self.call_in_either_order(before, &states.bytes, two);
+                }
+            }
             if self.random.one_in(AGAIN) {
                 self.call_from_all(before, &states.bytes, asked);
             }
@@ -382,6 +411,36 @@ impl Run {
                 });
                 let row = floors::restarts(answer == ACCEPTED);
                 self.counts.add(section::RESTARTS, row);
+            }
+        }
+    }
+
+    /// The engine does the same whichever is first, and so does the model.
+    fn call_in_either_order(&mut self, line: &Line, bytes: &[u8], two: &TwoRestarts) {
+        let [one, other] = two.bytes();
+        for step in [engine::step, direct::step, state::step] {
+            let either = in_either_order(step, bytes, [&one, &other]);
+            let either = either.unwrap_or_else(|wrong| {
+                let told = format!("seed {}, {one:02X?} and {other:02X?}", self.seed);
+                compare::fail(&told, &wrong, bytes)
+            });
+            self.counts.add(section::EITHER, floors::either(&either));
+            if either.is_last_step {
+                continue;
+            }
+            let is_accepted = either.answers == [ACCEPTED; 2];
+            for relation in floors::relations(&line.plan, two.nodes) {
+                let row = floors::outcome(relation, is_accepted);
+                self.counts.add(section::EITHER_NODES, row);
+            }
+            let row = floors::outcome(floors::two_restarts(two.frames), is_accepted);
+            self.counts.add(section::EITHER_KINDS, row);
+            let row = floors::outcome(floors::two_callers(two.callers), is_accepted);
+            self.counts.add(section::EITHER_CALLERS, row);
+            if is_accepted {
+                let replays = |node: &&usize| !told(line, **node).targets.is_empty();
+                let row = floors::left(two.nodes.iter().filter(replays).count());
+                self.counts.add(section::EITHER_LEFT, row);
             }
         }
     }

@@ -15,6 +15,16 @@ use crate::rule::Rule;
 /// Sink `c` takes the materials that have bit `c`.
 const MASKS: [u16; Plan::MOST_AT_A_NODE] = [0xAAAA, 0xCCCC, 0xF0F0, 0xFF00];
 
+/// What a router did before it crashed.
+pub(super) struct Past {
+    router: usize,
+    parents: Vec<usize>,
+    high: u32,
+    /// One record in so many is a tick.
+    ticks: u32,
+    made: Vec<Made>,
+}
+
 /// What a router logged at one of its times.
 struct Made {
     time: u32,
@@ -28,28 +38,11 @@ pub fn torn(random: &mut Random) -> (Line, usize) {
     let sinks = random.pick(&[1, 2, 3, 3, 4, 4]);
     let mut line = Line::of(plan(random, sources, sinks));
     let high = random.pick(&[2, 4, 8, 20, 100]);
-    // One record in so many is a tick.
-    let ticks = random.pick(&[8, 1_000, 1_000]);
-    let made = drawn_made(random, sources, high, ticks);
+    let past = Past::drawn(random, &line.plan, sources, high);
     for source in 0..sources {
-        fill_source(random, &mut line.nodes[source], source, &made, ticks);
+        past.fill_source(random, &mut line.nodes[source], source);
     }
-    let is_right = !random.one_in(4);
-    let rule = if is_right {
-        line.plan.rules[sources]
-    } else {
-        Rule::Keep
-    };
-    for channel in &line.plan.channels[sources..] {
-        let any = random.between(0, high);
-        let entry = random.pick(&[any, any, high]);
-        let node = &mut line.nodes[channel.receiver];
-        node.clock.raise_taken(sources, entry);
-        let made = made.iter().filter(|made| made.time <= entry);
-        for made in made.filter(|made| channel.takes(&rule.apply(made.record))) {
-            log_made(random, node, sources, made, is_right);
-        }
-    }
+    past.fill_children(random, &mut line);
     if random.one_in(3) {
         for sink in sources + 1..line.nodes.len() {
             trim_some(random, &mut line.nodes[sink]);
@@ -64,13 +57,18 @@ pub fn torn(random: &mut Random) -> (Line, usize) {
             *time *= if node == sources { stride } else { 1 };
         });
     }
-    if random.one_in(2) {
-        let accepted = greatest_time(&line).max(1_000);
-        reach(random, &mut line, accepted);
-    } else {
-        age(random, &mut line);
-    }
+    give_steps(random, &mut line);
     (line, sources)
+}
+
+/// As many as the times want, and late times in half of the cases.
+pub(super) fn give_steps(random: &mut Random, line: &mut Line) {
+    if random.one_in(2) {
+        let accepted = greatest_time(line).max(1_000);
+        reach(random, line, accepted);
+    } else {
+        age(random, line);
+    }
 }
 
 fn plan(random: &mut Random, sources: usize, sinks: usize) -> Plan {
@@ -90,9 +88,88 @@ fn plan(random: &mut Random, sources: usize, sinks: usize) -> Plan {
     plan
 }
 
+impl Past {
+    pub(super) fn drawn(random: &mut Random, plan: &Plan, router: usize, high: u32) -> Past {
+        let ticks = random.pick(&[8, 1_000, 1_000]);
+        let parents: Vec<usize> = plan.parents(router).collect();
+        let made = drawn_made(random, &parents, high, ticks);
+        Past {
+            router,
+            parents,
+            high,
+            ticks,
+            made,
+        }
+    }
+
+    /// All that was made from the source, and what was between, as far as there is
+    /// room.
+    fn fill_source(&self, random: &mut Random, node: &mut Node, source: usize) {
+        let of_source = self.made.iter().filter(|made| made.input.sender == source);
+        let last = of_source.clone().map(|made| made.input.time).max();
+        let misses = random.pick(&[8, 1_000, 1_000]);
+        for time in 1..=last.unwrap_or(0) + random.between(0, 70) {
+            let known = of_source.clone().find(|made| made.input.time == time);
+            let any = drawn_record(random, self.ticks, 0);
+            if node.log.len() < Line::MOST_ENTRIES && !random.one_in(misses) {
+                let record = known.map_or(any, |made| made.record);
+                node.log.push(entry(time, record, None, None));
+            }
+            node.clock.time = time;
+        }
+    }
+
+    /// Each child has taken what its channel takes, up to some time.
+    pub(super) fn fill_children(&self, random: &mut Random, line: &mut Line) {
+        let is_right = !random.one_in(4);
+        let rule = if is_right {
+            line.plan.rules[self.router]
+        } else {
+            Rule::Keep
+        };
+        for channel in line.plan.leaving(self.router) {
+            let channel = &line.plan.channels[channel];
+            let any = random.between(0, self.high);
+            let entry = random.pick(&[any, any, self.high]);
+            let node = &mut line.nodes[channel.receiver];
+            node.clock.raise_taken(self.router, entry);
+            let made = self.made.iter().filter(|made| made.time <= entry);
+            for made in made.filter(|made| channel.takes(&rule.apply(made.record))) {
+                self.log_made(random, node, made, is_right);
+            }
+        }
+    }
+
+    /// A child logs what it took, if there is room. One in some is told otherwise than
+    /// it was, unless all is to be right.
+    fn log_made(&self, random: &mut Random, node: &mut Node, made: &Made, is_right: bool) {
+        if node.log.len() == Line::MOST_ENTRIES {
+            return;
+        }
+        let (mut time, mut input) = (made.time, made.input);
+        if !is_right && random.one_in(6) {
+            match random.index(3) {
+                0 => time = random.between(1, node.clock.taken(self.router)),
+                1 => input.time = random.between(1, 20),
+                _ => input.sender = random.pick(&self.parents),
+            }
+        }
+        let sender = Origin {
+            sender: self.router,
+            time,
+        };
+        node.clock
+            .raise_heard(self.router, input.sender, input.time);
+        node.clock.time += 1;
+        let own = node.clock.time;
+        node.log
+            .push(entry(own, made.record, Some(sender), Some(input)));
+    }
+}
+
 /// Most times up to high, each from another input; along a parent inputs rise.
-fn drawn_made(random: &mut Random, sources: usize, high: u32, ticks: u32) -> Vec<Made> {
-    let mut last = vec![0; sources];
+fn drawn_made(random: &mut Random, parents: &[usize], high: u32, ticks: u32) -> Vec<Made> {
+    let mut last = [0; Plan::MOST_NODES];
     let gap = random.pick(&[1, 1, 1, 1, 2, 3]);
     let empty = random.pick(&[2, 4, 16]);
     let mut made = Vec::new();
@@ -100,7 +177,7 @@ fn drawn_made(random: &mut Random, sources: usize, high: u32, ticks: u32) -> Vec
         if random.one_in(empty) {
             continue;
         }
-        let sender = random.index(sources);
+        let sender = random.pick(parents);
         last[sender] += random.between(1, gap);
         made.push(Made {
             time,
@@ -114,54 +191,12 @@ fn drawn_made(random: &mut Random, sources: usize, high: u32, ticks: u32) -> Vec
     made
 }
 
-/// All that was made from the source, and what was between, as far as there is
-/// room.
-fn fill_source(random: &mut Random, node: &mut Node, source: usize, made: &[Made], ticks: u32) {
-    let of_source = made.iter().filter(|made| made.input.sender == source);
-    let last = of_source.clone().map(|made| made.input.time).max();
-    let misses = random.pick(&[8, 1_000, 1_000]);
-    for time in 1..=last.unwrap_or(0) + random.between(0, 70) {
-        let known = of_source.clone().find(|made| made.input.time == time);
-        let any = drawn_record(random, ticks, 0);
-        if node.log.len() < Line::MOST_ENTRIES && !random.one_in(misses) {
-            let record = known.map_or(any, |made| made.record);
-            node.log.push(entry(time, record, None, None));
-        }
-        node.clock.time = time;
-    }
-}
-
-/// A sink logs what it took, if there is room. One in some is told otherwise than
-/// it was, unless all is to be right.
-fn log_made(random: &mut Random, node: &mut Node, router: usize, made: &Made, is_right: bool) {
-    if node.log.len() == Line::MOST_ENTRIES {
-        return;
-    }
-    let (mut time, mut input) = (made.time, made.input);
-    if !is_right && random.one_in(6) {
-        match random.index(3) {
-            0 => time = random.between(1, node.clock.taken(router)),
-            1 => input.time = random.between(1, 20),
-            _ => input.sender = random.index(router),
-        }
-    }
-    let sender = Origin {
-        sender: router,
-        time,
-    };
-    node.clock.raise_heard(router, input.sender, input.time);
-    node.clock.time += 1;
-    let own = node.clock.time;
-    node.log
-        .push(entry(own, made.record, Some(sender), Some(input)));
-}
-
 /// The first entries are gone from the log and kept as the low clock, or there is a
 /// low clock that no entries leave.
-fn trim_some(random: &mut Random, node: &mut Node) {
+pub(super) fn trim_some(random: &mut Random, node: &mut Node) {
     let most = random.pick(&[0, node.log.len() / 2, node.log.len()]);
     for entry in node.log.drain(..random.between(0, most as u32) as usize) {
-        let input = entry.message.made_from.expect("a sink's input");
+        let input = entry.message.made_from.expect("a child's input");
         node.low_clock.raise_by(input, entry.input_made_from);
     }
     if random.one_in(8) {

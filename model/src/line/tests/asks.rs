@@ -14,13 +14,6 @@ fn kept(line: &Line, node: usize) -> Option<&Restart> {
     line.nodes[node].kept.as_ref()
 }
 
-/// The line after the frame, accepted.
-fn after(line: &Line, frame: Vec<u8>) -> Line {
-    let mut next = line.clone();
-    accept(&mut next, &[frame]);
-    next
-}
-
 /// What Ask keeps changes nothing else, and what Commit applies is what Recover would.
 #[test]
 fn ninth_marked_sheet_asked() {

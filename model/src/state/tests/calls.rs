@@ -1,9 +1,11 @@
 //! Load and Write: every answer, and what is left in the buffers. Step: the same
-//! from every caller, and with the plan in either version.
+//! from every caller, and with the plan in either version; two restarts in either order.
 
-use crate::compare::{from_all, in_both_versions};
-use crate::line::practice::{caller, every_frame, torn};
-use crate::line::{Frame, Line};
+use std::collections::BTreeMap;
+
+use crate::compare::{from_all, in_both_versions, in_either_order};
+use crate::line::practice::{caller, every_frame, several_down, torn, TwoRestarts};
+use crate::line::{damaged, Frame, Line};
 use crate::plan::practice::{any_plan, mutate, plan};
 use crate::plan::Plan;
 use crate::random::Random;
@@ -139,6 +141,42 @@ fn same_restart_in_place() {
         "{answers:?}"
     );
     assert!(answers[21] > 20, "{answers:?}");
+}
+
+/// Two restarts end alike, whichever is first.
+#[test]
+fn same_restarts_in_either_order() {
+    let mut seen = BTreeMap::new();
+    for seed in 0..300 {
+        let mut random = Random::new(seed);
+        let line = several_down(&mut random);
+        assert!(!damaged(&line), "{line:?}");
+        let state = line_bytes(&line);
+        for two in TwoRestarts::all(&mut random, &line) {
+            let [one, other] = two.bytes();
+            for step in [step, direct::step] {
+                let either = in_either_order(step, &state, [&one, &other]);
+                let either =
+                    either.unwrap_or_else(|wrong| panic!("{wrong}: {:?} {line:?}", two.frames));
+                let mut answers = either.answers;
+                answers.sort_unstable();
+                *seen.entry((answers, either.is_last_step)).or_insert(0) += 1;
+            }
+        }
+    }
+    println!("{seen:?}");
+    for (least, answers, is_last_step) in [
+        (1_000, [0, 0], false),
+        (200, [0, 0], true),
+        (100, [0, 24], false),
+        (20, [0, 24], true),
+        (400, [0, 27], false),
+        (100, [0, 27], true),
+        (20, [24, 27], false),
+    ] {
+        let seen = seen.get(&(answers, is_last_step));
+        assert!(seen.is_some_and(|&times| times > least), "{answers:?}");
+    }
 }
 
 #[test]
