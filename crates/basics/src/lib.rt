@@ -1,1 +1,2 @@
 // Laws that several crates cite. No code.
+#![tactic(auto)]

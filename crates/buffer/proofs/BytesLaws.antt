@@ -1,7 +1,7 @@
 -- Bytes of a buffer: four of them as a number, bytes that are all 0, and bytes written one by one.
 use Prim.Native.Nat.{ℕ, zero, suc, ◌+◌, ◌*◌, ◌-◌, ◌≤◌, ◌<◌}
 use mathlib.Core.Path.{◌≡◌, refl, sym, ap, ◌∙◌}
-use mathlib.Core.Bool.{Bool, true, false, ◌&&◌, and_assoc, and_true}
+use mathlib.Core.Bool.{Bool, true, false, ◌&&◌, and_assoc, and-true}
 use mathlib.Core.List.{List, [], ◌∷◌, ◌++◌}
 use native.Mathlib.Nat.{add-zero}
 use native.Mathlib.Omega.{arith}
@@ -66,10 +66,10 @@ or_test a b = zero_test (bit_or a b) ∙ or_zero a b
 first_two : (s : List ℕ) → 2 ≤ length s → zero_bytes (take 2 s) ≡ eqb (bit_or (get_or s 0 0) (get_or s 1 0)) 0
 first_two [] h = let no : ⊥ = omega arith in absurd no
 first_two (a ∷ []) h = let no : ⊥ = omega arith in absurd no
-first_two (a ∷ b ∷ s) h = ap (λ (t : Bool). eqb 0 a && t) (and_true (eqb 0 b)) ∙ sym (or_test a b)
+first_two (a ∷ b ∷ s) h = ap (λ (t : Bool). eqb 0 a && t) (and-true (eqb 0 b)) ∙ sym (or_test a b)
 
 pub one_zero : (a : ℕ) (s : List ℕ) → a < length s → zero_at a 1 s ≡ eqb (get_or s a 0) 0
-one_zero a s h = rw (drop-cons s a 0 h) (and_true (eqb 0 (get_or s a 0)) ∙ sym (zero_test (get_or s a 0)))
+one_zero a s h = rw (drop-cons s a 0 h) (and-true (eqb 0 (get_or s a 0)) ∙ sym (zero_test (get_or s a 0)))
 
 pub two_zero : (a : ℕ) (s : List ℕ) → a + 2 ≤ length s → zero_at a 2 s ≡ eqb (bit_or (get_or s a 0) (get_or s (a + 1) 0)) 0
 two_zero a s h = first_two (drop a s) (simp length-drop (omega arith)) ∙ simp (get_or-drop, add-zero)
@@ -79,7 +79,7 @@ first_three [] h = let no : ⊥ = omega arith in absurd no
 first_three (a ∷ []) h = let no : ⊥ = omega arith in absurd no
 first_three (a ∷ b ∷ []) h = let no : ⊥ = omega arith in absurd no
 first_three (a ∷ b ∷ c ∷ s) h =
-    ap (λ (t : Bool). eqb 0 a && (eqb 0 b && t)) (and_true (eqb 0 c)) ∙ sym (and_assoc (eqb 0 a) (eqb 0 b) (eqb 0 c)) ∙ sym (or_test (bit_or a b) c ∙ ap (λ (t : Bool). t && eqb 0 c) (or_zero a b))
+    ap (λ (t : Bool). eqb 0 a && (eqb 0 b && t)) (and-true (eqb 0 c)) ∙ sym (and_assoc (eqb 0 a) (eqb 0 b) (eqb 0 c)) ∙ sym (or_test (bit_or a b) c ∙ ap (λ (t : Bool). t && eqb 0 c) (or_zero a b))
 
 pub three_zero : (a : ℕ) (s : List ℕ) → a + 3 ≤ length s → zero_at a 3 s ≡ eqb (bit_or (bit_or (get_or s a 0) (get_or s (a + 1) 0)) (get_or s (a + 2) 0)) 0
 three_zero a s h = first_three (drop a s) (simp length-drop (omega arith)) ∙ simp (get_or-drop, add-zero)

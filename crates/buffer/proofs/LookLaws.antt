@@ -1,7 +1,7 @@
 -- Lookups among a plan's channels, one channel at a time.
 use Prim.Native.Nat.{ℕ, suc, ◌+◌, ◌≤◌, ◌<◌}
 use mathlib.Core.Path.{◌≡◌, refl, sym, ap, ◌∙◌}
-use mathlib.Core.Bool.{Bool, true, false, cond, ◌&&◌, and_false, true≢false}
+use mathlib.Core.Bool.{Bool, true, false, cond, ◌&&◌, and-false, true≢false}
 use mathlib.Core.List.{List, [], ◌∷◌}
 use mathlib.Core.Option.{Option, none, some}
 use native.Mathlib.Nat.{add-zero}
@@ -43,7 +43,7 @@ module _ (p : Plan) (q n : ℕ) (g : Option ℕ → ℕ) where
       one : (t : Bool) → g (elim t [ true ↦ some b | false ↦ from_sender p q bs ]) ≡ cond (t && true) (g (some b)) (g (from_sender p q bs))
       one true = refl
       one false = refl
-  found_kept false b bs = rw (and_false (eqb (channel_at p b).sender q))
+  found_kept false b bs = rw (and-false (eqb (channel_at p b).sender q))
 
   pub found_turn : (b : ℕ) → b < channel_count p → found_on b ≡ cond (eqb (channel_at p b).sender q && eqb (channel_at p b).receiver n) (g (some b)) (found_on (suc b))
   found_turn b h = ap (λ (bs : List ℕ). g (from_sender p q bs)) (numbers_turn p to b h) ∙ found_kept (to (channel_at p b)) b (numbers_on p to (suc b))

@@ -1,7 +1,7 @@
 -- Records and origins in the state's bytes.
 use Prim.Native.Nat.{ℕ, zero, suc, ◌+◌, ◌*◌, ◌-◌, ◌^◌, ◌≤◌, ◌<◌}
 use mathlib.Core.Path.{◌≡◌, refl, sym, ap, ap₂, ◌∙◌}
-use mathlib.Core.Bool.{Bool, true, false, not, ◌&&◌, ◌||◌, and_true, and_false, and_comm}
+use mathlib.Core.Bool.{Bool, true, false, not, ◌&&◌, ◌||◌, and-true, and-false, and_comm}
 use mathlib.Core.List.{List}
 use mathlib.Core.Option.{none, some}
 use native.Mathlib.Omega.{arith}
@@ -50,7 +50,7 @@ record_in_lem a s =
 record_right_lem : (a : ℕ) (s : List ℕ) → Bytes s → a + 8 ≤ length s → record_right (record_in a s) ≡ known_record (record_in a s)
 record_right_lem a s h l =
     ap record_right (record_in_lem a s)
-    ∙ rw (lt-ltb (word_at a s) 4294967296 (word_small 4 a s h (omega arith)), lt-ltb (spelled 0 (take 2 (drop (a + 6) s))) 65536 (word_small 2 (a + 6) s h (omega arith)), and_true, and_true)
+    ∙ rw (lt-ltb (word_at a s) 4294967296 (word_small 4 a s h (omega arith)), lt-ltb (spelled 0 (take 2 (drop (a + 6) s))) 65536 (word_small 2 (a + 6) s h (omega arith)), and-true, and-true)
     (ap known_record (sym (record_in_lem a s)))
 
 pub record_tested : (a : ℕ) (s : List ℕ) → Bytes s → a + 8 ≤ length s → record_fits (take 8 (drop a s)) ≡ (record_exact a s && record_right (record_in a s))
@@ -91,8 +91,8 @@ names_first true true true true = refl
 names_first true true true false = refl
 names_first true true false since = refl
 names_first true false earlier since = refl
-names_first false free true since = sym (and_false (free && since))
-names_first false free false since = sym (and_false (free && true))
+names_first false free true since = sym (and-false (free && since))
+names_first false free false since = sym (and-false (free && true))
 
 module _ (s : List ℕ) (ready : Ready s) where
   abbrev l : Line
@@ -123,7 +123,7 @@ module _ (s : List ℕ) (ready : Ready s) where
       named-before z = ap₂ ◌&&◌ (named_some q u z) (ap (before_right l sender b) (origin_some u q z))
 
       pub before_missing : (q ≡ 0 → ⊥) → place_from p (q - 1) 0 (entering p sender) ≡ none → false ≡ (time_named q u && before_right l sender b (origin_from q u))
-      before_missing z e = sym (named-before z ∙ before_made (q - 1) u ∙ rw (e, and_false))
+      before_missing z e = sym (named-before z ∙ before_made (q - 1) u ∙ rw (e, and-false))
 
       pub before_there : (q ≡ 0 → ⊥) → (i : ℕ) → place_from p (q - 1) 0 (entering p sender) ≡ some i → (ltb 0 u && leb u (word_at (block_at b + (heard_at + 4 * i)) s)) ≡ (time_named q u && before_right l sender b (origin_from q u))
       before_there z i e =
@@ -137,7 +137,7 @@ module _ (s : List ℕ) (ready : Ready s) where
     made_is q t o = rw (line-plan s)
 
     pub made_missing : (q t : ℕ) (name : Bool) (o : Origin) → from_sender p q (entering p n) ≡ none → false ≡ (name && origin_right l n (made q t) o)
-    made_missing q t name o e = sym (ap (λ (v : Bool). name && v) (made_is q t o ∙ rw (e, and_false)) ∙ and_false name)
+    made_missing q t name o e = sym (ap (λ (v : Bool). name && v) (made_is q t o ∙ rw (e, and-false)) ∙ and-false name)
 
     pub made_there : (q t : ℕ) (name : Bool) (o : Origin) (b : ℕ) → b < plan_channels s → from_sender p q (entering p n) ≡ some b
         → (ltb 0 t && (leb t (word_at (block_at b + taken_at) s) && (name && before_right l q b o))) ≡ (name && origin_right l n (made q t) o)

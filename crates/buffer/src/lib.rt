@@ -1,4 +1,6 @@
 // The lent buffer of a line: its limits, its bytes, the plan at its front and what things in it were made from, read in place.
+#![tactic(auto)]
+
 pub mod bytes;
 pub mod layout;
 pub mod look;
@@ -8,7 +10,7 @@ pub mod sets;
 pub mod table;
 
 // The line as a type, which has its own limits (document 01, "The limits belong to the line itself"). A line's values lie in its buffer.
-#[derive(Drop)]
+#[derive(Clone, Copy)]
 pub struct Line {}
 
 impl Line {

@@ -1,7 +1,7 @@
 -- A channel's block, from the tests of its parts.
 use Prim.Native.Nat.{ℕ, ◌+◌, ◌*◌, ◌-◌, ◌<◌}
 use mathlib.Core.Path.{◌≡◌, refl, sym, ap, ◌∙◌}
-use mathlib.Core.Bool.{Bool, true, false, not, ◌&&◌, and_assoc, and_false}
+use mathlib.Core.Bool.{Bool, true, false, not, ◌&&◌, and_assoc, and-false}
 use mathlib.Core.List.{List, ◌∷◌}
 use borrow.Author.Tests.{le-leb, lt-leb}
 use lib.Dec.{leb}
@@ -52,7 +52,7 @@ parts false u r c e q k = refl
 -- The low clock's test stands for two, where the clock's unused words are 0.
 low_parts : (h m z r x n low : Bool) → (h ≡ true → low ≡ (z && n)) → ((((h && m) && r) && x) && low) ≡ ((((h && m) && z) && r) && (x && n))
 low_parts true true true r x n low f = ap (λ (t : Bool). (r && x) && t) (f refl) ∙ and_assoc r x n
-low_parts true true false r x n low f = ap (λ (t : Bool). (r && x) && t) (f refl) ∙ and_false (r && x)
+low_parts true true false r x n low f = ap (λ (t : Bool). (r && x) && t) (f refl) ∙ and-false (r && x)
 low_parts true false z r x n low f = refl
 low_parts false m z r x n low f = refl
 

@@ -1,7 +1,7 @@
 -- The parts of a channel's check.
 use Prim.Native.Nat.{ℕ, zero, suc, ◌+◌, ◌*◌, ◌-◌, max, min, ◌≤◌, ◌<◌}
 use mathlib.Core.Path.{◌≡◌, refl, sym, ap, ◌∙◌}
-use mathlib.Core.Bool.{Bool, not, ◌&&◌, ◌||◌, and_assoc, and_true}
+use mathlib.Core.Bool.{Bool, not, ◌&&◌, ◌||◌, and_assoc, and-true}
 use mathlib.Core.Logic.{inl, inr}
 use mathlib.Core.List.{List, [], ◌∷◌, ◌++◌}
 use native.Mathlib.Nat.{add-zero}
@@ -67,7 +67,7 @@ digit_zero zero b = let same : 0 * 256 + b ≡ b = omega arith in ap (eqb 0) sam
 digit_zero (suc n) b = ne_eqb 0 (suc n * 256 + b) (λ e. omega arith) ∙ sym (rw (ne_eqb 0 (suc n) (λ e. omega arith)))
 
 spelled_zero : (n : ℕ) (s : List ℕ) → eqb 0 (spelled n s) ≡ (eqb 0 n && zero_bytes s)
-spelled_zero n [] = sym (and_true (eqb 0 n))
+spelled_zero n [] = sym (and-true (eqb 0 n))
 spelled_zero n (b ∷ s) = spelled_zero (n * 256 + b) s ∙ ap (λ (t : Bool). t && zero_bytes s) (digit_zero n b) ∙ and_assoc (eqb 0 n) (eqb 0 b) (zero_bytes s)
 
 pub word_zero : (s : List ℕ) (i : ℕ) → eqb 0 (word_at i s) ≡ zero_at i 4 s

@@ -1,7 +1,7 @@
 -- The low clock beside the clock: what the test of its words stands for.
 use Prim.Native.Nat.{ℕ, zero, suc, ◌+◌, ◌*◌, ◌-◌, ◌≤◌, ◌<◌}
 use mathlib.Core.Path.{◌≡◌, refl, sym, ap, ◌∙◌}
-use mathlib.Core.Bool.{Bool, true, false, not, ◌&&◌, ◌||◌, and_assoc, and_comm, and_true}
+use mathlib.Core.Bool.{Bool, true, false, not, ◌&&◌, ◌||◌, and_assoc, and_comm, and-true}
 use mathlib.Core.List.{List, [], ◌∷◌}
 use native.Mathlib.Nat.{add-zero, zero-add}
 use native.Mathlib.Omega.{arith}
@@ -39,7 +39,7 @@ module _ (s : List ℕ) (a : ℕ) where
 
   -- Where the clock's words from the n-th on are 0, the low clock's are to be 0.
   within_zero : (n m : ℕ) → zero_at (clock n) (4 * m) s ≡ true → lows_within s a (n + m) ≡ (lows_within s a n && zero_at (low n) (4 * m) s)
-  within_zero n zero e = ap (lows_within s a) (add-zero n) ∙ sym (and_true (lows_within s a n))
+  within_zero n zero e = ap (lows_within s a) (add-zero n) ∙ sym (and-true (lows_within s a n))
   within_zero n (suc m) e =
       let last = n + m in
       let next : n + suc m ≡ suc last = omega arith in
@@ -55,7 +55,7 @@ module _ (s : List ℕ) (a : ℕ) where
   within_past : (j : ℕ) (ks ts : List ℕ) → length ks ≡ length ts
       → ((i : ℕ) → i < length ks → get_or ks i 0 ≡ word_at (low (j + i)) s) → ((i : ℕ) → i < length ks → get_or ts i 0 ≡ word_at (clock (j + i)) s)
       → lows_within s a (j + length ks) ≡ (lows_within s a j && not (low_past ks ts))
-  within_past j [] ts e f g = ap (lows_within s a) (add-zero j) ∙ sym (and_true (lows_within s a j))
+  within_past j [] ts e f g = ap (lows_within s a) (add-zero j) ∙ sym (and-true (lows_within s a j))
   within_past j (k ∷ ks) [] e f g = let no : ⊥ = omega arith in absurd no
   within_past j (k ∷ ks) (t ∷ ts) e f g =
       let next : j + suc (length ks) ≡ suc j + length ks = omega arith in

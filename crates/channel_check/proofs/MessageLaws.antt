@@ -1,7 +1,7 @@
 -- Messages in the state's bytes.
 use Prim.Native.Nat.{ℕ, ◌+◌, ◌-◌, ◌≤◌}
 use mathlib.Core.Path.{◌≡◌, refl, sym, ap, ◌∙◌}
-use mathlib.Core.Bool.{Bool, true, false, not, ◌&&◌, and_true}
+use mathlib.Core.Bool.{Bool, true, false, not, ◌&&◌, and-true}
 use mathlib.Core.List.{List}
 use native.Mathlib.Omega.{arith}
 use borrow.Author.Tests.{eq-eqb, ne_eqb}
@@ -42,7 +42,7 @@ module _ (a : ℕ) (s : List ℕ) where
   message_time = sym (ap (λ m. m.time) (message_in a s))
 
 parts : (r w o n z : Bool) → (((r && w) && (o && n)) && z) ≡ (((r && o) && z) && (w && n))
-parts true true true true z = sym (and_true z)
+parts true true true true z = sym (and-true z)
 parts true true true false true = refl
 parts true true true false false = refl
 parts true true false n z = refl

@@ -1,4 +1,6 @@
 // The check of a channel's block: its bytes are right, and the channel keeps the rules.
+#![tactic(auto)]
+
 ghost use Rattle.std.specs.Prelude.{◌≡◌, not, ◌&&◌, ◌||◌, ◌∷◌, ◌+◌, ◌-◌, ◌*◌, ◌≤◌, ◌<◌, length};
 ghost use Rattle.plan.specs.Plan.{plan_of, plan_nodes, plan_channels, channel_at};
 ghost use Rattle.rules.specs.Lists.{greatest_of};

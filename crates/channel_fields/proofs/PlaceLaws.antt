@@ -1,7 +1,7 @@
 -- The place of a node among the parents of another, looked for one channel at a time.
 use Prim.Native.Nat.{ℕ, ◌+◌, ◌≤◌, ◌<◌}
 use mathlib.Core.Path.{◌≡◌, refl, sym, ap, ◌∙◌}
-use mathlib.Core.Bool.{Bool, true, false, ◌&&◌, and_false}
+use mathlib.Core.Bool.{Bool, true, false, ◌&&◌, and-false}
 use mathlib.Core.List.{List}
 use mathlib.Core.Logic.{◌≢◌}
 use native.Mathlib.Nat.{add-zero}
@@ -45,7 +45,7 @@ module _ (s : List ℕ) (q n : ℕ) where
     pub placing_other : (channel_at (plan_of s) b).receiver ≢ n → Placing place (b + 1)
     placing_other to =
         let no : (eqb (channel_at (plan_of s) b).sender q && eqb (channel_at (plan_of s) b).receiver n) ≡ false =
-        ap (λ (t : Bool). eqb (channel_at (plan_of s) b).sender q && t) (ne_eqb (channel_at (plan_of s) b).receiver n to) ∙ and_false (eqb (channel_at (plan_of s) b).sender q) in
+        ap (λ (t : Bool). eqb (channel_at (plan_of s) b).sender q && t) (ne_eqb (channel_at (plan_of s) b).receiver n to) ∙ and-false (eqb (channel_at (plan_of s) b).sender q) in
         record {
           within = omega arith;
           few = omega (arith, now.few);

@@ -1,4 +1,6 @@
 // A channel's fields, read and written in the state's bytes. What is written leaves every other byte as it was: each function promises the line with that channel's lane changed.
+#![tactic(auto)]
+
 ghost use Rattle.std.specs.Prelude.{◌≡◌, List, [], ◌∷◌, ◌≤◌, ◌<◌, length, get_or};
 ghost use Rattle.plan.specs.Plan.{plan_of, plan_channels, entering};
 ghost use Rattle.items.specs.Items.{place_from};

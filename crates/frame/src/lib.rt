@@ -1,4 +1,6 @@
 // Frames (document 01, "Clocks and steps"; document 02, 2026-01, 2026-04 and 2026-07): the refusals 9 to 11 and 25, whose frame it is, and what it asks, read once.
+#![tactic(auto)]
+
 ghost use Rattle.std.specs.Prelude.{◌≡◌, cond, ◌+◌, ◌≤◌, ◌<◌, eqb, length, get_or, drop};
 ghost use Rattle.rules.specs.Frame.{feed, frame_version, frame_kind, console_bytes, frame_of_kind, bad_frame_length, bad_kind};
 ghost use Rattle.frame.specs.Reading.{Asks, ReadAs, Versioned, Long};
@@ -7,7 +9,7 @@ use buffer::{Line, bytes, look, origin};
 use plan::Record;
 
 // What a frame asks of a node or a channel, by its kind. A Feed has its record, and whether its bytes are a record's.
-#[derive(Drop)]
+#[derive(Clone, Copy)]
 pub enum Frame {
     Feed {
         node: usize,
@@ -24,7 +26,7 @@ pub enum Frame {
 }
 
 // A frame as it is read: the first of 9, 10, 11 and 25 that applies; or the console whose frame it is, and what it asks.
-#[derive(Drop)]
+#[derive(Clone, Copy)]
 pub enum Reading {
     Refused(u32),
     WellFormed(usize, Frame),

@@ -2,7 +2,7 @@
 use Prim.Native.Nat.{ℕ, zero, suc, ◌+◌, ◌<◌}
 use mathlib.Core.Path.{◌≡◌, refl, ap, ◌∙◌}
 use mathlib.Core.Logic.{inl, inr}
-use mathlib.Core.Bool.{Bool, true, false, not, ◌&&◌, ◌||◌, or_true}
+use mathlib.Core.Bool.{Bool, true, false, not, ◌&&◌, ◌||◌, or-true}
 use native.Mathlib.Omega.{arith}
 use lib.ListN.{length}
 use lib.Dec.{leb, eqb, ltb}
@@ -68,8 +68,8 @@ parts true false steps nodes channels broken h = refl
 parts true true false nodes channels broken h = refl
 parts true true true true true broken h = ap (λ (t : Bool). t || false) (h refl refl refl)
 parts true true true false true broken h = ap (λ (t : Bool). t || false) (h refl refl refl)
-parts true true true true false broken h = or_true broken
-parts true true true false false broken h = or_true broken
+parts true true true true false broken h = or-true broken
+parts true true true false false broken h = or-true broken
 
 pub line_items : (l : Line) → damaged l ≡ not (line_right l)
 unfolding damaged line_right plan_broken steps_past

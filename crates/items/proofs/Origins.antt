@@ -1,7 +1,7 @@
 -- What something was made from: the conditions of Damaged on it, taken together, are the item's test.
 use Prim.Native.Nat.{ℕ, suc, ◌<◌, ◌≤◌}
 use mathlib.Core.Path.{◌≡◌, refl, sym, ap, ◌∙◌}
-use mathlib.Core.Bool.{Bool, true, false, not, ◌&&◌, ◌||◌, true≢false, and_true, and_false}
+use mathlib.Core.Bool.{Bool, true, false, not, ◌&&◌, ◌||◌, true≢false, and-true, and-false}
 use mathlib.Core.List.{List, [], ◌∷◌, ◌++◌, map}
 use mathlib.Core.Option.{Option, none, some}
 use native.Mathlib.Omega.{arith}
@@ -95,12 +95,12 @@ right_time steps t e =
 
 -- Where a test of what is found keeps a time within the steps, the time need not be held against them.
 within_found : (steps t : ℕ) (o : Option ℕ) (f : ℕ → Bool) → ((b : ℕ) → o ≡ some b → f b ≡ true → t ≤ steps) → (ltb 0 t && if_found o f) ≡ (time_right steps t && if_found o f)
-within_found steps t none f h = and_false (ltb 0 t) ∙ sym (and_false (time_right steps t))
+within_found steps t none f h = and-false (ltb 0 t) ∙ sym (and-false (time_right steps t))
 within_found steps t (some b) f h = one (f b) (h b refl)
   where
     one : (v : Bool) → (v ≡ true → t ≤ steps) → (ltb 0 t && v) ≡ (time_right steps t && v)
-    one true k = rw (le-leb t steps (k refl), and_true, and_true) refl
-    one false k = and_false (ltb 0 t) ∙ sym (and_false (time_right steps t))
+    one true k = rw (le-leb t steps (k refl), and-true, and-true) refl
+    one false k = and-false (ltb 0 t) ∙ sym (and-false (time_right steps t))
 
 -- The conditions on what node s made something from.
 pub record Named (l : Line) (s : ℕ) (o : Origin) : Type 0 where
@@ -145,7 +145,7 @@ module _ (l : Line) (line : Formed l) (s b : ℕ) (here : b < channel_count l.pl
 
   before-named : (o : Origin) → before_right l s b o ≡ (named_right l s o && not (past_heard (parents l.plan s) (lane_at l b).heard o))
   unfolding before_right named_right
-  before-named fed = rw (heard_fed (parents l.plan s) (lane_at l b).heard, and_true (is_source l.plan s))
+  before-named fed = rw (heard_fed (parents l.plan s) (lane_at l b).heard, and-true (is_source l.plan s))
   before-named (made q u) =
       within_found (accepted_steps l) u (place_from l.plan q 0 (entering l.plan s)) (λ (i : ℕ). leb u (get_or (lane_at l b).heard i 0)) (λ i e k. omega (arith, leb-true u (get_or (lane_at l b).heard i 0) k, line.heard_within b here i))
       ∙ one (time_right (accepted_steps l) u) (place_from l.plan q 0 (entering l.plan s)) refl

@@ -1,7 +1,7 @@
 -- Times that rise in one pass, from above the last so far to the top; a log's, by its sets.
 use Prim.Native.Nat.{ℕ, ◌<◌, ◌≤◌}
 use mathlib.Core.Path.{◌≡◌, refl, sym, ap, ◌∙◌}
-use mathlib.Core.Bool.{Bool, true, false, cond, not, ◌&&◌, ◌||◌, and_true, and_false, or_true, or-false}
+use mathlib.Core.Bool.{Bool, true, false, cond, not, ◌&&◌, ◌||◌, and-true, and-false, or-true, or-false}
 use mathlib.Core.List.{List, [], ◌∷◌, map}
 use native.Mathlib.Omega.{arith}
 use lib.Dec.{leb, ltb, eqb}
@@ -43,11 +43,11 @@ rise_within time last top {x = x} e (there {y = y} {xs = xs} i) =
 follows : (source sink none : Bool) (last time : ℕ) → (ltb last time || (not (source || sink) && eqb last time && none)) ≡ cond (not source && not (sink || not none)) (leb last time) (ltb last time)
 follows true sink none last time = or-false (ltb last time)
 follows false true none last time = or-false (ltb last time)
-follows false false false last time = ap (λ (t : Bool). ltb last time || t) (and_false (eqb last time)) ∙ or-false (ltb last time)
-follows false false true last time = ap (λ (t : Bool). ltb last time || t) (and_true (eqb last time)) ∙ one (leb last time) refl (eqb last time) refl
+follows false false false last time = ap (λ (t : Bool). ltb last time || t) (and-false (eqb last time)) ∙ or-false (ltb last time)
+follows false false true last time = ap (λ (t : Bool). ltb last time || t) (and-true (eqb last time)) ∙ one (leb last time) refl (eqb last time) refl
   where
     one : (a : Bool) → leb last time ≡ a → (b : Bool) → eqb last time ≡ b → (ltb last time || b) ≡ a
-    one true e true q = or_true (ltb last time)
+    one true e true q = or-true (ltb last time)
     one true e false q = ap (λ (t : Bool). t || false) (lt-ltb last time (omega (arith, leb-true last time e, eqb-false last time q)))
     one false e true q = absurd (let z = leb-false last time e in omega (arith, eqb-true last time q, z))
     one false e false q = ap (λ (t : Bool). t || false) (le-ltb last time (let z = leb-false last time e in omega (arith, z)))

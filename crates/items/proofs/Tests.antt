@@ -1,7 +1,7 @@
 -- Tests that are each other's opposite, over several parts and over lists.
 use Prim.Native.Nat.{ℕ, zero, suc}
 use mathlib.Core.Path.{◌≡◌, refl, sym, ap, ◌∙◌}
-use mathlib.Core.Bool.{Bool, true, false, not, ◌&&◌, ◌||◌, or_assoc, not_not}
+use mathlib.Core.Bool.{Bool, true, false, not, ◌&&◌, ◌||◌, or_assoc, not-not}
 use mathlib.Core.List.{List, [], ◌∷◌, ◌++◌, map}
 use lib.ListN.{get_or}
 use lib.Dec.{leb, ltb}
@@ -19,7 +19,7 @@ pub not_above : (a b : ℕ) → leb a b ≡ not (ltb b a)
 not_above a b = opposite (leb a b) (ltb b a) (λ e. lt-ltb b a (leb-false a b e)) (λ e. lt-leb a b (ltb-true b a e))
 
 pub above : (a b : ℕ) → ltb b a ≡ not (leb a b)
-above a b = sym (not_not (ltb b a)) ∙ ap not (sym (not_above a b))
+above a b = sym (not-not (ltb b a)) ∙ ap not (sym (not_above a b))
 
 -- Tests joined by && are true together, tests joined by || false together.
 abbrev pub and_from : Bool → List Bool → Bool

@@ -1,7 +1,7 @@
 -- What the check's functions find, tied to the definitions of the whole state.
 use Prim.Native.Nat.{ℕ, suc, ◌+◌, ◌*◌, ◌-◌, ◌≤◌, ◌<◌}
 use mathlib.Core.Path.{◌≡◌, refl, sym, ap, ◌∙◌}
-use mathlib.Core.Bool.{Bool, true, false, not, ◌&&◌, ◌||◌, and_assoc, and_true}
+use mathlib.Core.Bool.{Bool, true, false, not, ◌&&◌, ◌||◌, and_assoc, and-true}
 use mathlib.Core.List.{List, [], ◌∷◌}
 use native.Mathlib.Nat.{sub-zero}
 use native.Mathlib.Numerals.{add-one}
@@ -76,7 +76,7 @@ module _ (f : ℕ → Bool) (n : ℕ) where
       record { within = omega arith; left = t.left ∙ rw (more, add-one, e) (sym (and_assoc ok (f k) (all_of f (up_to (suc k) (n - suc k))))) }
 
   pub tested_end : (ok : Bool) (k : ℕ) → n ≤ k → Tested f n ok k → ok ≡ all_of f (up_to 0 n)
-  tested_end ok k h t = let none : n - k ≡ 0 = omega arith in sym (t.left ∙ rw none (and_true ok))
+  tested_end ok k h t = let none : n - k ≡ 0 = omega arith in sym (t.left ∙ rw none (and-true ok))
 
 -- ---- the whole state
 
@@ -135,7 +135,7 @@ module _ (s : List ℕ) (n m : ℕ) {rest nodes channels : Bool} (plan : plan_ex
 
   found_is : state_checked s ≡ (found && all_of (restart_right (line_of s)) (up_to 0 n))
   unfolding state_checked
-  found_is = rw (plan, a, b, c, within, and_true (rest_exact s), same, same') refl
+  found_is = rw (plan, a, b, c, within, and-true (rest_exact s), same, same') refl
 
   pub found_wrong : found ≡ false → false ≡ state_checked s
   found_wrong e = sym (found_is ∙ rw e refl)

@@ -1,4 +1,6 @@
 // The line in its lent buffer, for the panel: what is passed are bytes, what comes back is one number.
+#![tactic(auto)]
+
 ghost use Rattle.std.specs.Prelude.{◌≡◌};
 ghost use Rattle.state.specs.State.{state_answer};
 ghost use Rattle.line.specs.Load.{load_answer, load_left};

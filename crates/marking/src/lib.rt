@@ -1,10 +1,12 @@
 // Marking a candidate's columns for a replay table (document 02, 2026-09), on lent slices of numbers.
+#![tactic(auto)]
+
 ghost use Rattle.std.specs.Prelude.{◌≡◌, ◌<◌, length};
 ghost use Rattle.marking.specs.Mark.{breaks_alone, mark, mark_number};
 ghost use Rattle.marking.specs.Loops.{Beside, FoundBy, Aligned};
 
 // Yes, a no with the first item that breaks a rule, or a refusal.
-#[derive(Drop)]
+#[derive(Clone, Copy)]
 pub enum Mark {
     Yes,
     No(usize),

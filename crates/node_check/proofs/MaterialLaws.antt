@@ -1,7 +1,7 @@
 -- The sets by material, where every channel that leaves the node is open: the table, place by place and channel by channel.
 use Prim.Native.Nat.{ℕ, zero, suc, ◌+◌, ◌*◌, ◌/◌, ◌%◌, ◌^◌, ◌≤◌, ◌<◌}
 use mathlib.Core.Path.{◌≡◌, refl, sym, ap, ◌∙◌}
-use mathlib.Core.Bool.{Bool, true, false, cond, ◌&&◌, and_true, or-false, true≢false}
+use mathlib.Core.Bool.{Bool, true, false, cond, ◌&&◌, and-true, or-false, true≢false}
 use mathlib.Core.Logic.{inl, inr}
 use mathlib.Core.List.{List, [], ◌∷◌}
 use native.Mathlib.Nat.{add-zero, mul-zero, mul-one, mod-one, div-one}
@@ -110,8 +110,8 @@ open_takes n c r fits wide right =
           mod-one r.piece,
           le-leb c.least r.mass (omega (arith, eqb-true c.least 0 least)),
           le-leb r.mass c.greatest (omega (arith, eqb-true c.greatest 65535 greatest)),
-          and_true,
-          and_true,
+          and-true,
+          and-true,
           or-false,
         ) refl
 

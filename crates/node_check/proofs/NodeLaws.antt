@@ -1,7 +1,7 @@
 -- The lists of a node's page, as the check goes over them.
 use Prim.Native.Nat.{ℕ, zero, suc, ◌+◌, ◌*◌, ◌-◌, min, ◌≤◌, ◌<◌}
 use mathlib.Core.Path.{◌≡◌, refl, sym, ap, ◌∙◌}
-use mathlib.Core.Bool.{Bool, true, false, not, ◌&&◌, ◌||◌, and_true, and_false, and_assoc, not_not, true≢false}
+use mathlib.Core.Bool.{Bool, true, false, not, ◌&&◌, ◌||◌, and-true, and-false, and_assoc, not-not, true≢false}
 use mathlib.Core.List.{List, [], ◌∷◌}
 use native.Mathlib.Nat.{add-zero}
 use native.Mathlib.Omega.{arith}
@@ -208,8 +208,8 @@ module _ (slot : ℕ → List ℕ → Bool) (limit size a : ℕ) (s : List ℕ) 
   list_many h = rw (lt-leb (word_at a s) limit h)
 
   list_parts : (u z r : Bool) → ((u && r) && z) ≡ ((u && z) && r)
-  list_parts true z true = sym (and_true z)
-  list_parts true z false = sym (and_false z)
+  list_parts true z true = sym (and-true z)
+  list_parts true z false = sym (and-false z)
   list_parts false z r = refl
 
   pub list_few : (used unused : Bool) → word_at a s ≤ limit → used ≡ (slots_exact slot size (a + count_size) (word_at a s) s && right) → unused ≡ zero_at (a + count_size + size * word_at a s) (size * (limit - word_at a s)) s
@@ -264,14 +264,14 @@ crash_mark (suc c) = ap not (eqb-suc-zero c)
 
 not_missing : (status : ℕ) (mark : Bool) → (eqb status 0 || mark) ≡ not (not (is_up (status_of status)) && not mark)
 not_missing zero mark = refl
-not_missing (suc zero) mark = sym (not_not mark)
-not_missing (suc (suc n)) mark = rw (eqb-suc-zero (suc n)) (sym (not_not mark))
+not_missing (suc zero) mark = sym (not-not mark)
+not_missing (suc (suc n)) mark = rw (eqb-suc-zero (suc n)) (sym (not-not mark))
 
 holds_not : (x : Node) (status time log held targets kept : ℕ) → time ≡ x.time → is_empty x.log ≡ eqb log 0 → is_empty x.held ≡ eqb held 0 → is_empty x.targets ≡ eqb targets 0 → is_nothing x.asked ≡ eqb kept 0
     → holds_nothing status time log held targets kept ≡ not (holds_by_status (status_of status) x)
-holds_not x zero time log held targets kept t l h g k = rw (← h, ← g, ← k) (sym (not_not (is_empty x.held && is_empty x.targets && is_nothing x.asked)))
-holds_not x (suc zero) time log held targets kept t l h g k = rw (t, ← l, ← h, ← g, ← k) (sym (not_not (eqb x.time 0 && is_empty x.log && is_empty x.held && (is_empty x.targets || not (is_nothing x.asked)))))
-holds_not x (suc (suc n)) time log held targets kept t l h g k = rw (← l, ← k) (sym (not_not (is_empty x.log && is_nothing x.asked)))
+holds_not x zero time log held targets kept t l h g k = rw (← h, ← g, ← k) (sym (not-not (is_empty x.held && is_empty x.targets && is_nothing x.asked)))
+holds_not x (suc zero) time log held targets kept t l h g k = rw (t, ← l, ← h, ← g, ← k) (sym (not-not (eqb x.time 0 && is_empty x.log && is_empty x.held && (is_empty x.targets || not (is_nothing x.asked)))))
+holds_not x (suc (suc n)) time log held targets kept t l h g k = rw (← l, ← k) (sym (not-not (is_empty x.log && is_nothing x.asked)))
 
 -- What a node of a status may not hold, by the status as it is tested.
 module _ (status time log held targets kept : ℕ) where

@@ -1,7 +1,7 @@
 -- What stands in a slot, byte by byte.
 use Prim.Native.Nat.{ℕ, ◌+◌, ◌-◌, ◌^◌, ◌≤◌, ◌<◌}
 use mathlib.Core.Path.{◌≡◌, refl, sym, ap, ◌∙◌}
-use mathlib.Core.Bool.{Bool, true, false, not, ◌&&◌, and_true, and_false, and_assoc}
+use mathlib.Core.Bool.{Bool, true, false, not, ◌&&◌, and-true, and-false, and_assoc}
 use mathlib.Core.List.{List, [], ◌∷◌}
 use native.Mathlib.Omega.{arith}
 use lib.Dec.{leb, eqb}
@@ -75,12 +75,12 @@ module _ (n a : ℕ) (s : List ℕ) where
 
 -- What is asked of a slot, in the order in which it is tested.
 entry-parts : (r o z w b t : Bool) → (((r && o) && z) && ((w && b) && t)) ≡ ((((r && w) && z) && t) && (o && b))
-entry-parts true true true true true t = sym (and_true t)
-entry-parts true true true true false t = sym (and_false t)
+entry-parts true true true true true t = sym (and-true t)
+entry-parts true true true true false t = sym (and-false t)
 entry-parts true true true false b t = refl
 entry-parts true true false true b t = refl
 entry-parts true true false false b t = refl
-entry-parts true false z w b t = sym (and_false ((w && z) && t))
+entry-parts true false z w b t = sym (and-false ((w && z) && t))
 entry-parts false o z w b t = refl
 
 held-parts : (r o z w b p t : Bool) → (((r && o) && z) && (((w && b) && p) && t)) ≡ ((((r && w) && z) && t) && ((o && b) && p))

@@ -1,4 +1,6 @@
 // The check of a node's page.
+#![tactic(auto)]
+
 ghost use Rattle.std.specs.Prelude.{◌≡◌, ◌&&◌, ◌||◌, ◌+◌, ◌*◌, ◌≤◌, ◌<◌, length, get_or, set, leb};
 ghost use Rattle.plan.specs.Plan.{plan_of, plan_nodes, leaving, is_source, is_sink};
 ghost use Rattle.plan.specs.Mask.{plan_mask};

@@ -1,4 +1,6 @@
 // A node's fields, read and written in the state's bytes. What is written leaves every other byte as it was: each function promises the line with that node changed.
+#![tactic(auto)]
+
 ghost use Rattle.std.specs.Prelude.{◌≡◌, true, not, [], ◌∷◌, ◌≤◌, ◌<◌, length, get_or, drop};
 ghost use Rattle.std.proofs.Math.Option.{none, some};
 ghost use Rattle.plan.specs.Plan.{plan_nodes};

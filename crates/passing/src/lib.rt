@@ -1,4 +1,6 @@
 // Feed, Send, and Take of a node that is up, on the state's bytes (document 01, "Clocks and steps", kinds 1 to 3; document 02, 2026-08). Nothing is written before the answer is known to be 0.
+#![tactic(auto)]
+
 ghost use Rattle.std.specs.Prelude.{◌≡◌, cond, not, ◌||◌, List, ℕ, suc, ◌<◌, length, eqb};
 ghost use Rattle.plan.specs.Record.{record_layout, record_fits};
 ghost use Rattle.plan.specs.Plan.{plan_of, plan_nodes, plan_channels, is_sink};
@@ -24,7 +26,7 @@ const LOG: usize = Line::LOG_LIMIT as usize;
 const QUEUE: usize = Line::QUEUE_LIMIT as usize;
 
 // What a Send finds in the sender's log.
-#[derive(Drop)]
+#[derive(Clone, Copy)]
 pub enum Next {
     Entry(Logged),
     Nothing,

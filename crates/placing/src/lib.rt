@@ -1,4 +1,6 @@
 // The chosen placing of a replay table, on lent slices of numbers. It knows nothing of lines.
+#![tactic(auto)]
+
 ghost use Rattle.std.specs.Prelude.{◌≡◌, ◌+◌, ◌-◌, ◌≤◌, ◌<◌, ◌++◌, length, get_or, take, drop, ltb, eqb, cond};
 ghost use Rattle.std.proofs.Math.Option.{some};
 ghost use Rattle.placing.specs.Item.{items_of};
@@ -179,7 +181,7 @@ fn next_column(high: u32, shut: &[u32; ROWS], c: u32) -> u32
 
 // What a row offers a column: its next item, fixed there or free with its last column; or nothing, as that item's fixed
 // column has passed, or as the row is still shut.
-#[derive(Drop)]
+#[derive(Clone, Copy)]
 enum Offer {
     Fixed,
     Free(u32),
@@ -205,7 +207,7 @@ fn offered(fixed: &[u32], lasts: &[u32], shut: u32, i: usize, c: u32) -> Offer
 }
 
 // What a column takes: a row's next item, with its last column; or it stays empty.
-#[derive(Drop)]
+#[derive(Clone, Copy)]
 enum Pick {
     Row(usize, u32),
     Empty,

@@ -1,4 +1,6 @@
 // The placing over a lent slice of item structs: their fields go into arrays, which the placing of number slices takes.
+#![tactic(auto)]
+
 ghost use Rattle.std.specs.Prelude.{◌≡◌, ◌<◌, [], take};
 ghost use Rattle.placing.specs.Table.{most_items};
 ghost use Rattle.placing.specs.Answer.{answer, columns_left};
@@ -6,7 +8,7 @@ ghost use Rattle.placing_items.specs.Fields.{rows_of, times_of, fixed_of, floors
 
 // "Each item is a row, a row time, a fixed column (0 is free) and a floor."
 #[repr(C)]
-#[derive(Drop)]
+#[derive(Clone, Copy)]
 pub struct Item {
     pub row: u32,
     pub time: u32,
@@ -18,7 +20,7 @@ pub struct Item {
 const MOST_ITEMS: usize = 64;
 
 // The fields of at most 64 items, an array for each field. Past the items stands 0.
-#[derive(Drop)]
+#[derive(Clone, Copy)]
 struct Fields {
     rows: [u32; MOST_ITEMS],
     times: [u32; MOST_ITEMS],

@@ -1,7 +1,7 @@
 -- The checks over a plan's rules, channels and nodes, one turn at a time.
 use Prim.Native.Nat.{ℕ, suc, ◌+◌, ◌≤◌, ◌<◌}
 use mathlib.Core.Path.{◌≡◌, sym, ◌∙◌}
-use mathlib.Core.Bool.{Bool, ◌&&◌, and_assoc, and_true}
+use mathlib.Core.Bool.{Bool, ◌&&◌, and_assoc, and-true}
 use mathlib.Core.List.{List, []}
 use native.Mathlib.Numerals.{add-one}
 use lib.Dec.{leb}
@@ -23,7 +23,7 @@ pub rules_more : (ok : Bool) (rs : List (List ℕ)) (i : ℕ) → i < length rs
 rules_more ok rs i h = rw (add-one i, drop-cons rs i [] h) (sym (and_assoc ok (rule_fits (get_or rs i [])) (rules_fit (drop (suc i) rs))))
 
 pub rules_end : (ok : Bool) (rs : List (List ℕ)) (i : ℕ) → length rs ≤ i → rules_fit rs ≡ (ok && rules_fit (drop i rs)) → ok ≡ rules_fit rs
-rules_end ok rs i h e = sym (e ∙ rw (drop_of_length-le rs h) (and_true ok))
+rules_end ok rs i h e = sym (e ∙ rw (drop_of_length-le rs h) (and-true ok))
 
 pub channels_more : (ok : Bool) (n sender receiver : ℕ) (cs : List Channel) (b : ℕ) → b < length cs
     → (let c : Channel = get_or cs b no_channel in
@@ -36,7 +36,7 @@ channels_more ok n sender receiver cs b h =
 
 pub channels_end : (ok : Bool) (n sender receiver : ℕ) (cs : List Channel) (b : ℕ) → length cs ≤ b
     → channels_fit n 0 0 cs ≡ (ok && channels_fit n sender receiver (drop b cs)) → ok ≡ channels_fit n 0 0 cs
-channels_end ok n sender receiver cs b h e = sym (e ∙ rw (drop_of_length-le cs h) (and_true ok))
+channels_end ok n sender receiver cs b h e = sym (e ∙ rw (drop_of_length-le cs h) (and-true ok))
 
 pub degrees_more : (ok : Bool) (p : Plan) (n : ℕ)
     → (ok && four_at_most p (suc n)) ≡ ((ok && (leb (length (entering p n)) 4 && leb (length (leaving p n)) 4)) && four_at_most p n)

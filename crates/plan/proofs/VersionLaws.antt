@@ -1,7 +1,7 @@
 -- An accepted plan of version 1 is accepted in version 2 too, where its windows stand as 0..65535; these shut nothing out.
 use Prim.Native.Nat.{ℕ, zero, suc}
 use mathlib.Core.Path.{◌≡◌, refl, sym, ap, subst, ◌∙◌}
-use mathlib.Core.Bool.{true, ◌&&◌, and_true}
+use mathlib.Core.Bool.{true, ◌&&◌, and-true}
 use mathlib.Core.List.{List, [], ◌∷◌}
 use native.Mathlib.Omega.{arith}
 use borrow.Author.Tests.{eqb-true, le-leb}
@@ -18,7 +18,7 @@ use Rattle.basics.specs.Bools.{both_true}
 
 pub takes_any_mass : TakesAnyMass
 unfolding takes
-takes_any_mass c r (least, greatest) none h = rw (none, least, greatest, le-leb 0 r.mass (omega arith), le-leb r.mass 65535 h, and_true)
+takes_any_mass c r (least, greatest) none h = rw (none, least, greatest, le-leb 0 r.mass (omega arith), le-leb r.mass 65535 h, and-true)
 
 -- Check 7 goes by no version.
 degrees_alike : (v : ℕ) (p : Plan) (n : ℕ) → four_at_most (as_version v p) n ≡ four_at_most p n

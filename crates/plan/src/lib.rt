@@ -1,4 +1,6 @@
 // Records, rules, channels and plans (document 01, "The line").
+#![tactic(auto)]
+
 ghost use Rattle.std.specs.Prelude.{◌≡◌};
 ghost use Rattle.plan.specs.Check.{plan_refusal};
 
@@ -10,7 +12,7 @@ pub mod nodes;
 pub mod records;
 
 // A record: piece number, material, mass in tenths of a gram.
-#[derive(Drop)]
+#[derive(Clone, Copy)]
 pub struct Record {
     pub piece: u32,
     pub material: u8,
@@ -18,7 +20,7 @@ pub struct Record {
 }
 
 // A node's rule.
-#[derive(Drop)]
+#[derive(Clone, Copy)]
 pub enum Rule {
     Keep,
     Relabel(u8, u8),
@@ -26,7 +28,7 @@ pub enum Rule {
 }
 
 // A channel (document 01: belt), and the least and the greatest mass that it takes (document 02, 2026-02).
-#[derive(Drop)]
+#[derive(Clone, Copy)]
 pub struct Channel {
     pub sender: u8,
     pub receiver: u8,
@@ -38,7 +40,7 @@ pub struct Channel {
 }
 
 // Which of a plan's channels are asked for: those that enter a node, or that leave it.
-#[derive(Drop)]
+#[derive(Clone, Copy)]
 pub enum Pick {
     Entering(usize),
     Leaving(usize),

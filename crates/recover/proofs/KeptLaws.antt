@@ -1,7 +1,7 @@
 -- A kept answer, compared with what is found.
 use Prim.Native.Nat.{ℕ, ◌+◌, ◌≤◌, ◌<◌}
 use mathlib.Core.Path.{◌≡◌, refl, sym, ap, ap₂, ◌∙◌}
-use mathlib.Core.Bool.{Bool, true, false, not, ◌&&◌, and_assoc, and_true, true≢false}
+use mathlib.Core.Bool.{Bool, true, false, not, ◌&&◌, and_assoc, and-true, true≢false}
 use mathlib.Core.List.{List, [], ◌∷◌}
 use mathlib.Core.Option.{Option, none, some}
 use native.Mathlib.Omega.{arith}
@@ -56,7 +56,7 @@ same_numbers a low high ys e f =
     five both (at 0) (at 1) (at 2) (at 3) ∙ ap (λ (t : Bool). both && t) (sym (ap₂ same_times (four_of xs e) (four_of ys f)))
   where
     five : (b x y z w : Bool) → (b && x && y && z && w) ≡ (b && (x && (y && (z && (w && true)))))
-    five b x y z w = and_assoc (b && x && y) z w ∙ and_assoc (b && x) y (z && w) ∙ and_assoc b x (y && (z && w)) ∙ ap (λ (t : Bool). b && (x && (y && (z && t)))) (sym (and_true w))
+    five b x y z w = and_assoc (b && x && y) z w ∙ and_assoc (b && x) y (z && w) ∙ and_assoc b x (y && (z && w)) ∙ ap (λ (t : Bool). b && (x && (y && (z && t)))) (sym (and-true w))
 
 -- What is found is the answer.
 pub answer_as : (l : Line) (n low high : ℕ) (ys : List ℕ) → low ≡ low_of l n → high ≡ high_of l n → ys ≡ (answer_of l n).entries → (a : Asked) → same_answer a (record { low = low; high = high; entries = ys }) ≡ same_answer a (answer_of l n)

@@ -2,7 +2,7 @@
 use Prim.Native.Nat.{ℕ, suc, ◌+◌, ◌*◌, ◌≤◌, ◌<◌}
 use mathlib.Core.Path.{◌≡◌, refl, sym, ap, ◌∙◌}
 use mathlib.Core.Logic.{◌⊎◌, inl, inr}
-use mathlib.Core.Bool.{Bool, true, false, not, ◌&&◌, ◌||◌, and_assoc, and_true, and_false}
+use mathlib.Core.Bool.{Bool, true, false, not, ◌&&◌, ◌||◌, and_assoc, and-true, and-false}
 use mathlib.Core.List.{List, [], ◌∷◌}
 use native.Mathlib.Numerals.{add-one}
 use native.Mathlib.Omega.{arith}
@@ -55,7 +55,7 @@ pub sizes_differ : (xs ys : List Target) → (length xs ≡ length ys → ⊥) �
 sizes_differ [] [] h = absurd (h refl)
 sizes_differ [] (y ∷ ys) h = refl
 sizes_differ (x ∷ xs) [] h = refl
-sizes_differ (x ∷ xs) (y ∷ ys) h = rw (sizes_differ xs ys (λ e. h (ap suc e))) (and_false (same_target x y))
+sizes_differ (x ∷ xs) (y ∷ ys) h = rw (sizes_differ xs ys (λ e. h (ap suc e))) (and-false (same_target x y))
 
 pub record Matching (xs ys : List Target) (ok : Bool) (i : ℕ) : Type 0 where
   pub within : i ≤ length ys
@@ -76,7 +76,7 @@ matching_turn xs ys ok i g h r l m e f q k =
 pub matching_end : (xs ys : List Target) (ok : Bool) (i : ℕ) → length xs ≤ i → length ys ≤ i → Matching xs ys ok i → ok ≡ same_targets xs ys
 matching_end xs ys ok i l m k =
     let none : same_targets (drop i xs) (drop i ys) ≡ true = λ j. same_targets (drop_of_length-le xs {i = i} l j) (drop_of_length-le ys {i = i} m j) in
-    sym (k.now ∙ ap (λ (b : Bool). ok && b) none ∙ and_true ok)
+    sym (k.now ∙ ap (λ (b : Bool). ok && b) none ∙ and-true ok)
 
 -- ---- the whole test
 

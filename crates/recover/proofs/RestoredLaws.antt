@@ -1,7 +1,7 @@
 -- Rows, a number for each parent: raised one by one, and the restored entries in them, triple by triple.
 use Prim.Native.Nat.{ℕ, ◌≤◌, ◌<◌, max}
 use mathlib.Core.Path.{◌≡◌, refl, sym, ap, ◌∙◌}
-use mathlib.Core.Bool.{Bool, true, false, cond, ◌&&◌, and_true, and_false}
+use mathlib.Core.Bool.{Bool, true, false, cond, ◌&&◌, and-true, and-false}
 use mathlib.Core.List.{List, [], ◌∷◌, ◌++◌}
 use native.Mathlib.Omega.{arith}
 use borrow.Author.Tests.{eqb-true, eqb-false, le-leb, lt-leb}
@@ -45,10 +45,10 @@ module _ (rows : List ℕ) (long : length rows ≡ rows_long) where
 
   -- One triple, up to low or not.
   pub raised_one : (low : ℕ) (t : Target) (next : List ℕ) → t.time ≤ low → Rows next (raised_at rows t.parent t.parent_time) → Rows next (raised_by rows (λ q. restored_over low q (t ∷ [])))
-  raised_one low t next h r = record { long = r.long; each = λ q l. r.each q l ∙ ap (chosen t q) (sym (ap (λ (b : Bool). eqb t.parent q && b) (le-leb t.time low h) ∙ and_true (eqb t.parent q))) ∙ restored_one low q (get_or rows q 0) t }
+  raised_one low t next h r = record { long = r.long; each = λ q l. r.each q l ∙ ap (chosen t q) (sym (ap (λ (b : Bool). eqb t.parent q && b) (le-leb t.time low h) ∙ and-true (eqb t.parent q))) ∙ restored_one low q (get_or rows q 0) t }
 
   pub raised_none : (low : ℕ) (t : Target) → low < t.time → Rows rows (raised_by rows (λ q. restored_over low q (t ∷ [])))
-  raised_none low t h = record { long = long; each = λ q l. ap (chosen t q) (sym (ap (λ (b : Bool). eqb t.parent q && b) (lt-leb t.time low h) ∙ and_false (eqb t.parent q))) ∙ restored_one low q (get_or rows q 0) t }
+  raised_none low t h = record { long = long; each = λ q l. ap (chosen t q) (sym (ap (λ (b : Bool). eqb t.parent q && b) (lt-leb t.time low h) ∙ and-false (eqb t.parent q))) ∙ restored_one low q (get_or rows q 0) t }
 
 -- No triples in their rows, and some and then others.
 pub raised_nothing : (low : ℕ) (rows : List ℕ) → length rows ≡ rows_long → Rows rows (raised_by rows (λ q. restored_over low q []))

@@ -1,7 +1,7 @@
 -- Targets that conflict, and the rows that they leave, one by one.
 use Prim.Native.Nat.{ℕ, suc, ◌+◌, ◌≤◌, ◌<◌}
 use mathlib.Core.Path.{◌≡◌, refl, sym, ap, ap₂, ◌∙◌}
-use mathlib.Core.Bool.{Bool, true, false, not, ◌&&◌, ◌||◌, or_assoc, or-false, and_assoc, and_true}
+use mathlib.Core.Bool.{Bool, true, false, not, ◌&&◌, ◌||◌, or_assoc, or-false, and_assoc, and-true}
 use mathlib.Core.List.{List, [], ◌∷◌, ◌++◌}
 use native.Mathlib.Numerals.{add-one}
 use native.Mathlib.Omega.{arith}
@@ -38,7 +38,7 @@ conflict_end ts found i h = rw (drop_of_length-le ts {i = i} h) (or-false found)
 -- ---- the rows
 
 all_snoc : {A : Type 0} (f : A → Bool) (xs : List A) (t : Bool) (x : A) → all_of f (xs ++ keep_one t x []) ≡ (all_of f xs && (not t || f x))
-all_snoc f [] true x = and_true (f x)
+all_snoc f [] true x = and-true (f x)
 all_snoc f [] false x = refl
 all_snoc f (y ∷ xs) t x = ap (λ (b : Bool). f y && b) (all_snoc f xs t x) ∙ sym (and_assoc (f y) (all_of f xs) (not t || f x))
 

@@ -1,7 +1,7 @@
 -- The triples of a child's log, entry by entry, and of all the children's, channel by channel.
 use Prim.Native.Nat.{ℕ, zero, suc, ◌+◌, ◌*◌, ◌-◌, ◌≤◌, ◌<◌, max}
 use mathlib.Core.Path.{◌≡◌, refl, sym, ap, ap₂, ◌∙◌}
-use mathlib.Core.Bool.{Bool, true, false, not, cond, ◌&&◌, and_false}
+use mathlib.Core.Bool.{Bool, true, false, not, cond, ◌&&◌, and-false}
 use mathlib.Core.List.{List, [], ◌∷◌, ◌++◌, map, append_assoc}
 use native.Mathlib.Numerals.{add-one}
 use native.Mathlib.Omega.{arith}
@@ -59,7 +59,7 @@ triple_from n o t p u = cond (eqb o (n + 1) && not (eqb p 0)) (record { time = t
 
 pub triple_from_lem : (n o t p u : ℕ) → triple_from n o t p u ≡ triple n (origin_from o t) (origin_from p u)
 triple_from_lem n zero t p u = rw (add-one n, eqb-zero-suc n)
-triple_from_lem n (suc o) t zero u = rw (and_false (eqb (suc o) (n + 1)))
+triple_from_lem n (suc o) t zero u = rw (and-false (eqb (suc o) (n + 1)))
 triple_from_lem n (suc o) t (suc p) u = rw (add-one n, eqb-suc-suc o n, eqb-suc-zero p) (one (eqb o n))
   where
     less : suc p - 1 ≡ p

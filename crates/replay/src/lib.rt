@@ -1,4 +1,6 @@
 // A Take of a node that replays (document 01, "While B replays"): the record is held or dropped, and the replay ends with the last row.
+#![tactic(auto)]
+
 ghost use Rattle.std.specs.Prelude.{◌≡◌, true, false, not, ◌||◌, [], ◌∷◌, ◌++◌, ℕ, ◌≤◌, ◌<◌, eqb, length, get_or};
 ghost use Rattle.plan.specs.Plan.{plan_of, plan_channels};
 ghost use Rattle.plan.specs.Mask.{set_of};

@@ -3,7 +3,7 @@ use Prim.Native.Nat.{ℕ, zero, suc, ◌+◌, ◌-◌, ◌^◌, ◌≤◌, ◌<�
 use mathlib.Core.Path.{◌≡◌, refl, sym, ap, ◌∙◌}
 use mathlib.Core.Logic.{◌≢◌}
 use mathlib.Core.Logic.{◌⊎◌, inl, inr}
-use mathlib.Core.Bool.{Bool, true, false, cond, ◌&&◌, or_true, true≢false}
+use mathlib.Core.Bool.{Bool, true, false, cond, ◌&&◌, or-true, true≢false}
 use mathlib.Core.List.{List, [], ◌∷◌, ◌++◌, map}
 use native.Mathlib.Omega.{arith}
 use native.Mathlib.Nat.{lt_of_not-le}
@@ -67,7 +67,7 @@ both_clash h t u e f =
     let (c, d) = both_true (eqb u.parent h.sender) (eqb u.parent_time h.time) f in
     let parent : t.parent ≡ u.parent = eqb-true t.parent h.sender a ∙ sym (eqb-true u.parent h.sender c) in
     let time : t.parent_time ≡ u.parent_time = eqb-true t.parent_time h.time b ∙ sym (eqb-true u.parent_time h.time d) in
-    rw (eq-eqb t.parent u.parent parent, eq-eqb t.parent_time u.parent_time time) (or_true (eqb t.time u.time))
+    rw (eq-eqb t.parent u.parent parent, eq-eqb t.parent_time u.parent_time time) (or-true (eqb t.time u.time))
 
 fixed_cons : (h : Held) (t : Target) (ts : List Target) (b : Bool) → is_target h t ≡ b → fixed_at (t ∷ ts) h ≡ cond b (max t.time (fixed_at ts h)) (fixed_at ts h)
 fixed_cons h t ts b e = ap (λ (x : Bool). greatest_of (map (λ (u : Target). u.time) (keep_one x t (keep (is_target h) ts)))) e ∙ one b

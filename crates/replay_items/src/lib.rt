@@ -1,4 +1,6 @@
 // What the end of a replay is worked out from, without writing the state: the replay table, gathered row by row, and whether all targets are held (document 01, "While B replays" and "Placing").
+#![tactic(auto)]
+
 ghost use Rattle.std.specs.Prelude.{◌≡◌, true, cond, ◌+◌, ◌≤◌, ◌<◌, length, get_or, eqb};
 ghost use Rattle.plan.specs.Plan.{plan_of, leaving, entering};
 ghost use Rattle.plan.specs.Mask.{plan_mask};
@@ -29,7 +31,7 @@ pub const NUMBERS: usize = 4 * MOST;
 pub const TABLE: usize = 5 * MOST;
 
 // What is asked: the end of a node's replay, with the channels that leave it, so many targets and so many held records, the last one perhaps not there yet.
-#[derive(Drop)]
+#[derive(Clone, Copy)]
 pub struct Ending {
     pub node: usize,
     pub leaving: u32,
@@ -39,7 +41,7 @@ pub struct Ending {
 }
 
 // How many items there are, and where the next target is looked for.
-#[derive(Drop)]
+#[derive(Clone, Copy)]
 pub struct Gathered {
     pub count: usize,
     pub hint: usize,

@@ -2,7 +2,7 @@
 use Prim.Native.Nat.{ℕ, zero, suc, ◌+◌, ◌*◌, ◌≤◌, ◌<◌}
 use mathlib.Core.Path.{◌≡◌, refl, sym, ap, ◌∙◌}
 use mathlib.Core.Logic.{◌≢◌}
-use mathlib.Core.Bool.{Bool, true, false, not, not_not}
+use mathlib.Core.Bool.{Bool, true, false, not, not-not}
 use mathlib.Core.List.{List, [], ◌∷◌, map, zip_with}
 use mathlib.Core.Option.{Option, none, some}
 use native.Mathlib.Omega.{arith}
@@ -30,10 +30,10 @@ use Rattle.report.proofs.WroteLaws.{Writing, wrote_most, wrote_then, writing_sta
 
 module _ (o : Option Asked) {r : Bool} (e : r ≡ not (is_nothing o)) where
   pub not_kept : not r ≡ true → o ≡ none
-  not_kept h = nothing_none o (sym (not_not (is_nothing o)) ∙ ap not (sym e) ∙ h)
+  not_kept h = nothing_none o (sym (not-not (is_nothing o)) ∙ ap not (sym e) ∙ h)
 
   pub is_kept : not r ≡ false → (a : Asked) × (o ≡ some a)
-  is_kept h = something_there o (sym (not_not (is_nothing o)) ∙ ap not (sym e) ∙ h)
+  is_kept h = something_there o (sym (not-not (is_nothing o)) ∙ ap not (sym e) ∙ h)
 
 -- ---- words, each behind a space
 

@@ -1,4 +1,6 @@
 // The text of a sheet (document 01, "The sheet"), written into a lent buffer: each function writes at a place and gives the place behind its text. Nothing else of the buffer changes.
+#![tactic(auto)]
+
 ghost use Rattle.std.specs.Prelude.{◌+◌, ◌≤◌, length};
 ghost use Rattle.rules.specs.Sheet.{opening as Sheet·opening, answer_line, line_text};
 ghost use Rattle.state.specs.State.{line_of};
@@ -14,7 +16,7 @@ pub mod node;
 pub mod text;
 
 // Whose entries for a node's parents are listed: the node's own, those that a child has heard through its channel from the node, or those of the node's kept answer.
-#[derive(Drop)]
+#[derive(Clone, Copy)]
 pub enum Heard {
     Itself,
     Through(usize),
@@ -22,7 +24,7 @@ pub enum Heard {
 }
 
 // A parent that is listed: its number, its time, the channel from it, the mask of the channels behind that one, and where its part starts.
-#[derive(Drop)]
+#[derive(Clone, Copy)]
 pub struct Parent {
     pub node: usize,
     pub time: u32,

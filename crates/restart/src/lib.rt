@@ -1,4 +1,6 @@
 // Crash, Recover, Ask and Commit on the bytes of a state (document 01, kinds 4 and 5; document 02, 2026-07). Nothing is written before the answer is known to be 0: a refusal leaves the state as it came.
+#![tactic(auto)]
+
 ghost use Rattle.std.specs.Prelude.{◌≡◌, ◌≤◌, ◌<◌, length};
 ghost use Rattle.std.proofs.Math.Option.{some};
 ghost use Rattle.plan.specs.Plan.{plan_of, plan_nodes};
@@ -168,7 +170,7 @@ pub fn crash(s: &mut [u8], n: usize) -> u32
 // ---- Recover, Ask and Commit
 
 // What Recover finds of a node: the number that it answers, and where it is 0 low and how many targets.
-#[derive(Drop)]
+#[derive(Clone, Copy)]
 pub struct Outcome {
     pub number: u32,
     pub low: u32,

@@ -1,4 +1,6 @@
 // The program `sheet` (document 01, "The sheet"): standard input, block by block, gives the text on standard output. It only moves bytes.
+#![tactic(auto)]
+
 ghost use Rattle.std.specs.Prelude.{◌≡◌, false, ◌≤◌, length};
 ghost use Rattle.stream.specs.Reader.{window_size};
 ghost use Rattle.sheet.specs.Turned.{got_of, ReadBehind, is_ended, Between, Turned};
@@ -12,7 +14,7 @@ use stream::{OUT, Phase, Reader, WINDOW};
 const ALLOWANCE: usize = 4_611_686_018_427_387_904;
 
 // What a read gives.
-#[derive(Drop)]
+#[derive(Clone, Copy)]
 pub enum Got {
     Bytes(usize),
     End,
@@ -20,7 +22,7 @@ pub enum Got {
 }
 
 // Why a run ended: the sheet is whole, a read failed, a write failed, or the allowance is used up.
-#[derive(Drop)]
+#[derive(Clone, Copy)]
 pub enum Ending {
     Whole,
     Unread,
@@ -29,7 +31,7 @@ pub enum Ending {
 }
 
 // Another block is read, with what reader and what is left of the allowance; or the run ends.
-#[derive(Drop)]
+#[derive(Clone, Copy)]
 pub enum Next {
     On(Reader, usize),
     Stop(Ending),

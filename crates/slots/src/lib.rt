@@ -1,4 +1,6 @@
 // What stands in the slots (docs/LAYOUT.md), read and written at an offset: records, what something was made from, messages, log entries, held records and targets. A record's eight bytes go as one number. Messages move up by one slot, log entries by several.
+#![tactic(auto)]
+
 ghost use Rattle.std.specs.Prelude.{◌≡◌, ◌++◌, ◌+◌, ◌*◌, ◌≤◌, ◌<◌, length, take, drop, replicate};
 ghost use Rattle.basics.specs.Put.{put};
 ghost use Rattle.plan.specs.Record.{record_layout};
@@ -10,14 +12,14 @@ use buffer::{bytes, layout, record};
 use plan::Record;
 
 // What something was made from: 0 for nothing, else the sender and 1; and the sender's time.
-#[derive(Drop)]
+#[derive(Clone, Copy)]
 pub struct Made {
     pub from: u8,
     pub time: u32,
 }
 
 // A message on a channel.
-#[derive(Drop)]
+#[derive(Clone, Copy)]
 pub struct Sent {
     pub what: Record,
     pub time: u32,
@@ -25,7 +27,7 @@ pub struct Sent {
 }
 
 // A log entry, with the set of channels that take it.
-#[derive(Drop)]
+#[derive(Clone, Copy)]
 pub struct Logged {
     pub what: Record,
     pub time: u32,
@@ -35,7 +37,7 @@ pub struct Logged {
 }
 
 // A held record.
-#[derive(Drop)]
+#[derive(Clone, Copy)]
 pub struct Waiting {
     pub what: Record,
     pub sender: u8,
@@ -44,7 +46,7 @@ pub struct Waiting {
 }
 
 // A target: the node's time, the parent and the parent's time.
-#[derive(Drop)]
+#[derive(Clone, Copy)]
 pub struct Goal {
     pub time: u32,
     pub parent: u32,

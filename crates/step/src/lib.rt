@@ -1,4 +1,6 @@
 // A step on a state that holds an undamaged line (document 01, "Clocks and steps"). The state is not looked through again: whoever calls it holds a line, and holds one afterwards.
+#![tactic(auto)]
+
 ghost use Rattle.std.specs.Prelude.{◌<◌};
 ghost use Rattle.rules.specs.Line.{step_limit, console_count, steps_from, counted};
 ghost use Rattle.rules.specs.Frame as frames;

@@ -10,7 +10,7 @@ use buffer::bytes;
 use frame::HEAD;
 
 // Up to which place frames were worked, the next one's number, and how many bytes were written.
-#[derive(Drop)]
+#[derive(Clone, Copy)]
 pub struct Worked {
     pub at: usize,
     pub count: u64,

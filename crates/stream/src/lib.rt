@@ -1,4 +1,6 @@
 // A sheet read block by block (document 01, "The sheet"). What is kept between two blocks stands at the front of a window; a block comes behind it.
+#![tactic(auto)]
+
 ghost use Rattle.std.specs.Prelude.{◌≡◌, [], ◌+◌, ◌-◌, length, take, drop};
 ghost use Rattle.std.proofs.Math.Seq.{slice};
 ghost use Rattle.rules.specs.Sheet.{frames_text};
@@ -17,7 +19,7 @@ pub const WINDOW: usize = 65_536;
 // What a window's frames give fits the output, and the nodes behind it (`outSize`): at most 34 bytes for each 5 read, one answer more, and the nodes' text (`textMost` in the crate `report`). These are 539,806 bytes; 132 pages of 4,096 hold them.
 pub const OUT: usize = 540_672;
 
-#[derive(Drop)]
+#[derive(Clone, Copy)]
 pub enum Phase {
     Planning,
     Framing,
@@ -25,7 +27,7 @@ pub enum Phase {
 }
 
 // How far reading has come: how many bytes are kept, the next frame's number, and how many bytes the last call wrote.
-#[derive(Drop)]
+#[derive(Clone, Copy)]
 pub struct Reader {
     pub phase: Phase,
     pub have: usize,

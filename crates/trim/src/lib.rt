@@ -1,4 +1,6 @@
 // Trim on the bytes of a state (document 02, 2026-04). Nothing is written before the answer is known to be 0: a refusal leaves the state as it came.
+#![tactic(auto)]
+
 ghost use Rattle.std.specs.Prelude.{◌≡◌, ◌≤◌, ◌<◌, min, length, get_or, set};
 ghost use Rattle.plan.specs.Plan.{plan_of, plan_channels, channel_at, entering};
 ghost use Rattle.rules.specs.Line.{node_at, sender_of, parents, with_lanes};

@@ -1,6 +1,6 @@
 use Prim.Native.Nat.{◌-◌, ◌≤◌}
 use mathlib.Core.Path.{◌≡◌, refl, ◌∙◌}
-use mathlib.Core.Bool.{◌&&◌, and_true}
+use mathlib.Core.Bool.{◌&&◌, and-true}
 use Rattle.placing.proofs.ItemsLaws.{length_items, fit_more}
 use native.Mathlib.Omega.{arith}
 use borrow.Author.Rules.{rules}
@@ -65,7 +65,7 @@ returns : tie.Need-returns invariant_loop decreases_loop
 returns c =
     let a = c.before.before.before.before.before.before.args in
     let l = c.before.loop in
-    rw (l.invariant.1, drop_of_length-le (items_of a.rows.now a.times.now a.fixed.now a.floors.now) {i = l.i} (rw length_items (omega arith)), and_true)
+    rw (l.invariant.1, drop_of_length-le (items_of a.rows.now a.times.now a.fixed.now a.floors.now) {i = l.i} (rw length_items (omega arith)), and-true)
 
 pub items-fit-spec : {M : Type 1} → statement M
 items-fit-spec =

@@ -1,6 +1,6 @@
 use Prim.Native.Nat.{ℕ, suc, ◌-◌, ◌≤◌}
 use mathlib.Core.Path.{◌≡◌, sym, ◌∙◌}
-use mathlib.Core.Bool.{◌&&◌, and_true}
+use mathlib.Core.Bool.{◌&&◌, and-true}
 use native.Mathlib.Omega.{arith}
 use Rattle.plan.specs.Plan.{plan_of, plan_nodes}
 use Rattle.plan.specs.Check.{four_at_most}
@@ -35,7 +35,7 @@ returns : tie.Need-returns invariant_loop decreases_loop
 returns c =
     let v = c.before.loop in
     let e : v.left ≡ 0 = omega arith in
-    sym (rw e at v.invariant.1 ∙ and_true v.ok)
+    sym (rw e at v.invariant.1 ∙ and-true v.ok)
 
 pub degrees-fit-spec : {M : Type 1} → statement M
 degrees-fit-spec =
