@@ -97,7 +97,7 @@ module _ (l : Line) (b : ℕ) where
 
   sound_right : Sound → channel_right l b ≡ true
   unfolding channel_right queue_right
-  sound_right c = rw (c.clock, c.count, each_all (message_right l b) s.queue (λ m i. sent_right m (c.sent m i)), c.queue-rises, c.apart, c.holds, c.low)
+  sound_right c = rw (c.clock, c.count, each_all (message_right l b) s.queue (λ m i. sent_right m (c.sent m i)), c.queue_rises_lem, c.apart, c.holds, c.low)
 
   right_sound : channel_right l b ≡ true → Sound
   unfolding channel_right queue_right
@@ -163,7 +163,7 @@ module _ (l : Line) (b : ℕ) where
 
   -- A message's time is within the steps and not 0.
   sent_when : Sound → (m : Message) → In m s.queue → (0 < m.time) × (m.time ≤ accepted_steps l)
-  sent_when c m i = one (end_down l b) refl c.queue-rises
+  sent_when c m i = one (end_down l b) refl c.queue_rises_lem
     where
       no_messages : (q : List Message) → is_empty q ≡ true → In m q → ⊥
       no_messages [] e j = in_none j
@@ -186,7 +186,7 @@ module _ (l : Line) (b : ℕ) where
       let past : channel_time_past (accepted_steps l) s ≡ false = past_is (accepted_steps l) s ∙ rw (lates, c.clock) in
       let noughts = zero_is s ∙ each_none nought s.queue (λ m i. rw (ne_eqb 0 m.time (λ q. omega (arith, when m i)), (c.sent m i).named.nought)) in
       let makers = each_none wrong_maker s.queue (λ m i. (c.sent m i).named.maker) in
-      let queue = queue_is ∙ ap not c.queue-rises in
+      let queue = queue_is ∙ ap not c.queue_rises_lem in
       false_all (channel_past_limits s) others (limits, (parents, (past, (noughts, (makers, (queue, (c.apart, (c.holds, c.low))))))))
 
   pub channel_items : channel_damaged l b ≡ not (channel_right l b)

@@ -153,7 +153,7 @@ module _ (l : Line) (n : ℕ) where
       let y : Node = node_at l n in
       let limits = clear_limits y c.counts c.records in
       let parents : node_wrong_parent l.plan n y ≡ false = rw (c.inputs, c.parents) in
-      let past : node_time_past (accepted_steps l) y ≡ false = past_is y (accepted_steps l) ∙ rw (c.inputs-past, c.time-past, c.log-past, c.targets-past) in
-      let nought : node_time_zero y ≡ false = zero_is y ∙ c.inputs-nought in
-      let log : log_wrong l.plan n y ≡ false = ap not c.log-rises in
-      false_all (node_past_limits y) others (limits, (parents, (past, (nought, (c.makers, (log, (c.sets, (c.clock, (c.rows, (c.passed, (c.missing, (c.on-end, (c.again, (c.kept, c.holds))))))))))))))
+      let past : node_time_past (accepted_steps l) y ≡ false = past_is y (accepted_steps l) ∙ rw (c.inputs_past, c.time_past, c.log_past, c.targets_past) in
+      let nought : node_time_zero y ≡ false = zero_is y ∙ c.inputs_nought in
+      let log : log_wrong l.plan n y ≡ false = ap not c.log_rises_lem in
+      false_all (node_past_limits y) others (limits, (parents, (past, (nought, (c.makers, (log, (c.sets, (c.clock, (c.rows, (c.passed, (c.missing, (c.on_end, (c.again, (c.kept, c.holds))))))))))))))

@@ -93,7 +93,7 @@ module _ (l : Line) (line : Formed l) (n : ℕ) (inside : n < node_count l.plan)
         s.counts,
         s.time,
         each_all (entry_right l n) x.log (λ e i. worked_entry l line n e (s.worked e (in_left (map held_entry x.held) i))),
-        s.log-rises,
+        s.log_rises_lem,
         each_all (set_right l.plan n) x.log s.sets,
         each_all (held_right l n) x.held (λ h i. worked_held l line n h (s.worked (held_entry h) (held-among h i)) (s.passed h i)),
         s.held-rises,
@@ -157,8 +157,8 @@ module _ (l : Line) (line : Formed l) (n : ℕ) (inside : n < node_count l.plan)
         fits = none_any past_limits c.records i;
         clean = record {
           parents = none_any (wrong_input l n) c.inputs i;
-          past = none_any (input_times (ltb (accepted_steps l))) c.inputs-past i;
-          nought = none_any (input_times (eqb 0)) c.inputs-nought i;
+          past = none_any (input_times (ltb (accepted_steps l))) c.inputs_past i;
+          nought = none_any (input_times (eqb 0)) c.inputs_nought i;
           makers = none_any (wrong_maker l n) c.makers i;
           clock = none_any (past_entry l n) c.clock i;
         };
@@ -166,14 +166,14 @@ module _ (l : Line) (line : Formed l) (n : ℕ) (inside : n < node_count l.plan)
       let sets : (e : Entry) → In e x.log → set_right l.plan n e ≡ true = λ e i. not-false (set_right l.plan n e) (none_any (wrong_set l n) c.sets i) in
       record {
         counts = c.counts;
-        time = not_above x.time (accepted_steps l) ∙ ap not c.time-past;
+        time = not_above x.time (accepted_steps l) ∙ ap not c.time_past;
         worked = worked;
-        log_rises_lem = log_same l.plan n 0 x.time x.log sets ∙ c.log-rises;
+        log_rises_lem = log_same l.plan n 0 x.time x.log sets ∙ c.log_rises_lem;
         sets = sets;
         passed = λ h i. not-false (passed_on l.plan n h.what) (none_any (not_passed l n) c.passed i);
         held-rises = not-false (held_rise none_held x.held) (sym (held_opposite l line n inside (held-parents worked)) ∙ c.rows);
-        targets = λ t i. target_right_lem l line n t (none_any (wrong_target l n) c.parents i) (none_any (target_times (ltb (accepted_steps l))) c.targets-past i);
-        status = not-false (status_right l.plan n x) (sym status_is ∙ rw (c.missing, c.on-end, c.holds));
+        targets = λ t i. target_right_lem l line n t (none_any (wrong_target l n) c.parents i) (none_any (target_times (ltb (accepted_steps l))) c.targets_past i);
+        status = not-false (status_right l.plan n x) (sym status_is ∙ rw (c.missing, c.on_end, c.holds));
         replays = not-false (not (replaying l n) || replay_right l n) (sym replays_is ∙ c.again);
         kept = not-false (kept_right l n x.asked) (sym (answer_items l line n inside) ∙ c.kept);
       }
@@ -187,13 +187,13 @@ module _ (l : Line) (line : Formed l) (n : ℕ) (inside : n < node_count l.plan)
         records = each_none past_limits (worked_on x) (λ e i. (s.worked e i).fits);
         inputs = each_none (wrong_input l n) (worked_on x) (λ e i. (s.worked e i).clean.parents);
         parents = each_none (wrong_target l n) x.targets (λ t i. (right_target l line n t (s.targets t i)).0);
-        log_past = each_none (λ (e : Entry). ltb (accepted_steps l) e.time) x.log (λ e i. le-ltb (accepted_steps l) e.time (omega (arith, log_within (is_inner l.plan n) 0 x.time s.log-rises i)));
+        log_past = each_none (λ (e : Entry). ltb (accepted_steps l) e.time) x.log (λ e i. le-ltb (accepted_steps l) e.time (omega (arith, log_within (is_inner l.plan n) 0 x.time s.log_rises_lem i)));
         inputs_past = each_none (input_times (ltb (accepted_steps l))) (worked_on x) (λ e i. (s.worked e i).clean.past);
         time_past = le-ltb (accepted_steps l) x.time own;
         targets_past = each_none (target_times (ltb (accepted_steps l))) x.targets (λ t i. (right_target l line n t (s.targets t i)).1);
         inputs_nought = each_none (input_times (eqb 0)) (worked_on x) (λ e i. (s.worked e i).clean.nought);
         makers = each_none (wrong_maker l n) (worked_on x) (λ e i. (s.worked e i).clean.makers);
-        log_rises_lem = sym (log_same l.plan n 0 x.time x.log s.sets) ∙ s.log-rises;
+        log_rises_lem = sym (log_same l.plan n 0 x.time x.log s.sets) ∙ s.log_rises_lem;
         sets = each_none (wrong_set l n) x.log (λ e i. ap not (s.sets e i));
         clock = each_none (past_entry l n) (worked_on x) (λ e i. (s.worked e i).clean.clock);
         rows = held_opposite l line n inside (held-parents s.worked) ∙ ap not s.held-rises;

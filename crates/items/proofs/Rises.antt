@@ -28,11 +28,11 @@ rise_same time last top (x ∷ xs) =
     ap (λ (t : Bool). ltb last (time x) && leb (time x) top && t) (rise_same time (time x) top xs)
     ∙ shuffle (ltb last (time x)) (leb (time x) top) (rises (time x) (map time xs)) (all_of (λ (t : ℕ). leb t top) (map time xs))
 
-pub rise_within : {A : Type 0} (time : A → ℕ) (last top : ℕ) {x : A} {xs : List A} → times_rise time last top xs ≡ true → In x xs → (last < time x) × (time x ≤ top)
-rise_within time last top {x = x} e (here {xs = xs}) =
+pub rise_within : {A : Type 0} (time : A → ℕ) {x : A} (last top : ℕ) {xs : List A} → times_rise time last top xs ≡ true → In x xs → (last < time x) × (time x ≤ top)
+rise_within time {x = x} last top e (here {xs = xs}) =
     let (late, (inside, rest)) = all_true (ltb last (time x)) (leb (time x) top ∷ times_rise time (time x) top xs ∷ []) e in
     (ltb-true last (time x) late, leb-true (time x) top inside)
-rise_within time last top {x = x} e (there {y = y} {xs = xs} i) =
+rise_within time {x = x} last top e (there {y = y} {xs = xs} i) =
     let (late, (inside, rest)) = all_true (ltb last (time y)) (leb (time y) top ∷ times_rise time (time y) top xs ∷ []) e in
     let (above, below) = rise_within time (time y) top rest i in
     (omega (arith, ltb-true last (time y) late), below)
@@ -67,6 +67,6 @@ module _ (p : Plan) (n : ℕ) where
       (λ i. follow_same last e (right e here) i && leb e.time top && log_same e.time top es (λ f j. right f (there j)) i)
       ∙ shuffle (cond (may_repeat p n e.what) (leb last e.time) (ltb last e.time)) (leb e.time top) (log_rises p n e.time es) (all_of (λ (t : ℕ). leb t top) (map (λ (e : Entry). e.time) es))
 
-pub log_within : (inner : Bool) (last top : ℕ) {x : Entry} {xs : List Entry} → log_rise inner last top xs ≡ true → In x xs → x.time ≤ top
-log_within inner last top {x = x} e (here {xs = xs}) = leb-true x.time top (all_true (may_follow inner last x.time x.set) (leb x.time top ∷ log_rise inner x.time top xs ∷ []) e).1.0
+pub log_within : (inner : Bool) {x : Entry} (last top : ℕ) {xs : List Entry} → log_rise inner last top xs ≡ true → In x xs → x.time ≤ top
+log_within inner {x = x} last top e (here {xs = xs}) = leb-true x.time top (all_true (may_follow inner last x.time x.set) (leb x.time top ∷ log_rise inner x.time top xs ∷ []) e).1.0
 log_within inner last top e (there {y = y} {xs = xs} i) = log_within inner y.time top (all_true (may_follow inner last y.time y.set) (leb y.time top ∷ log_rise inner y.time top xs ∷ []) e).1.1 i

@@ -14,7 +14,7 @@ use Rattle.plan.specs.Record.{record_layout}
 use Rattle.plan.specs.Plan.{channel_at, entering, leaving}
 use Rattle.plan.specs.Mask.{set_of}
 use Rattle.rules.specs.Lists.{keep, all_of, any_of, joined, is_empty, greatest_of, least_of}
-use Rattle.rules.specs.Line.{log_limit, held_limit, target_limit, Origin, fed, made, Message, Entry, Held, Target, Asked, down, Node, Lane, Line, fresh_node, node_at, lane_at, node_numbers, with_node, with_lane, with_lanes, receiver_of, sender_of, parents, is_up, is_down, is_replay, counted}
+use Rattle.rules.specs.Line.{log_limit, held_limit, target_limit, Origin, fed, made, Message, Entry, Held, Target, Asked, down, Node, Lane, Line, fresh_node, node_at, lane_at, node_numbers, with_node, with_lane, with_lanes, receiver_of, sender_of, parents, is_up, is_down, is_replay, counted, fresh_lane}
 use Rattle.rules.specs.Frame.{Frame, feed, send, take, crash, recover, trim, ask, commit, frame_console, frame_of, frame_refusal}
 use Rattle.rules.specs.Clock.{logged, next_to_send, sent_on}
 use Rattle.rules.specs.Recover.{triple, triples, child_triples, child_lows, low_of, high_of, answer_of, beside, committed, targets_of, sort_targets, restored, conflict, status_of, row_goal, row_complete, rows_complete, restored_to, recovered}
@@ -187,7 +187,7 @@ taken_bare b (m ∷ rest) l = (λ i. Option.map without_sets (by (without_sets l
 -- Crash, Recover.
 crashed_bare : (n : ℕ) (l : Line) → crashed_line n (without_sets l) ≡ without_sets (crashed_line n l)
 unfolding crashed_line
-crashed_bare n l = swept_bare _ _ (entering l.plan n) (leaving l.plan n) n (record { status = down; crashed = true; time = 0; log = []; held = []; targets = []; asked = none }) l
+crashed_bare n l = swept_bare (λ (c : ℕ) (s : Lane). fresh_lane l.plan (channel_at l.plan c) 0) (λ (c : ℕ) (s : Lane). record { mark = 0; taken = s.taken; heard = s.heard; queue = []; low = s.low }) (entering l.plan n) (leaving l.plan n) n (record { status = down; crashed = true; time = 0; log = []; held = []; targets = []; asked = none }) l
 
 targets_bare : (l : Line) (n : ℕ) → targets_of (without_sets l) n ≡ targets_of l n
 unfolding targets_of
@@ -199,7 +199,7 @@ restored_bare l n parent = ap (λ (ts : List Target). greatest_of (child_lows l 
 
 restored_to_bare : (low : ℕ) (ts : List Target) (entry : ℕ → ℕ) (n : ℕ) (l : Line) → restored_to low ts entry n (without_sets l) ≡ without_sets (restored_to low ts entry n l)
 unfolding restored_to
-restored_to_bare low ts entry n l = swept_bare _ _ (entering l.plan n) (leaving l.plan n) n (record { status = status_of ts; crashed = true; time = low; log = []; held = []; targets = ts; asked = none }) l
+restored_to_bare low ts entry n l = swept_bare (λ (c : ℕ) (s : Lane). fresh_lane l.plan (channel_at l.plan c) (entry c)) (λ (c : ℕ) (s : Lane). record { mark = s.taken; taken = s.taken; heard = s.heard; queue = s.queue; low = s.low }) (entering l.plan n) (leaving l.plan n) n (record { status = status_of ts; crashed = true; time = low; log = []; held = []; targets = ts; asked = none }) l
 
 recovered_bare : (n : ℕ) (l : Line) → recovered n (without_sets l) ≡ without_sets (recovered n l)
 unfolding recovered

@@ -8,13 +8,13 @@ use mathlib.Core.Option
 use mathlib.Core.Option.{Option, none, some}
 use Rattle.plan.specs.declared.Record.{Record}
 use Rattle.plan.specs.Record.{record_layout}
-use Rattle.plan.specs.Plan.{entering, leaving}
+use Rattle.plan.specs.Plan.{entering, leaving, channel_at}
 use Rattle.plan.specs.Mask.{set_of}
 use Rattle.placing.specs.Item.{Item}
 use Rattle.rules.specs.Lists.{all_of, joined, is_empty}
-use Rattle.rules.specs.Line.{Origin, fed, made, Message, Entry, Held, Target, Asked, Lane, Line, node_at, lane_at, sender_of, receiver_of, parents, with_node, with_lane, with_lanes}
+use Rattle.rules.specs.Line.{Origin, fed, made, Message, Entry, Held, Target, Asked, Lane, Line, node_at, lane_at, sender_of, receiver_of, parents, with_node, with_lane, with_lanes, down, fresh_lane}
 use Rattle.rules.specs.Frame.{Frame, feed, send, take, crash, recover, trim, ask, commit}
-use Rattle.rules.specs.Recover.{low_of, high_of, restored, targets_of, conflict, rows_complete, restored_to, recovered, beside, committed}
+use Rattle.rules.specs.Recover.{low_of, high_of, restored, targets_of, conflict, rows_complete, restored_to, recovered, beside, committed, status_of}
 use Rattle.rules.specs.Replay.{passed_on, timed, is_held, held_by_row, item_of, items_by_row, placing, node_placed, replay_end, ended_if_complete}
 use Rattle.rules.specs.Trim.{floor_time, sender_below, droppable, leading, behind, low_raised, with_log, trimmed_line}
 use Rattle.rules.specs.Step.{some_stopped, is_nothing, no_such, wrong_node, wrong_status, beside_crashed, no_answer, bad_record, sendable, nothing_there, queue_full, row_done, first_record, to_hold, take_lacks, no_space, replaying, made_by, sent_line, taken_up, taken_replaying, taken_lane, taken_first, crashed_line, recovered_line, asked_line, committed_by, committed_line, effect, no_placing, line_refusal, fed_line}
@@ -88,11 +88,11 @@ module _ (newer : ℕ → ℕ) (counts : List ℕ) where
 
   pub restored_recounted : (low : ℕ) (ts : List Target) (entry : ℕ → ℕ) (n : ℕ) (l : Line) → restored_to low ts entry n (reheaded newer counts l) ≡ reheaded newer counts (restored_to low ts entry n l)
   unfolding restored_to
-  restored_recounted low ts entry n l = lanes_twice _ _ (entering l.plan n) (leaving l.plan n) _
+  restored_recounted low ts entry n l = lanes_twice (λ (c : ℕ) (s : Lane). fresh_lane l.plan (channel_at l.plan c) (entry c)) (λ (c : ℕ) (s : Lane). record { mark = s.taken; taken = s.taken; heard = s.heard; queue = s.queue; low = s.low }) (entering l.plan n) (leaving l.plan n) (with_node n (record { status = status_of ts; crashed = true; time = low; log = []; held = []; targets = ts; asked = none }) l)
 
   crashed_recounted : (n : ℕ) (l : Line) → crashed_line n (reheaded newer counts l) ≡ reheaded newer counts (crashed_line n l)
   unfolding crashed_line
-  crashed_recounted n l = lanes_twice _ _ (entering l.plan n) (leaving l.plan n) _
+  crashed_recounted n l = lanes_twice (λ (c : ℕ) (s : Lane). fresh_lane l.plan (channel_at l.plan c) 0) (λ (c : ℕ) (s : Lane). record { mark = 0; taken = s.taken; heard = s.heard; queue = []; low = s.low }) (entering l.plan n) (leaving l.plan n) (with_node n (record { status = down; crashed = true; time = 0; log = []; held = []; targets = []; asked = none }) l)
 
   -- What a Trim drops goes by the clocks alone.
   sender_recounted : (l : Line) (o : Origin) → sender_below (reheaded newer counts l) o ≡ sender_below l o

@@ -13,7 +13,7 @@ use Rattle.rules.specs.Lists.{keep, keep_one}
 use Rattle.rules.specs.Line.{Message}
 use Rattle.rules.specs.Replay.{passed_on}
 use Rattle.rules.proofs.Lists.Rising.{until, Rises, rises_rest, rises-after}
-use Rattle.rules.proofs.Lists.Members.{In, here, there, in_keep, in_map, rises_in}
+use Rattle.rules.proofs.Lists.Members.{In, here, there, in_keep, in_map, rises_in, in_first}
 use Rattle.rules.proofs.Histories.Witness.{Taken, none, more}
 use Rattle.rules.proofs.Histories.Ghost.{Event, fed_at, took_at, input_of, sent_of, got_of}
 use Rattle.rules.proofs.Histories.Passing.{passing, goes_on}
@@ -36,6 +36,7 @@ module _ (p : Plan) (n : ℕ) where
 
   taken-keep : (f : Event → Bool) (es : List Event) → Taken p n (map input_of es) → Taken p n (map input_of (keep f es))
   taken-keep f [] h = none
+  taken-keep f (fed_at _ _ ∷ es) h = elim h [ ]
   taken-keep f (took_at b m t ∷ es) (more l q s h) = one (f (took_at b m t)) (taken-keep f es h)
     where
       one : (x : Bool) → Taken p n (map input_of (keep f es)) → Taken p n (map input_of (keep_one x (took_at b m t) (keep f es)))
@@ -80,6 +81,7 @@ module _ (p : Plan) (n low : ℕ) (base : ℕ → ℕ) where
   pub kept_passing : (es : List Event) → ((b : ℕ) (m : Message) (t : ℕ) → In (took_at b m t) es → goes_on p n m ≡ true → Cuts low base b m t) → Taken p n (map input_of es)
       → passing p n (kept base es) ≡ until time_of low (passing p n es)
   kept_passing [] cuts h = refl
+  kept_passing (fed_at _ _ ∷ es) cuts h = elim h [ ]
   kept_passing (took_at b m t ∷ es) cuts (more l q s h) = one (goes_on p n m) (leb m.time (base b)) refl refl (kept_passing es (λ c k u i. cuts c k u (there i)) h)
     where
       same : goes_on p n m ≡ true → leb t low ≡ leb m.time (base b)
@@ -110,12 +112,17 @@ module _ (p : Plan) (n : ℕ) where
   -- Of two messages of one channel that are passed on, the one not later on the channel is not later at the node.
   pub order_kept : {a c b : ℕ} {m k : Message} {t u : ℕ} (es : List Event) → Rises time_of a (passing p n es) → Rises time_of c (got_of b es)
       → In (took_at b m t) es → In (took_at b k u) es → goes_on p n m ≡ true → goes_on p n k ≡ true → m.time ≤ k.time → t ≤ u
-  order_kept (e ∷ es) r s here here d f l = omega arith
-  order_kept {m = m} (e ∷ es) r s here (there j) d f l =
-      let later = rises_in time_of (rises-after time_of (goes_on p n m) (sent_of p n e) (passing p n es) d r) (in_passing j f) in omega arith
-  order_kept {b = b} {k = k} {u = u} (e ∷ es) r s (there i) here d f l = let later = rises_in time_of (got_after b k u es s) (in_got_of b i) in omega arith
-  order_kept {b = b} (e ∷ es) r s (there i) (there j) d f l =
-      order_kept es (rises_rest time_of (passed_on p n (sent_of p n e).what) (sent_of p n e) (passing p n es) r) (got_rest b e es s) i j d f l
+  order_kept [] r s i _ d f l = elim i [ ]
+  order_kept {m = m} (e ∷ es) r s here j d f l =
+      elim (in_first j) [
+        | inl q ↦ (let same = ap (λ (x : Event). (sent_of p n x).time) q in omega arith)
+        | inr j ↦ (let later = rises_in time_of (rises-after time_of (goes_on p n m) (sent_of p n e) (passing p n es) d r) (in_passing j f) in omega arith)
+      ]
+  order_kept {c = c} {b = b} {k = k} {u = u} (e ∷ es) r s (there i) j d f l =
+      elim (in_first j) [
+        | inl q ↦ (let later = rises_in time_of (got_after b k u es (subst (λ (x : Event). Rises time_of c (got_of b (x ∷ es))) (sym q) s)) (in_got_of b i) in omega arith)
+        | inr j ↦ order_kept es (rises_rest time_of (passed_on p n (sent_of p n e).what) (sent_of p n e) (passing p n es) r) (got_rest b e es s) i j d f l
+      ]
 
   module _ (low : ℕ) (base : ℕ → ℕ) (es : List Event) (rising : Rises time_of 0 (passing p n es)) where
     -- Channel b is cut rightly if its time is that of the last of its messages passed on up to low, or 0 if there is none.

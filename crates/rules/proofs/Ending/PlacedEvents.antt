@@ -112,7 +112,7 @@ module _ (f : Slot → Item) where
       first q = record { slot = s; place = 0; among = here; in_table = omega arith; item_is = refl; event_is = q }
 
       later : Seat f ss columns e → Seat f (s ∷ ss) (t ∷ columns) e
-      later x = record { slot = x.slot; place = suc x.place; among = there x.among; in_table = omega arith; item_is = x.item-is; event_is = x.event-is }
+      later x = record { slot = x.slot; place = suc x.place; among = there x.among; in_table = omega arith; item_is = x.item_is; event_is = x.event_is }
 
 took_same : {b c : ℕ} {m q : Message} {t u : ℕ} → took_at b m t ≡ took_at c q u → (b ≡ c) × (m ≡ q) × (t ≡ u)
 took_same e = (cc, cc, cc)
@@ -135,14 +135,14 @@ module _ {low high : ℕ} where
     rises_placed (s ∷ ss) [] k = none
     rises_placed (s ∷ ss) (t ∷ columns) k =
         rises_add (took_at s.channel s.message t) (k.inside 0 (omega arith)).0
-        (λ d i q. (let x = seat f ss columns i in k.distinct 0 (suc x.place) (omega arith) (omega arith) (q ∙ ap event_time x.event-is)))
+        (λ d i q. (let x = seat f ss columns i in k.distinct 0 (suc x.place) (omega arith) (omega arith) (q ∙ ap event_time x.event_is)))
         (rises_placed ss columns (keeps_rest k))
 
     within_placed : (ss : List Slot) (columns : List ℕ) → KeepsRules low high (map f ss) columns → Within event_time high (placed_events ss columns)
     within_placed ss columns k =
         within_by event_time (placed_events ss columns) λ e i.
         (let x = seat f ss columns i in
-        rw x.event-is (k.inside x.place x.in_table).1)
+        rw x.event_is (k.inside x.place x.in_table).1)
 
     -- Where a channel's slots are in one row, what is got of it is their messages in order.
     got_placed : (b : ℕ) (ss : List Slot) (columns : List ℕ) → KeepsRules low high (map f ss) columns → ((s t : Slot) → In s ss → In t ss → s.channel ≡ t.channel → (f s).row ≡ (f t).row)
@@ -159,8 +159,8 @@ module _ {low high : ℕ} where
         later : s.channel ≡ b → (q : Message) (u : ℕ) → In (took_at b q u) (placed_events ss columns) → t < u
         later e q u i =
             let x = seat f ss columns i in
-            let (c, m, z) = took_same x.event-is in
-            rw z (k.rising 0 (suc x.place) (omega arith) (omega arith) (row s x.slot here (there x.among) (e ∙ c) ∙ ap (λ (a : Item). a.row) (sym x.item-is)))
+            let (c, m, z) = took_same x.event_is in
+            rw z (k.rising 0 (suc x.place) (omega arith) (omega arith) (row s x.slot here (there x.among) (e ∙ c) ∙ ap (λ (a : Item). a.row) (sym x.item_is)))
 
 -- What the log of a replay's end is: the events `fs` of node n.
 pub record PlacedEvents (l : Line) (n : ℕ) (row_of : ℕ → List Message) (columns : List ℕ) (fs : List Event) : Type 0 where
@@ -177,19 +177,19 @@ module _ (l : Line) (n : ℕ) (ss : List Slot) (columns : List ℕ) (keeps : Kee
   -- One event: its column, and the slot that it comes from.
   module _ (b : ℕ) (m : Message) (t : ℕ) (x : Seat (slot_item l n) ss columns (took_at b m t)) where
     column_is : get_or columns x.place 0 ≡ t
-    column_is = sym (took_same x.event-is).2
+    column_is = sym (took_same x.event_is).2
 
     held_is : slot_held l.plan n x.slot ≡ held_of l.plan n b m
-    held_is = let (c, q, z) = took_same x.event-is in λ j. held_of l.plan n (sym c j) (sym q j)
+    held_is = let (c, q, z) = took_same x.event_is in λ j. held_of l.plan n (sym c j) (sym q j)
 
     fixed_is : (item_at (map (slot_item l n) ss) x.place).fixed ≡ fixed_at (node_at l n).targets (held_of l.plan n b m)
     unfolding item_of
-    fixed_is = ap (λ (a : Item). a.fixed) x.item-is ∙ ap (fixed_at (node_at l n).targets) held_is
+    fixed_is = ap (λ (a : Item). a.fixed) x.item_is ∙ ap (fixed_at (node_at l n).targets) held_is
 
     floor_is : fixed_at (node_at l n).targets (held_of l.plan n b m) ≡ 0 → (item_at (map (slot_item l n) ss) x.place).floor ≡ floor_of l n (applied (rule_at l.plan n) m.what)
     unfolding item_of
     floor_is e =
-        ap (λ (a : Item). a.floor) x.item-is
+        ap (λ (a : Item). a.floor) x.item_is
         ∙ ap (λ (h : Held). cond (eqb (fixed_at (node_at l n).targets h) 0) (floor_of l n h.what) 0) held_is
         ∙ ap (λ (f : Bool). cond f (floor_of l n (applied (rule_at l.plan n) m.what)) 0) (eq-eqb (fixed_at (node_at l n).targets (held_of l.plan n b m)) 0 e)
 
@@ -222,7 +222,7 @@ module _ (l : Line) (n : ℕ) (row_of : ℕ → List Message) (columns : List �
           rises = rises_placed (slot_item l n) ss columns k;
           within = within_placed (slot_item l n) ss columns k;
           got_is = got;
-          took = λ e i. (let x = seat (slot_item l n) ss columns i in let (c, m) = slot_in row_of 0 bs x.among in (x.slot.channel, x.slot.message, get_or columns x.place 0, x.event-is, c, m));
+          took = λ e i. (let x = seat (slot_item l n) ss columns i in let (c, m) = slot_in row_of 0 bs x.among in (x.slot.channel, x.slot.message, get_or columns x.place 0, x.event_is, c, m));
           placed = λ b m i j. got_of_in b (placed_events ss columns) (rw (got b i) j);
           fixed = fixed_placed l n ss columns k;
           free = free_placed l n ss columns k;

@@ -122,6 +122,7 @@ ends_held p n base ms (inr (m, i, d, w)) k l none-held =
 module _ (p : Plan) (n : ℕ) (row : ℕ → List Message) where
   emit_taken : (last : ℕ → ℕ) (fs : List Event) → Taken p n (map input_of fs) → Taken p n (map input_of (emit row last fs))
   emit_taken last [] h = none
+  emit_taken last (fed_at _ _ ∷ fs) h = elim h [ ]
   emit_taken last (took_at c m t ∷ fs) (more l q s h) =
       let new : List Message = until time_of m.time (past time_of (last c) (row c)) in
       rw (map-append input_of (took_all c t new) (emit row (changed last c m.time) fs)) (taken-append (took_taken p n c t l q s new) (emit_taken (changed last c m.time) fs h))
@@ -131,6 +132,7 @@ module _ (p : Plan) (n : ℕ) (row : ℕ → List Message) where
       → ((b : ℕ) → Enters p n b → got_of b fs ≡ keep (goes_on p n) (past time_of (last b) (row b)))
       → passing p n (emit row last fs) ≡ map (sent_of p n) fs
   emit_passing rises last [] h held = refl
+  emit_passing rises last (fed_at _ _ ∷ fs) h held = elim h [ ]
   emit_passing rises last (took_at c m t ∷ fs) (more l q s h) held =
       let new : List Message = until time_of m.time (past time_of (last c) (row c)) in
       let next : ℕ → ℕ = changed last c m.time in

@@ -149,6 +149,7 @@ module _ (row_of : ℕ → List Message) where
 
   -- A channel's slots hold its row's messages.
   pub messages_row : (r b : ℕ) {k : ℕ} {bs : List ℕ} → Rising k bs → In b bs → messages_of b (slots row_of r bs) ≡ row_of b
+  messages_row r b none i = elim i [ ]
   messages_row r b (more h q) here = messages_first r b b refl q
   messages_row r b (more {b = c} {bs = bs} h q) (there i) =
       elim (ℕ_discrete c b) [

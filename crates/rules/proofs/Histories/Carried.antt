@@ -68,5 +68,6 @@ pub record TookFrom (p : Plan) (n : ℕ) (e : Event) : Type 0 where
 
 pub taken_event : (p : Plan) (n : ℕ) (es : List Event) {e : Event} → Taken p n (map input_of es) → In e es → TookFrom p n e
 taken_event p n [] k i = absurd (in_none i)
+taken_event p n (fed_at _ _ ∷ es) k i = elim k [ ]
 taken_event p n (took_at b m t ∷ es) (more h q s k) here = record { channel = b; message = m; time = t; is = refl; on_plan = h; enters = q }
 taken_event p n (took_at b m t ∷ es) (more h q s k) (there i) = taken_event p n es k i

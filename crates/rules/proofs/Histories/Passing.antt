@@ -87,6 +87,7 @@ passed_recorded p n (took_at b m t) q = refl
 -- A node that took all its events has an entry for each.
 pub taken_recorded : (p : Plan) (n k : ℕ) (es : List Event) → Taken p n (map input_of es) → recorded p k es ≡ es
 taken_recorded p n k [] none = refl
+taken_recorded p n k (fed_at _ _ ∷ es) i = elim i [ ]
 taken_recorded p n k (took_at b m t ∷ es) (more h q s r) = ap (λ (xs : List Event). took_at b m t ∷ xs) (taken_recorded p n k es r)
 
 -- So the entries name all that a channel takes.

@@ -68,6 +68,7 @@ module _ (p : Plan) (whole : History) (prefixed : Prefixed p whole) (n : ℕ) wh
   node_run : (before after : List Input) (h : History) (l : PlainLine) → Taken p n after → whole n ≡ before ++ after → h n ≡ before → ((m : ℕ) → m < n → h m ≡ whole m) → Follows p h l
       → Follows p (changed h n (whole n)) (run_from p (takes_of after) l)
   node_run before [] h l none w e lower f = subst (λ (k : History). Follows p k l) (sym (changed_same h n (whole n) (w ∙ nil_right before ∙ sym e))) f
+  node_run before (fed_in _ ∷ after) h l i w e lower f = elim i [ ]
   node_run before (took_in b r ∷ after) h l (more m q s t) w e lower f =
       let X : List Record = map what_in (keep (from_channel b) before) in
       let Y : List Record = map what_in (keep (from_channel b) after) in

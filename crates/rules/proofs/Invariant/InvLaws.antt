@@ -3,7 +3,7 @@ use Prim.Native.Nat.{ℕ, ◌<◌}
 use mathlib.Core.Path.{◌≡◌, refl, sym, ap, ◌∙◌}
 use mathlib.Core.Logic.{◌≢◌}
 use mathlib.Core.Bool.{Bool, true, false, true≢false}
-use mathlib.Core.List.{List, ◌∷◌, map}
+use mathlib.Core.List.{List, ◌∷◌, map, []}
 use native.Mathlib.Omega.{arith}
 use native.Mathlib.Decide.{dec_le, dec_lt}
 use lib.ListN.{get_or-eq_default}
@@ -14,7 +14,7 @@ use Rattle.rules.specs.Line.{Message, up, down, replay, Node, Line, fresh_node, 
 use Rattle.rules.specs.Plain.{Act, Receipt}
 use Rattle.rules.proofs.Lists.Members.{In, here, there}
 use Rattle.rules.proofs.Histories.Witness.{Taken, more}
-use Rattle.rules.proofs.Histories.Ghost.{Event, took_at, Ghost, input_of, got}
+use Rattle.rules.proofs.Histories.Ghost.{Event, took_at, Ghost, input_of, got, fed_at}
 use Rattle.rules.proofs.Histories.Passing.{goes_on}
 use Rattle.rules.proofs.Line.Joins.{takes_passed}
 use Rattle.rules.proofs.Invariant.Inv.{time_of, is_up, Enters, Reached, Shape, Marks, Nodes, HeardFrom, heard_on, Ends, Replays}
@@ -42,6 +42,8 @@ if_marked false f g = g refl
 
 -- What a node took came by a channel that enters it.
 pub took_enters : {p : Plan} {n : ℕ} (es : List Event) (b : ℕ) (m : Message) (t : ℕ) → Taken p n (map input_of es) → In (took_at b m t) es → Enters p n b
+took_enters (fed_at _ _ ∷ es) b m t i _ = elim i [ ]
+took_enters [] b m t _ i = elim i [ ]
 took_enters (took_at c x u ∷ es) b m t (more h q s r) here = (h, q)
 took_enters (took_at c x u ∷ es) b m t (more h q s r) (there i) = took_enters es b m t r i
 

@@ -35,6 +35,7 @@ raise_above a (p ∷ ps) (h ∷ hs) (made s t) = one (eqb p a) (eqb p s) (raise_
     one false y ih = ih
 
 pub raise_holds : (a v : ℕ) (ps hs : List ℕ) → In a ps → length hs ≡ length ps → v ≤ entry_for a ps (raise_heard ps hs (made a v))
+raise_holds a v [] hs i q = elim i [ ]
 raise_holds a v (p ∷ ps) [] i q = let no : ⊥ = omega arith in absurd no
 raise_holds a v (p ∷ ps) (h ∷ hs) here q = rw (eq-eqb a a refl) (omega arith)
 raise_holds a v (p ∷ ps) (h ∷ hs) (there i) q = one (eqb p a) (raise_holds a v ps hs i (omega arith))
@@ -92,6 +93,7 @@ module _ (ps : List ℕ) (s : ℕ) where
   after_above a (e ∷ es) low = omega (arith, by_above a e.origin e.before low, after_above a es (low_by ps s e.origin e.before low))
 
   pub after_holds : (a v t : ℕ) {d : Entry} (es : List Entry) (low : List ℕ) → In d es → d.origin ≡ made s t → d.before ≡ made a v → In a ps → length low ≡ suc (length ps) → v ≤ entry_for a ps (drop 1 (low_after ps s es low))
+  after_holds a v t [] low h o b i q = elim h [ ]
   after_holds a v t (e ∷ es) low here o b i q =
       let now : v ≤ entry_for a ps (drop 1 (low_by ps s e.origin e.before low)) = rw (o, b) (by_holds a v t low i q) in
       omega (arith, now, after_above a es (low_by ps s e.origin e.before low))

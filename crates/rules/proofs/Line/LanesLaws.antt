@@ -18,6 +18,7 @@ pub data Rising : ℕ → List ℕ → Type 0 where
   more : {k b : ℕ} {bs : List ℕ} → k ≤ b → Rising (suc b) bs → Rising k (b ∷ bs)
 
 pub in_above : {k b : ℕ} {bs : List ℕ} → Rising k bs → In b bs → k ≤ b
+in_above none i = elim i [ ]
 in_above (more l r) here = l
 in_above (more {b = c} l r) (there i) = let h = in_above r i in omega arith
 
@@ -87,11 +88,15 @@ module _ (f : ℕ → Lane → Lane) where
   lanes_count (b ∷ bs) l = lanes_count bs (with_lane b (f b (lane_at l b)) l) ∙ lanes_long b (f b (lane_at l b)) l
 
   -- A channel that is not among them keeps its state; one that is has the change once.
+  kept_away : (c : ℕ) {bs : List ℕ} (l : Line) → Away c bs → lane_at (with_lanes f bs l) c ≡ lane_at l c
+  kept_away c l away_none = refl
+  kept_away c l (away_more {b = b} d a) = kept_away c (with_lane b (f b (lane_at l b)) l) a ∙ lane_else b (f b (lane_at l b)) l c (λ q. d (sym q))
+
   pub lanes_away : {bs : List ℕ} (l : Line) (c : ℕ) → Away c bs → lane_at (with_lanes f bs l) c ≡ lane_at l c
-  lanes_away l c away_none = refl
-  lanes_away l c (away_more {b = b} d a) = lanes_away (with_lane b (f b (lane_at l b)) l) c a ∙ lane_else b (f b (lane_at l b)) l c (λ q. d (sym q))
+  lanes_away l c a = kept_away c l a
 
   pub lanes_in : {bs : List ℕ} {k : ℕ} (l : Line) (c : ℕ) → c < length l.lanes → Rising k bs → In c bs → lane_at (with_lanes f bs l) c ≡ f c (lane_at l c)
+  lanes_in l c h none i = elim i [ ]
   lanes_in l c h (more q r) here = lanes_away (with_lane c (f c (lane_at l c)) l) c (rising_away {k = suc c} (omega arith) r) ∙ lane_there c (f c (lane_at l c)) l h
   lanes_in l c h (more {b = b} q r) (there i) =
       let above = in_above r i in

@@ -38,9 +38,9 @@ module _ {A : Type 0} (f g : A → Bool) where
       one false true d e ih = omega arith
       one false false d e ih = ih
 
-  pub keep_one_fewer : {xs : List A} → ((x : A) → In x xs → f x ≡ true → g x ≡ true) → {y : A} → In y xs → f y ≡ false → g y ≡ true → length (keep f xs) < length (keep g xs)
+  pub keep_one_fewer : {y : A} {xs : List A} → ((x : A) → In x xs → f x ≡ true → g x ≡ true) → In y xs → f y ≡ false → g y ≡ true → length (keep f xs) < length (keep g xs)
   keep_one_fewer h (here {xs = xs}) d e = let ih = keep_fewer xs (λ z i. h z (there i)) in rw (d, e) (omega arith)
-  keep_one_fewer h {y} (there {y = x} {xs = xs} i) d e = one (f x) (g x) refl refl (keep_one_fewer (λ z j. h z (there j)) i d e)
+  keep_one_fewer {y} h (there {y = x} {xs = xs} i) d e = one (f x) (g x) refl refl (keep_one_fewer (λ z j. h z (there j)) i d e)
     where
       one : (s t : Bool) → f x ≡ s → g x ≡ t → length (keep f xs) < length (keep g xs) → length (keep_one s x (keep f xs)) < length (keep_one t x (keep g xs))
       one true true p q ih = omega arith

@@ -188,10 +188,12 @@ in_up_to k (suc n) i l h = elim (ℕ_discrete i k) [ yes q ↦ subst (λ (x : �
 -- In lists whose times rise or lie within a bound.
 module _ {A : Type 0} (time : A → ℕ) where
   pub rises_in : {a : ℕ} {x : A} {xs : List A} → Rises time a xs → In x xs → a < time x
+  rises_in none i = elim i [ ]
   rises_in (more h r) here = h
   rises_in (more {x = y} h r) (there i) = let k = rises_in r i in omega arith
 
   pub within_in : {k : ℕ} {x : A} {xs : List A} → Within time k xs → In x xs → time x ≤ k
+  within_in none_in i = elim i [ ]
   within_in (more_in h w) here = h
   within_in (more_in h w) (there i) = within_in w i
 
@@ -212,6 +214,7 @@ module _ {A : Type 0} (time : A → ℕ) where
 
   -- In a rising list a time stands once.
   pub rises_once : {a : ℕ} {x y : A} {xs : List A} → Rises time a xs → In x xs → In y xs → time x ≡ time y → x ≡ y
+  rises_once none i _ e = elim i [ ]
   rises_once (more h r) here here e = refl
   rises_once (more h r) here (there j) e = let k = rises_in r j in let no : ⊥ = omega arith in absurd no
   rises_once (more h r) (there i) here e = let k = rises_in r i in let no : ⊥ = omega arith in absurd no

@@ -5,15 +5,15 @@ use mathlib.Core.Bool.{Bool, true, false}
 use mathlib.Core.List.{List, [], ◌∷◌}
 use mathlib.Core.Option.{Option, none, some, map}
 use native.Mathlib.Decide.{ℕ_discrete}
-use Rattle.plan.specs.Plan.{entering, leaving}
+use Rattle.plan.specs.Plan.{entering, leaving, channel_at}
 use Rattle.plan.specs.Record.{record_layout}
 use Rattle.plan.specs.Mask.{set_of}
 use Rattle.rules.specs.Lists.{all_of, joined, is_empty}
-use Rattle.rules.specs.Line.{Message, Entry, Held, Asked, Node, Lane, Line, node_at, lane_at, with_node, with_lane, with_lanes, counted, receiver_of, fed, sender_of}
+use Rattle.rules.specs.Line.{Message, Entry, Held, Asked, Node, Lane, Line, node_at, lane_at, with_node, with_lane, with_lanes, counted, receiver_of, fed, sender_of, fresh_lane, down, parents}
 use Rattle.rules.specs.Frame.{Frame, feed, send, take, crash, recover, trim, ask, commit, frame_console, frame_of}
-use Rattle.rules.specs.Recover.{targets_of, conflict, rows_complete, high_of, answer_of, committed, recovered}
+use Rattle.rules.specs.Recover.{targets_of, conflict, rows_complete, high_of, answer_of, committed, recovered, low_of, restored, status_of, beside}
 use Rattle.rules.specs.Replay.{passed_on, timed, holding, is_held, held_by_row, items_by_row, placing, node_placed, replay_end, ended_if_complete}
-use Rattle.rules.specs.Trim.{trimmed_line}
+use Rattle.rules.specs.Trim.{trimmed_line, droppable, leading, behind, low_raised, with_log}
 use Rattle.rules.specs.Step.{sendable, replaying, made_by, fed_line, sent_line, taken_up, taken_replaying, taken_lane, taken_first, taken_line, crashed_line, recovered_line, asking, asked_line, committed_by, committed_line, effect, accepted, refusal, step}
 use Rattle.rules.specs.Clock.{logged, sent_on}
 use Rattle.rules.proofs.Theorem.Accepted.{passed, step-accepted, step_refused}
@@ -99,7 +99,7 @@ module _ {A : Type 0} (view : Line → A) (free : ℕ → Type 0) (node-apart : 
 
   restored_kept : (n : ℕ) (l : Line) → free n → view (recovered n l) ≡ view l
   unfolding recovered
-  restored_kept n l d = swept_kept _ _ (entering l.plan n) (leaving l.plan n) n _ l d
+  restored_kept n l d = swept_kept (λ (c : ℕ) (s : Lane). fresh_lane l.plan (channel_at l.plan c) (restored l n (sender_of l c))) (λ (c : ℕ) (s : Lane). record { mark = s.taken; taken = s.taken; heard = s.heard; queue = s.queue; low = s.low }) (entering l.plan n) (leaving l.plan n) n (record { status = status_of (targets_of l n); crashed = true; time = low_of l n; log = []; held = []; targets = targets_of l n; asked = none }) l d
 
   recovered_kept : (n : ℕ) (l : Line) → free n → Has (view l) (recovered_line n l)
   unfolding recovered_line
@@ -118,7 +118,7 @@ module _ {A : Type 0} (view : Line → A) (free : ℕ → Type 0) (node-apart : 
   by_kept : (n : ℕ) (o : Option Asked) (l : Line) → free n → view (committed_by n o l) ≡ view l
   unfolding committed
   by_kept n none l d = refl
-  by_kept n (some a) l d = swept_kept _ _ (entering l.plan n) (leaving l.plan n) n _ l d
+  by_kept n (some a) l d = swept_kept (λ (c : ℕ) (s : Lane). fresh_lane l.plan (channel_at l.plan c) (beside (entering l.plan n) a.entries c)) (λ (c : ℕ) (s : Lane). record { mark = s.taken; taken = s.taken; heard = s.heard; queue = s.queue; low = s.low }) (entering l.plan n) (leaving l.plan n) n (record { status = status_of (node_at l n).targets; crashed = true; time = a.low; log = []; held = []; targets = (node_at l n).targets; asked = none }) l d
 
   fed_kept : (n : ℕ) (r : List ℕ) (l : Line) → free n → view (fed_line n r l) ≡ view l
   unfolding fed_line
@@ -133,9 +133,12 @@ module _ {A : Type 0} (view : Line → A) (free : ℕ → Type 0) (node-apart : 
   effect_kept l (feed n r) d = fed_kept n r l d
   effect_kept l (send b) d = sent_kept b (sendable l b) l
   effect_kept l (take b) d = first_kept b (lane_at l b).queue l d
-  effect_kept l (crash n) d = swept_kept _ _ (entering l.plan n) (leaving l.plan n) n _ l d
+  effect_kept l (crash n) d = swept_kept (λ (c : ℕ) (s : Lane). fresh_lane l.plan (channel_at l.plan c) 0) (λ (c : ℕ) (s : Lane). record { mark = 0; taken = s.taken; heard = s.heard; queue = []; low = s.low }) (entering l.plan n) (leaving l.plan n) n (record { status = down; crashed = true; time = 0; log = []; held = []; targets = []; asked = none }) l d
   effect_kept l (recover n) d = recovered_kept n l d
-  effect_kept l (trim n) d = lanes_kept _ (entering l.plan n) _ ∙ node-apart n _ l d
+  effect_kept l (trim n) d =
+      let run : List Entry = leading (droppable l n) (node_at l n).log in
+      let x : Node = with_log (behind (droppable l n) (node_at l n).log) (node_at l n) in
+      lanes_kept (λ (b : ℕ). low_raised (parents l.plan (sender_of l b)) (sender_of l b) run) (entering l.plan n) (with_node n x l) ∙ node-apart n x l d
   effect_kept l (ask n) d = asked_kept n l (recovered_line n l) d
   effect_kept l (commit n) d = by_kept n (node_at l n).asked l d
 

@@ -12,12 +12,12 @@ use Rattle.plan.specs.declared.Channel.{Channel}
 use Rattle.plan.specs.Plan.{Plan, channel_at, channel_count, no_channel, entering, leaving}
 use Rattle.plan.specs.Record.{record_layout}
 use Rattle.plan.specs.Mask.{set_of}
-use Rattle.rules.specs.Line.{fed, Message, Entry, Asked, Node, Lane, Line, no_lane, initial_line, node_at, lane_at, sender_of, receiver_of, with_node, with_lane, with_lanes, counted, parents, fresh_lane}
+use Rattle.rules.specs.Line.{fed, Message, Entry, Asked, Node, Lane, Line, no_lane, initial_line, node_at, lane_at, sender_of, receiver_of, with_node, with_lane, with_lanes, counted, parents, fresh_lane, down}
 use Rattle.rules.specs.Frame.{Frame, feed, send, take, crash, recover, trim, ask, commit, frame_of, frame_console}
 use Rattle.rules.specs.Clock.{logged, sent_on, taken_from}
-use Rattle.rules.specs.Recover.{targets_of, conflict, restored, beside, committed, recovered}
+use Rattle.rules.specs.Recover.{targets_of, conflict, restored, beside, committed, recovered, low_of, status_of}
 use Rattle.rules.specs.Replay.{passed_on, timed, holding, ended_if_complete}
-use Rattle.rules.specs.Trim.{low_raised, trimmed_line}
+use Rattle.rules.specs.Trim.{low_raised, trimmed_line, droppable, leading, behind, with_log}
 use Rattle.rules.specs.Lists.{is_empty}
 use Rattle.rules.specs.Step.{made_by, replaying, sendable, sent_line, fed_line, taken_lane, taken_up, taken_replaying, taken_first, taken_line, crashed_line, recovered_line, asked_line, committed_by, committed_line, effect, refusal, accepted, step}
 use Rattle.rules.specs.Claim.{Story, told, story_from}
@@ -102,11 +102,17 @@ module _ (l : Line) (was : Shaped l.plan l) where
 
   crash_shaped : (n : ℕ) → Shaped l.plan (crashed_line n l)
   unfolding crashed_line with_node
-  crash_shaped n = lanes_shaped p _ (λ b s h. fresh_shaped p b 0) (entering l.plan n) _ (lanes_shaped p _ (λ b s h. h) (leaving l.plan n) _ was)
+  crash_shaped n =
+      let start : Line = with_node n (record { status = down; crashed = true; time = 0; log = []; held = []; targets = []; asked = none }) l in
+      let left : ℕ → Lane → Lane = λ c s. record { mark = 0; taken = s.taken; heard = s.heard; queue = []; low = s.low } in
+      lanes_shaped p (λ (c : ℕ) (s : Lane). fresh_lane l.plan (channel_at l.plan c) 0) (λ b s h. fresh_shaped p b 0) (entering l.plan n) (with_lanes left (leaving l.plan n) start) (lanes_shaped p left (λ b s h. h) (leaving l.plan n) start was)
 
   recovered-shaped : (n : ℕ) → Shaped l.plan (recovered n l)
   unfolding recovered with_node
-  recovered-shaped n = lanes_shaped p _ (λ b s h. fresh_shaped p b (restored l n (channel_at l.plan b).sender)) (entering l.plan n) _ (lanes_shaped p _ (λ b s h. h) (leaving l.plan n) _ was)
+  recovered-shaped n =
+      let start : Line = with_node n (record { status = status_of (targets_of l n); crashed = true; time = low_of l n; log = []; held = []; targets = targets_of l n; asked = none }) l in
+      let marked : ℕ → Lane → Lane = λ c s. record { mark = s.taken; taken = s.taken; heard = s.heard; queue = s.queue; low = s.low } in
+      lanes_shaped p (λ (c : ℕ) (s : Lane). fresh_lane l.plan (channel_at l.plan c) (restored l n (sender_of l c))) (λ b s h. fresh_shaped p b (restored l n (channel_at l.plan b).sender)) (entering l.plan n) (with_lanes marked (leaving l.plan n) start) (lanes_shaped p marked (λ b s h. h) (leaving l.plan n) start was)
 
   recover_shaped : (n : ℕ) (k : Line) → recovered_line n l ≡ some k → Shaped l.plan k
   unfolding recovered_line
@@ -119,12 +125,18 @@ module _ (l : Line) (was : Shaped l.plan l) where
 
   trim_shaped : (n : ℕ) → Shaped l.plan (trimmed_line n l)
   unfolding trimmed_line low_raised with_node
-  trim_shaped n = lanes_shaped p _ (λ b s h. h) (entering l.plan n) _ was
+  trim_shaped n =
+      let run : List Entry = leading (droppable l n) (node_at l n).log in
+      let start : Line = with_node n (with_log (behind (droppable l n) (node_at l n).log) (node_at l n)) l in
+      lanes_shaped p (λ (b : ℕ). low_raised (parents l.plan (sender_of l b)) (sender_of l b) run) (λ b s h. h) (entering l.plan n) start was
 
   committed-shaped : (n : ℕ) (o : Option Asked) → Shaped l.plan (committed_by n o l)
   unfolding committed with_node
   committed-shaped n none = was
-  committed-shaped n (some a) = lanes_shaped p _ (λ b s h. fresh_shaped p b (beside (entering l.plan n) a.entries b)) (entering l.plan n) _ (lanes_shaped p _ (λ b s h. h) (leaving l.plan n) _ was)
+  committed-shaped n (some a) =
+      let start : Line = with_node n (record { status = status_of (node_at l n).targets; crashed = true; time = a.low; log = []; held = []; targets = (node_at l n).targets; asked = none }) l in
+      let marked : ℕ → Lane → Lane = λ c s. record { mark = s.taken; taken = s.taken; heard = s.heard; queue = s.queue; low = s.low } in
+      lanes_shaped p (λ (c : ℕ) (s : Lane). fresh_lane l.plan (channel_at l.plan c) (beside (entering l.plan n) a.entries c)) (λ b s h. fresh_shaped p b (beside (entering l.plan n) a.entries b)) (entering l.plan n) (with_lanes marked (leaving l.plan n) start) (lanes_shaped p marked (λ b s h. h) (leaving l.plan n) start was)
 
   asked_shaped : (n : ℕ) → Shaped l.plan (asked_line n l)
   unfolding asked_line with_node

@@ -164,8 +164,9 @@ crashed_as n s = with_lanes (λ (b : ℕ) (x : Lane). thin (fresh_lane s.plan (c
 strip_crashed : (n : ℕ) (l : Line) → strip (crashed_line n l) ≡ crashed_as n (strip l)
 unfolding crashed_line
 strip_crashed n l =
-    strip_lanes _ (λ b s. refl) (entering l.plan n) _
-    ∙ ap (with_lanes (λ (b : ℕ) (x : Lane). thin (fresh_lane l.plan (channel_at l.plan b) 0)) (entering l.plan n)) (strip_lanes _ (λ b s. refl) (leaving l.plan n) _ ∙ ap (with_lanes (λ (b : ℕ) (x : Lane). thin (record { mark = 0; taken = x.taken; heard = x.heard; queue = []; low = x.low })) (leaving l.plan n)) (strip_node n emptied l))
+    let left : ℕ → Lane → Lane = λ c s. record { mark = 0; taken = s.taken; heard = s.heard; queue = []; low = s.low } in
+    strip_lanes (λ (c : ℕ) (s : Lane). fresh_lane l.plan (channel_at l.plan c) 0) (λ b s. refl) (entering l.plan n) (with_lanes left (leaving l.plan n) (with_node n emptied l))
+    ∙ ap (with_lanes (λ (b : ℕ) (x : Lane). thin (fresh_lane l.plan (channel_at l.plan b) 0)) (entering l.plan n)) (strip_lanes left (λ b s. refl) (leaving l.plan n) (with_node n emptied l) ∙ ap (with_lanes (λ (b : ℕ) (x : Lane). thin (record { mark = 0; taken = x.taken; heard = x.heard; queue = []; low = x.low })) (leaving l.plan n)) (strip_node n emptied l))
 
 abbrev restored_from : ℕ → ℕ → List Target → (ℕ → ℕ) → Line → Line
 restored_from n low ts entry s =
@@ -176,9 +177,10 @@ restored_from n low ts entry s =
 strip_recovered : (n : ℕ) (l : Line) → strip (recovered n l) ≡ restored_from n (low_of l n) (targets_of l n) (restored l n) (strip l)
 unfolding recovered
 strip_recovered n l =
-    strip_lanes _ (λ b s. refl) (entering l.plan n) _
+    let marked : ℕ → Lane → Lane = λ c s. record { mark = s.taken; taken = s.taken; heard = s.heard; queue = s.queue; low = s.low } in
+    strip_lanes (λ (c : ℕ) (s : Lane). fresh_lane l.plan (channel_at l.plan c) (restored l n (sender_of l c))) (λ b s. refl) (entering l.plan n) (with_lanes marked (leaving l.plan n) (with_node n (restored_node l n) l))
     ∙ ap (with_lanes (λ (b : ℕ) (x : Lane). thin (fresh_lane l.plan (channel_at l.plan b) (restored l n (channel_at l.plan b).sender))) (entering l.plan n))
-    (strip_lanes _ (λ b s. refl) (leaving l.plan n) _ ∙ ap (with_lanes (λ (b : ℕ) (x : Lane). thin (record { mark = x.taken; taken = x.taken; heard = x.heard; queue = x.queue; low = x.low })) (leaving l.plan n)) (strip_node n (restored_node l n) l))
+    (strip_lanes marked (λ b s. refl) (leaving l.plan n) (with_node n (restored_node l n) l) ∙ ap (with_lanes (λ (b : ℕ) (x : Lane). thin (record { mark = x.taken; taken = x.taken; heard = x.heard; queue = x.queue; low = x.low })) (leaving l.plan n)) (strip_node n (restored_node l n) l))
 
 module _ (u : Line) (steps : List ℕ) (nodes : List Node) (lanes : List Lane) (thinner : Thinner (moved u steps nodes lanes) u) (g : Ghost) (cut base : ℕ → ℕ) (acts : List Act) (receipts : List Receipt) (crashes : List ℕ) (inv : Inv u g cut base acts receipts crashes) (n : ℕ) (inside : n < node_count u.plan) where
   abbrev w : Line

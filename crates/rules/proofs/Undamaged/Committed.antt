@@ -1,16 +1,16 @@
 -- A kept answer that is right, applied, gives what Recover gives.
 use Prim.Native.Nat.{ℕ, ◌-◌, ◌<◌}
 use mathlib.Core.Path.{◌≡◌, refl, ap, ◌∙◌}
-use mathlib.Core.Bool.{Bool}
+use mathlib.Core.Bool.{Bool, true}
 use mathlib.Core.List.{List, [], ◌∷◌, ◌++◌, map}
-use mathlib.Core.Option.{Option, some}
+use mathlib.Core.Option.{Option, some, none}
 use native.Mathlib.Decide.{ℕ_discrete}
 use lib.ListN.{length, replicate}
 use borrow.Author.Tests.{eq-eqb, ne_eqb, le-ltb}
 use Rattle.plan.specs.Plan.{node_count, channel_at, entering, leaving}
 use Rattle.rules.specs.Line.{target_limit, Target, Asked, Node, Lane, Line, node_at, lane_at, with_node, with_lane, with_lanes, fresh_lane}
 use Rattle.rules.specs.Frame.{recover, commit}
-use Rattle.rules.specs.Recover.{low_of, restored, targets_of, restored_to, recovered, answer_of, beside, committed}
+use Rattle.rules.specs.Recover.{low_of, restored, targets_of, restored_to, recovered, answer_of, beside, committed, status_of}
 use Rattle.rules.specs.Step.{committed_by, committed_line, recovered_line, effect}
 use Rattle.rules.proofs.Lists.Members.{In, here, there}
 use Rattle.rules.proofs.Line.LineLaws.{node_twice}
@@ -27,6 +27,7 @@ lanes_alike f g (b ∷ bs) l h =
     ap (λ (s : Lane). with_lanes f bs (with_lane b s l)) (h b here (lane_at l b)) ∙ lanes_alike f g bs (with_lane b (g b (lane_at l b)) l) (λ c i. h c (there i))
 
 beside-map : (f : ℕ → ℕ) (cs rest : List ℕ) {c : ℕ} → In c cs → beside cs (map f cs ++ rest) c ≡ f c
+beside-map f [] rest i = elim i [ ]
 beside-map f (c ∷ cs) rest here = rw (eq-eqb c c refl)
 beside-map f (b ∷ cs) rest {c} (there i) =
     elim (ℕ_discrete b c) [
@@ -45,7 +46,7 @@ module _ (low : ℕ) (ts : List Target) (n : ℕ) (l : Line) where
 
   pub restored_over : (x : Node) (f : ℕ → ℕ) → restored_to low ts f n (with_node n x l) ≡ restored_to low ts f n l
   unfolding restored_to
-  restored_over x f = swept_over _ _ (entering l.plan n) (leaving l.plan n) n x _ l
+  restored_over x f = swept_over (λ (c : ℕ) (s : Lane). fresh_lane l.plan (channel_at l.plan c) (f c)) (λ (c : ℕ) (s : Lane). record { mark = s.taken; taken = s.taken; heard = s.heard; queue = s.queue; low = s.low }) (entering l.plan n) (leaving l.plan n) n x (record { status = status_of ts; crashed = true; time = low; log = []; held = []; targets = ts; asked = none }) l
 
 -- What Recover finds, read from an answer.
 module _ (l : Line) (n : ℕ) where

@@ -1,0 +1,16 @@
+use Prim.Native.Nat.{ℕ, ◌-◌, ◌≤◌, ◌<◌}
+use mathlib.Core.Path.{◌≡◌, refl, ap, ◌∙◌}
+use mathlib.Core.Bool.{◌&&◌, not}
+use native.Mathlib.Omega.{arith}
+use lib.ListN.{drop}
+use Rattle.plan.specs.Plan.{plan_of, channel_count}
+use Rattle.plan.specs.Check.{channels_fit, bad_channels}
+use Rattle.plan.proofs.PlanLaws.{channel_count_lem}
+use Rattle.plan.proofs.LoopLaws.{channels_more, channels_end}
+use Rattle.plan.proofs.checks.bad_channels.Given as goal
+
+abbrev pub invariant-loop-b : goal.invariant-loop-b
+invariant-loop-b l = (l.b ≤ l.m) × (channels_fit l.n 0 0 (plan_of l.plan).channels ≡ (l.ok && channels_fit l.n l.sender l.receiver (drop l.b (plan_of l.plan).channels)))
+
+abbrev pub decreases-loop-b : goal.decreases-loop-b
+decreases-loop-b l = l.m - l.b

@@ -1,0 +1,12 @@
+use borrow.Author.Tests.{ne_eqb}
+use native.Mathlib.Omega.{arith}
+use Rattle.plan.proofs.nodes.rule_of.Goals as goal
+
+pub returns-in-1 : goal.returns-in-1
+returns-in-1 c = rw c.in-1.is
+
+pub returns-in-2 : goal.returns-in-2
+returns-in-2 c = rw c.in-2.is
+
+pub returns-in_default : goal.returns-in_default
+returns-in_default c = rw (ne_eqb c.args.kind 1 c.in_default.in_default-own.rest.0.1, ne_eqb c.args.kind 2 c.in_default.in_default-own.rest.1)
