@@ -116,7 +116,7 @@ pub fn is_sink(s: &[u8], node: usize) -> bool
 }
 
 // Whether a node is down.
-pub fn is_down_lem(s: &[u8], n: usize) -> bool
+pub fn is_down(s: &[u8], n: usize) -> bool
     requires { Ready s.now × (n < plan_nodes s.now) }
     ensures { result ≡ node_down (line_of s.now) n }
 {

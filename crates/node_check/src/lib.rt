@@ -147,7 +147,7 @@ fn passed_on(s: &[u8], n: usize, mask: u32, at: usize) -> bool
 }
 
 // A held record's record and its two unused bytes.
-fn held_plain_lem(s: &[u8], at: usize) -> bool
+fn held_plain(s: &[u8], at: usize) -> bool
     requires { at + 20 ≤ length s.now }
     ensures { result ≡ held_plain at s.now }
 {
@@ -199,7 +199,7 @@ fn held_each_ok(s: &[u8], t: &[u8; 156], n: usize, at: usize, count: u32) -> boo
     while 0 < left {
         let sender = look::index(s[slot + 8]);
         let time = bytes::get32(s, slot + 9);
-        let plain = held_plain_lem(s, slot);
+        let plain = held_plain(s, slot);
         let row = row_last(&last, sender);
         if !(plain & (row < time)) {
             return false;

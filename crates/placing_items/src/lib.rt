@@ -42,7 +42,7 @@ fn no_fields() -> Fields
 }
 
 // An item's fields at place i.
-fn with_item_lem(mut f: Fields, i: usize, x: Item) -> Fields
+fn with_item(mut f: Fields, i: usize, x: Item) -> Fields
     requires { i < most_items }
     ensures { result ≡ with_item f i x }
 {
@@ -60,7 +60,7 @@ fn fields_of(items: &[Item]) -> Fields
     let mut f = no_fields();
     let mut i: usize = 0;
     while (i < items.len()) & (i < MOST_ITEMS) {
-        f = with_item_lem(f, i, items[i]);
+        f = with_item(f, i, items[i]);
         i += 1;
     }
     f

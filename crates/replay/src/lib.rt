@@ -78,7 +78,7 @@ fn rows_after(s: &[u8], n: usize, goals: &[u32; 12], b: usize, time: u32) -> boo
 // ---- the record
 
 // Whether some channel that leaves the node takes a record: its set is a mask, and the ones count them. Channel b enters the node, so none up to it leaves.
-fn goes_on_lem(s: &[u8], n: usize, b: usize, what: Record) -> bool
+fn goes_on(s: &[u8], n: usize, b: usize, what: Record) -> bool
     requires { Enters s.now n b }
     ensures { result ≡ passed_on (line_of s.now).plan n what }
 {
@@ -217,7 +217,7 @@ pub fn take_replaying(s: &mut [u8], b: usize) -> u32
     }
     let m = channel_fields::first_of(s, b);
     let last = waiting_of(s, n, b, m);
-    let goes = goes_on_lem(s, n, b, last.what);
+    let goes = goes_on(s, n, b, last.what);
     let full = HELD_LIMIT <= node_fields::held_count(s, n);
     if goes & full {
         return 21;

@@ -1,0 +1,26 @@
+use Prim.Native.Nat.{suc, ◌+◌, ◌/◌, ◌%◌}
+use mathlib.Core.Path.{◌≡◌}
+use mathlib.Core.List.{[], ◌∷◌}
+use native.Mathlib.Nat.{div-one}
+use native.Mathlib.Omega.{arith}
+use borrow.Author.Rules.{rules}
+use lib.ListN.{length-set}
+use Rattle.basics.specs.Put.{put_sets}
+use Rattle.buffer.proofs.bytes.put32.Goals as goal
+
+pub returns : goal.returns
+returns c =
+    let a = c.args in
+    let second : a.at + 1 ≡ suc a.at = omega arith in
+    let third : a.at + 2 ≡ suc (suc a.at) = omega arith in
+    let fourth : a.at + 3 ≡ suc (suc (suc a.at)) = omega arith in
+    rw (div-one, second, third, fourth) (put_sets a.s.now a.at (a.v / 16_777_216 % 256 ∷ a.v / 65_536 % 256 ∷ a.v / 256 % 256 ∷ a.v % 256 ∷ []) (omega arith))
+
+pub bounds-s-at-2 : goal.bounds-s-at-2
+bounds-s-at-2 c = simp length-set (omega arith)
+
+pub bounds-s-at-3 : goal.bounds-s-at-3
+bounds-s-at-3 c = simp length-set (omega arith)
+
+pub bounds-s-at-4 : goal.bounds-s-at-4
+bounds-s-at-4 c = simp length-set (omega arith)

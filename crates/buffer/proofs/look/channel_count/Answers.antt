@@ -1,0 +1,10 @@
+use mathlib.Core.Path.{sym, ◌∙◌}
+use native.Mathlib.Omega.{arith}
+use borrow.Author.Rules.{rules}
+use Rattle.plan.proofs.ReadLaws.{channels_byte}
+use Rattle.buffer.proofs.look.channel_count.Goals as goal
+
+pub returns : goal.returns
+returns c =
+    let s = c.args.s.now in
+    (c.index.ensures.0 ∙ sym (channels_byte s), omega (arith, channels_byte s, c.index.ensures.0, c.requires.channels))

@@ -1,0 +1,10 @@
+use mathlib.Core.Path.{sym, ◌∙◌}
+use native.Mathlib.Omega.{arith}
+use borrow.Author.Rules.{rules}
+use Rattle.plan.proofs.ReadLaws.{nodes_byte}
+use Rattle.buffer.proofs.look.node_count.Goals as goal
+
+pub returns : goal.returns
+returns c =
+    let s = c.args.s.now in
+    (c.index.ensures.0 ∙ sym (nodes_byte s), omega (arith, nodes_byte s, c.index.ensures.0, c.requires.nodes))

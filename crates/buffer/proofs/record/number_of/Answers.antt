@@ -1,0 +1,8 @@
+use native.Mathlib.Omega.{arith}
+use borrow.Author.Rules.{rules}
+use Rattle.buffer.proofs.WordLaws.{number_of_record}
+use Rattle.buffer.proofs.record.number_of.Goals as goal
+
+pub returns : goal.returns
+returns c =
+    number_of_record c.args.r (omega (arith, c.struct_known-1.given)) (omega (arith, c.struct_known-2-1.given)) (omega (arith, c.struct_known-3-1.given))
