@@ -28,6 +28,7 @@ use Rattle.restart.specs.Finds.{KeptRows}
 
 -- The numbers of a rising list, and what stands at the place of one of several channels.
 rising_above : (k : ℕ) (bs : List ℕ) {c : ℕ} → Rising k bs → In c bs → k ≤ c
+rising_above k [] rise i = elim i [ ]
 rising_above k (b ∷ bs) rise here = rise.0
 rising_above k (b ∷ bs) rise (there i) = let above = rising_above (suc b) bs rise.1 i in omega (arith, above, rise.0)
 
