@@ -1,0 +1,11 @@
+use Prim.Native.Nat.{◌*◌, ◌-◌}
+use native.Mathlib.Omega.{arith}
+use borrow.Author.Rules.{rules}
+use Rattle.slots.proofs.SlotLaws.{Moved, none-moved, one_moved, all_moved}
+use Rattle.slots.proofs.close_entries.Given as goal
+
+abbrev pub invariant-loop-i : goal.invariant-loop-i
+invariant-loop-i l = Moved l.initial.s l.at (24 * l.gone) 24 l.count l.s l.i
+
+abbrev pub decreases-loop-i : goal.decreases-loop-i
+decreases-loop-i l = l.count - l.i

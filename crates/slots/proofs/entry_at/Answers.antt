@@ -1,0 +1,18 @@
+use Prim.Native.Nat.{◌+◌}
+use mathlib.Core.Path.{◌∙◌}
+use borrow.Author.Rules.{rules}
+use lib.ListN.{get_or}
+use Rattle.buffer.proofs.PieceReads.{origin_in_lem, entry_in_lem}
+use Rattle.slots.proofs.entry_at.Goals as goal
+
+pub returns : goal.returns
+returns c =
+    let a = c.args in
+    rw (entry_in_lem a.at a.s.now)
+    (λ i. record {
+      what = c.record_at.ensures i;
+      time = c.get32.ensures i;
+      origin = (c.made_at.ensures ∙ origin_in_lem (a.at + 12) a.s.now) i;
+      before = (c.made_at-2.ensures ∙ origin_in_lem (a.at + 17) a.s.now) i;
+      set = get_or a.s.now (a.at + 22) 0;
+    })

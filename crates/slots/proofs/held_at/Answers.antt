@@ -1,0 +1,12 @@
+use Prim.Native.Nat.{◌+◌}
+use mathlib.Core.Path.{◌∙◌}
+use lib.ListN.{get_or}
+use borrow.Author.Rules.{rules}
+use Rattle.buffer.proofs.PieceReads.{origin_in_lem, held_in_lem}
+use Rattle.slots.proofs.held_at.Goals as goal
+
+pub returns : goal.returns
+returns c =
+    let a = c.args in
+    rw (held_in_lem a.at a.s.now)
+    (λ i. record { what = c.record_at.ensures i; sender = get_or a.s.now (a.at + 8) 0; time = c.get32.ensures i; before = (c.made_at.ensures ∙ origin_in_lem (a.at + 13) a.s.now) i })
