@@ -1,0 +1,14 @@
+use mathlib.Core.Path.{◌≡◌, ◌∙◌}
+use native.Mathlib.Omega.{arith}
+use lib.ListN.{length}
+use Rattle.rules.specs.Line.{node_at}
+use Rattle.state.specs.State.{line_of}
+use Rattle.buffer.proofs.HoldsLaws.{node_fits, node_held_counted}
+use borrow.Author.Rules.{rules}
+use Rattle.node_fields.proofs.held_count.Goals as goal
+
+pub returns : goal.returns
+returns c =
+    let at = c.requires in
+    let is : c.size.result ≡ length (node_at (line_of c.args.s.now) c.args.n).held = c.size.ensures ∙ c.get32.ensures ∙ node_held_counted at in
+    (is, omega (arith, is, (node_fits at).held.0))
