@@ -1,0 +1,16 @@
+use Prim.Native.Nat.{◌-◌, min}
+use mathlib.Core.Path.{◌≡◌}
+use mathlib.Core.Logic.{⊎_elim}
+use native.Mathlib.Omega.{arith}
+use lib.ListN.{get_or}
+use Rattle.state.specs.State.{line_of}
+use Rattle.trim.specs.Trimmed.{heard_lowers}
+use Rattle.trim.proofs.RowLaws.{RowsTo, rows_start, rows_set, rows_left, rows_end}
+use Rattle.trim.proofs.FloorLaws.{unheard, heard_place, heard_lowers_lem}
+use Rattle.trim.proofs.lower_heard.Given as goal
+
+abbrev pub invariant-loop-q : goal.invariant-loop-q
+invariant-loop-q l = RowsTo (heard_lowers (line_of l.s) l.b) l.initial.floors l.floors l.q
+
+abbrev pub decreases-loop-q : goal.decreases-loop-q
+decreases-loop-q l = 12 - l.q
