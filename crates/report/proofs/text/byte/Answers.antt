@@ -1,0 +1,6 @@
+use borrow.Author.Rules.{rules}
+use Rattle.report.proofs.WroteLaws.{byte_written}
+use Rattle.report.proofs.text.byte.Goals as goal
+
+pub returns : goal.returns
+returns c = byte_written c.args.out.now c.args.at c.args.b c.requires
