@@ -5,14 +5,10 @@ use native.Mathlib.Omega.{arith}
 use Rattle.rules.specs.Line.{Entry}
 use Rattle.state.specs.Pieces.{origin_from}
 use Rattle.slots.specs.Slots.{origin_is}
-use Rattle.replay.proofs.logged.Statement.{statement}
-use Rattle.replay.proofs.logged.Tie as tie
+use Rattle.replay.proofs.logged.Goals as goal
 
-returns : tie.Need-returns
+pub returns : goal.returns
 returns c =
-    let a = c.before.before.before.args in
+    let a = c.args in
     let made : ℕ → Entry = λ k. record { what = a.h.what; time = a.column; origin = origin_from k a.h.time; before = origin_is a.h.before; set = a.set } in
     ap made (add-one a.h.sender)
-
-pub logged-spec : {M : Type 1} → statement M
-logged-spec = tie.close (tie.spec (λ c. omega arith) returns)
