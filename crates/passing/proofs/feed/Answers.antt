@@ -80,7 +80,7 @@ log_count-requires c = at-node c.requires (omega (arith, c.node_count.ensures.0)
 pub returns-then-log_count-ge-LOG : goal.returns-then-log_count-ge-LOG
 returns-then-log_count-ge-LOG c bytes reads fits =
     let a = c.args in
-    let k = asked (goal.at.returns-then-log_count-ge-LOG c).After-set_of-set bytes reads fits in
+    let k = asked (goal.at.returns-then-log_count-ge-LOG c).After-gets_time bytes reads fits in
     feed_full a.s.now a.n bytes c.requires.holds k.inside k.source k.fits (sym k.timed ∙ c.if-not-gets_time.false) (omega (arith, c.log_count.ensures.0, c.if-log_count-ge-LOG.true))
 
 loggable : (c : goal.After-time_of-time) → Loggable c.args.s.now c.args.n
@@ -96,7 +96,7 @@ returns c bytes reads fits =
     let a = c.args in
     let s = a.s.now in
     let l = line_of s in
-    let k = asked (goal.at.returns c).After-leaving_from-first bytes reads fits in
+    let k = asked (goal.at.returns c).After-gets_time bytes reads fits in
     let time : c.time_of-time.result + 1 ≡ suc (node_at l a.n).time = add-one c.time_of-time.result ∙ ap suc c.time_of-time.ensures in
     let chosen : c.set_of-set.result ≡ set_of l.plan a.n (made_by l a.n (record_layout.read bytes)) = c.set_of-set.ensures ∙ (λ i. set_of (sym (line-plan s) i) a.n (k.made i)) in
     let now-logged : NodeNow s a.n (logged (c.time_of-time.result + 1) c.set_of-set.result c.made_by-made.result fed fed) c.log_made.new.s = c.log_made.ensures in

@@ -1,0 +1,24 @@
+use Prim.Native.Nat.{ℕ, ◌+◌, ◌-◌, ◌≤◌, ◌<◌}
+use mathlib.Core.Path.{◌≡◌, sym, ap, ◌∙◌}
+use mathlib.Core.Bool.{Bool, true, false, ◌&&◌}
+use mathlib.Core.List.{List}
+use native.Mathlib.Omega.{arith}
+use borrow.Author.Tests.{not-true, not-false}
+use Rattle.plan.specs.Plan.{plan_channels, channel_count}
+use Rattle.plan.proofs.PlanLaws.{channel_count_lem}
+use Rattle.state.specs.State.{line_of}
+use Rattle.state.proofs.InPlace.{line-plan}
+use Rattle.replay.specs.After.{row_after, rows_after}
+use Rattle.replay.proofs.RowLaws.{row_asked, all_from, all_turn, all_end, all_start}
+use Rattle.replay.proofs.rows_after.Given as goal
+
+-- All rows, by those left: the ones before are complete.
+pub record RowsFrom (s : List ℕ) (n b time c : ℕ) : Type 0 where
+  pub few : c ≤ plan_channels s
+  pub now : rows_after (line_of s) n b time ≡ all_from (line_of s).plan n (row_after (line_of s) n b time) c
+
+abbrev pub invariant-loop-c : goal.invariant-loop-c
+invariant-loop-c l = RowsFrom l.s l.n l.b l.time l.c
+
+abbrev pub decreases-loop-c : goal.decreases-loop-c
+decreases-loop-c l = l.m - l.c

@@ -1,0 +1,12 @@
+use native.Mathlib.Omega.{arith}
+use lib.Pow.{pow_pos}
+use Rattle.plan.specs.Plan.{plan_channels}
+use Rattle.buffer.proofs.MaskWalk.{next}
+use Rattle.replay_items.proofs.ItemLaws.{FloorTo, floor_start, floor_turn, floor_end}
+use Rattle.replay_items.proofs.floor_of.Given as goal
+
+abbrev pub invariant-loop-left : goal.invariant-loop-left
+invariant-loop-left l = FloorTo l.s l.initial.left l.left l.floor
+
+abbrev pub decreases-loop-left : goal.decreases-loop-left
+decreases-loop-left l = l.left

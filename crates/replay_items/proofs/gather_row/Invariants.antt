@@ -1,0 +1,15 @@
+use Prim.Native.Nat.{◌-◌, ◌<◌}
+use native.Mathlib.Omega.{arith}
+use borrow.Author.Rules.{rules}
+use lib.ListN.{length}
+use Rattle.state.specs.State.{line_of}
+use Rattle.replay_items.specs.Items.{held_by}
+use Rattle.replay_items.proofs.ItemLaws.{held_long}
+use Rattle.replay_items.proofs.TableLaws.{RowTo, row_start, row_room, row_turn, row_end}
+use Rattle.replay_items.proofs.gather_row.Given as goal
+
+abbrev pub invariant-loop-i : goal.invariant-loop-i
+invariant-loop-i l = RowTo (line_of l.s) l.e.node (held_by l.s l.e) l.parent l.row l.initial.t l.start l.t l.k l.i
+
+abbrev pub decreases-loop-i : goal.decreases-loop-i
+decreases-loop-i l = l.e.held - l.i

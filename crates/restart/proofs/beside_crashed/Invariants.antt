@@ -1,0 +1,15 @@
+use Prim.Native.Nat.{◌-◌, ◌≤◌, ◌<◌}
+use mathlib.Core.Path.{◌≡◌, refl, sym, ap₂, ◌∙◌}
+use mathlib.Core.Bool.{◌||◌}
+use native.Mathlib.Omega.{arith}
+use Rattle.plan.specs.Plan.{plan_channels, channel_count}
+use Rattle.state.specs.State.{line_of}
+use Rattle.buffer.proofs.ReadyLaws.{line_channels}
+use Rattle.restart.proofs.BesideLaws.{beside_to, beside_turn, beside-whole}
+use Rattle.restart.proofs.beside_crashed.Given as goal
+
+abbrev pub invariant-loop-b : goal.invariant-loop-b
+invariant-loop-b l = (l.b ≤ plan_channels l.s) × (l.found ≡ beside_to (line_of l.s) l.n l.b)
+
+abbrev pub decreases-loop-b : goal.decreases-loop-b
+decreases-loop-b l = l.m - l.b

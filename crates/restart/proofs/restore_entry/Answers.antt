@@ -1,0 +1,8 @@
+use borrow.Author.Rules.{rules}
+use Rattle.buffer.proofs.HoldsLaws.{lane_then}
+use Rattle.restart.proofs.restore_entry.Goals as goal
+
+pub returns : goal.returns
+returns c =
+    let on = c.requires in
+    lane_then on c.set_mark.ensures c.set_taken.ensures
