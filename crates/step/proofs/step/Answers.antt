@@ -39,7 +39,7 @@ pub returns-else-number-ne0 : goal.returns-else-number-ne0
 returns-else-number-ne0 c =
     let asked = read_as (WellFormed c.in-WellFormed.console c.in-WellFormed.f) c.args.frame.now c.in-WellFormed.is c.read-reading.ensures in
     let left : steps_from (line_of c.args.s.now) c.in-WellFormed.console < step_limit = omega (arith, c.if-steps_from-ge-STEP_LIMIT.false, c.steps_from.ensures) in
-    let bytes = bytes_known c.args.frame.now (λ i. c.type_inv.frame i) in
+    let bytes = bytes_known c.args.frame.now (λ i. (c.shared_slice_known-1.given i).fits) in
     kind_accepted c.args.s.now c.args.frame.now c.requires asked left bytes c.asked-number.new.s c.count_step.new.s c.asked-number.result c.if-number-ne0.false (c.asked-number.ensures (frame_of c.args.frame.now) asked.asks) c.count_step.ensures
 
 pub asked-number-requires : goal.asked-number-requires
