@@ -12,10 +12,8 @@ bytes() { # FILE: its bytes as a list
 emit() {
     cat <<'TOP'
 -- Sheets computed by the definition: what each reads, and what it writes.
-use Prim.Native.Nat.{ℕ}
-use mathlib.Core.Path.{_≡_, refl}
-use mathlib.Core.List.{List, [], _∷_}
-use Rattle·rules.specs.Sheet.{sheet}
+use Rattle.std.specs.Prelude.{◌≡◌, refl, [], ◌∷◌}
+use Rattle.rules.specs.Sheet.{sheet}
 TOP
     for file; do
         name=$(basename "$file" .in)
@@ -38,7 +36,7 @@ run() {
         echo "pub mod S$count" >>"$scratch/crates/every_sheet/specs/Lib.antt"
         count=$((count + 1))
     done
-    (cd "$scratch" && rt check every_sheet)
+    (cd "$scratch/crates/every_sheet" && rt check)
     echo "$count sheets agree with the definition"
 }
 

@@ -1,5 +1,5 @@
 /* The line, for the exam panel. Every function is proved: crates/line says what it returns and leaves.
-   Link target/staticlib/libline.a (rt staticlib line).
+   Link target/staticlib/libline.a (bash .ci/build).
 
    What no proof can see, and the caller owes at every call:
    - each pointer is good for the length given with it: not null, even for length 0, and so many bytes

@@ -1,5 +1,5 @@
 /* The marker of columns that a candidate proposes for a replay table (request 2026-09). It is proved: crates/marking
-   says what it returns. Link target/staticlib/libmarking.a (rt staticlib marking).
+   says what it returns. Link target/staticlib/libmarking.a (bash .ci/build).
 
    What no proof can see, and the caller owes at every call:
    - each pointer is good for the length given with it, which counts numbers and not bytes: not null, even for length 0,

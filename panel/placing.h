@@ -1,6 +1,6 @@
 /* The placing of a replay table (document 01, "Placing"), which may be called alone. Both functions are proved:
    crates/placing and crates/placing_items say what they return and leave.
-   Link target/staticlib/libplacing.a for the one, libplacing_items.a for the other (rt staticlib NAME).
+   Link target/staticlib/libplacing.a for the one, libplacing_items.a for the other (bash .ci/build).
 
    What no proof can see, and the caller owes at every call:
    - each pointer is good for the length given with it, which counts numbers or items and not bytes: not null, even for

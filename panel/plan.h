@@ -1,5 +1,5 @@
 /* A plan, of version 1 (document 01) or 2 (request 2026-02): its greatest size, and its check alone, which is proved:
-   crates/plan says what it returns. Link target/staticlib/libplan.a (rt staticlib plan).
+   crates/plan says what it returns. Link target/staticlib/libplan.a (bash .ci/build).
 
    What no proof can see, and the caller owes: the pointer is good for the length given with it: not null, even for
    length 0, and so many bytes behind it belong to the caller, who may read them; while the call has them, nobody writes

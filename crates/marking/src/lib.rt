@@ -90,8 +90,7 @@ pub fn mark_of(
 }
 
 // The same as one number, for the panel.
-#[unsafe(no_mangle)]
-pub extern "C" fn marking_mark(
+pub fn marking_mark(
     low: u32,
     high: u32,
     rows: &[u32],

@@ -292,8 +292,7 @@ fn copy(work: &[u32], n: usize, columns: &mut [u32])
 }
 
 // Document 01's placing: the number answered, and on 0 the chosen columns in table order.
-#[unsafe(no_mangle)]
-pub extern "C" fn placing_place(
+pub fn placing_place(
     low: u32,
     high: u32,
     rows: &[u32],

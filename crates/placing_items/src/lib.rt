@@ -90,13 +90,7 @@ fn place_fields(low: u32, high: u32, f: Fields, n: usize, columns: &mut [u32]) -
 }
 
 // Document 01's placing, of "a lent slice of item structs": what `placing_place` answers and leaves for the items' fields.
-#[unsafe(no_mangle)]
-pub extern "C" fn placing_place_items(
-    low: u32,
-    high: u32,
-    items: &[Item],
-    columns: &mut [u32],
-) -> u32
+pub fn placing_place_items(low: u32, high: u32, items: &[Item], columns: &mut [u32]) -> u32
     ensures { (result ≡ answer low high (rows_of items.now) (times_of items.now) (fixed_of items.now) (floors_of items.now) columns.old)
         × (columns.new ≡ columns_left low high (rows_of items.now) (times_of items.now) (fixed_of items.now) (floors_of items.now) columns.old) }
 {

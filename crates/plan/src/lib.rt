@@ -47,8 +47,7 @@ pub enum Pick {
 }
 
 // The first of document 01's refusals 1 to 7 that applies to a plan, 0 if none does.
-#[unsafe(no_mangle)]
-pub extern "C" fn plan_check(plan: &[u8]) -> u32
+pub fn plan_check(plan: &[u8]) -> u32
     ensures { result ≡ plan_refusal plan.now }
 {
     if checks::bad_length(plan) {

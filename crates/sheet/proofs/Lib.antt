@@ -1,4 +1,3 @@
 -- What a turn and a run rest on.
-pub mod GotLaws
 pub mod TurnLaws
 pub mod RanLaws

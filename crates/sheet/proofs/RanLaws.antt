@@ -1,10 +1,6 @@
 -- The turns of a run are calls one after the other, and so write the sheet.
-use Prim.Native.Nat.{ℕ, ◌+◌}
-use mathlib.Core.Path.{◌≡◌, refl, sym, ap, ◌∙◌}
-use mathlib.Core.List.{List, [], ◌∷◌, ◌++◌, append_assoc, append-nil}
-use native.Mathlib.Omega.{arith}
-use lib.ListN.{length, take, drop, length-append, length-drop}
-use lib.Seq.{length-take-le}
+use Rattle.std.proofs.Common.{ℕ, ◌+◌, ◌≡◌, refl, sym, ap, ◌∙◌, List, [], ◌∷◌, ◌++◌, append_assoc, append-nil, length, take, drop, length-append, length-drop, arith}
+use Rattle.std.proofs.lemmas.List.{length-take-le}
 use Rattle.rules.specs.Lists.{joined}
 use Rattle.rules.specs.Sheet.{sheet}
 use Rattle.stream.specs.declared.Reader.{Reader}
@@ -15,7 +11,7 @@ use Rattle.sheet.specs.declared.Ending.{Ending}
 use Rattle.sheet.specs.Turned.{Went, Stopped, complete, at_the_end, read_failed, block_unwritten, last_unwritten}
 use Rattle.sheet.specs.Ran.{Turns, no_turn, more, turns_read, turns_text, SoFar, read_in, text_in, Ran, whole_before_the_end, whole_at_the_end, unread_after, unwritten_after, unwritten_at_the_end}
 
-turns_calls : {r q : Reader} {s w o t v u text : List ℕ} {blocks : List (List ℕ)} (turns : Turns r s w o q t v u) → Calls q t v u blocks text
+turns_calls : {r : Reader} {s w o : List ℕ} {q : Reader} {t v u text : List ℕ} {blocks : List (List ℕ)} (turns : Turns r s w o q t v u) → Calls q t v u blocks text
     → (all : List (List ℕ)) × (Calls r s w o all (turns_text turns ++ text) × (joined all ≡ turns_read turns ++ joined blocks))
 turns_calls {blocks = blocks} no_turn calls = (blocks, (calls, refl))
 turns_calls {text = text} {blocks = blocks} (more {q = q} {next = next} {out = out} turns went) calls =

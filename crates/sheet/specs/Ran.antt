@@ -15,11 +15,11 @@ pub data Turns (r : Reader) (s w o : List ℕ) : Reader → List ℕ → List �
   more : {q next : Reader} {t v u state window out : List ℕ} → Turns r s w o q t v u → Went q t v u next state window out → Turns r s w o next state window out
 
 -- The bytes that came, one block behind the other; and the texts that stood at the output's front behind them.
-abbrev pub turns_read : {r q : Reader} {s w o t v u : List ℕ} → Turns r s w o q t v u → List ℕ
+abbrev pub turns_read : {r : Reader} {s w o : List ℕ} {q : Reader} {t v u : List ℕ} → Turns r s w o q t v u → List ℕ
 turns_read no_turn = []
 turns_read (more {q = q} turns went) = turns_read turns ++ take went.n (drop q.have went.came)
 
-abbrev pub turns_text : {r q : Reader} {s w o t v u : List ℕ} → Turns r s w o q t v u → List ℕ
+abbrev pub turns_text : {r : Reader} {s w o : List ℕ} {q : Reader} {t v u : List ℕ} → Turns r s w o q t v u → List ℕ
 turns_text no_turn = []
 turns_text (more {next = next} {out = out} turns went) = turns_text turns ++ take next.wrote out
 

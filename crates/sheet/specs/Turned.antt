@@ -1,6 +1,6 @@
 -- What holds from one block of the input to the next.
-use Rattle.std.specs.Prelude.{ℕ, zero, suc, ◌+◌, ◌-◌, ◌≤◌, ◌<◌, ◌^◌, ◌≡◌, Bool, true, false, List, ℤ, pos, negsuc, length, take}
-use Rattle.libc.specs.Io.{Moved}
+use Rattle.std.specs.Prelude.{ℕ, zero, suc, ◌+◌, ◌-◌, ◌≤◌, ◌<◌, ◌^◌, ◌≡◌, Bool, true, false, List, length, take, Result, Ok, Err, IfOk}
+use Rattle.std.specs.declared.io.Error.{Error}
 use Rattle.stream.specs.declared.Phase.{Phase}
 use Rattle.stream.specs.declared.Phase.TheVariants.{Planning, Framing, Ended}
 use Rattle.stream.specs.declared.Reader.{Reader}
@@ -13,11 +13,11 @@ use Rattle.sheet.specs.declared.Ending.TheVariants.{Whole, Unread, Unwritten}
 use Rattle.sheet.specs.declared.Next.{Next}
 use Rattle.sheet.specs.declared.Next.TheVariants.{On, Stop}
 
--- A read that answers a negative number has failed; one that gave no byte is at the end of the input.
-abbrev pub got_of : ℤ → ℕ → Got
-got_of (negsuc k) n = Failed
-got_of (pos k) zero = End
-got_of (pos k) (suc n) = Bytes (suc n)
+-- A read that answers an error has failed; one that gave no byte is at the end of the input.
+abbrev pub got_of : Result ℕ Error → Got
+got_of (Err e) = Failed
+got_of (Ok zero) = End
+got_of (Ok (suc n)) = Bytes (suc n)
 
 -- New bytes, one at least, end within the window.
 abbrev pub Within : Got → ℕ → Type 0
@@ -25,18 +25,13 @@ Within (Bytes n) have = (1 ≤ n) × (have + n ≤ window_size)
 Within End have = Unit
 Within Failed have = Unit
 
--- As many bytes as a read's answer says.
-abbrev pub count_of : ℤ → ℕ
-count_of (pos k) = k
-count_of (negsuc k) = 0
-
 -- What a read leaves of the window w: its length, and the bytes that are kept. It tells as many bytes as an answer within the call's contract says, which are no more than there is room for.
 pub record ReadBehind (w : List ℕ) (have : ℕ) (window : List ℕ) (r : Got) : Type 0 where
   pub sized : length window ≡ window_size
   pub kept : take have window ≡ take have w
-  pub answer : ℤ
-  pub moved : Moved (window_size - have) answer
-  pub told : r ≡ got_of answer (count_of answer)
+  pub answer : Result ℕ Error
+  pub moved : IfOk answer (λ n. n ≤ window_size - have)
+  pub told : r ≡ got_of answer
   pub within : Within r have
 
 -- So many bytes are read at most.

@@ -7,7 +7,8 @@ ghost use Rattle.sheet.specs.Turned.{got_of, ReadBehind, is_ended, Between, Turn
 ghost use Rattle.sheet.specs.Ran.{Ran};
 
 use buffer::Line;
-use libc::{STDERR_FILENO, STDIN_FILENO, STDOUT_FILENO};
+use std::alloc::Global;
+use std::io::{self, Read, Stderr, Stdin, Stdout, Write};
 use stream::{OUT, Phase, Reader, WINDOW};
 
 // A proved loop has to end, and nothing says that the input does: so many bytes are read at most, which no run uses up.
@@ -37,37 +38,76 @@ pub enum Next {
     Stop(Ending),
 }
 
-// What a read's answer says, and so many bytes that came.
-fn got_of(answer: isize, n: usize) -> Got
-    ensures { result ≡ got_of answer n }
-{
-    if answer < 0 {
-        return Got::Failed;
-    }
-    if n == 0 {
-        return Got::End;
-    }
-    Got::Bytes(n)
+// The three streams, and where a message is made.
+#[derive(Clone, Copy)]
+struct Streams {
+    input: Stdin,
+    output: Stdout,
+    errors: Stderr,
+    alloc: Global,
 }
 
-// One read, behind the bytes that are kept, which stay.
-fn read_behind(window: &mut [u8], have: usize) -> Got
+// The system's words for an error, without the number that stands behind them.
+fn words_of(text: &str) -> &str {
+    match text.split_once(" (os error ") {
+        Some((words, _)) => words,
+        None => text,
+    }
+}
+
+// A line on standard error: what failed, and why.
+fn tell(streams: Streams, what: &str, why: io::Error) {
+    match format!(in streams.alloc; "{why}") {
+        Ok(text) => {
+            let words = words_of(text.as_str());
+            let _ = eprintln!(streams.errors; "{what}: {words}");
+        }
+        Err(_) => {
+            let _ = eprintln!(streams.errors; "{what}");
+        }
+    }
+}
+
+// What a read's answer says.
+fn got_of(answer: io::Result<usize>) -> Got
+    ensures { result ≡ got_of answer }
+{
+    match answer {
+        Err(_) => Got::Failed,
+        Ok(0) => Got::End,
+        Ok(n) => Got::Bytes(n),
+    }
+}
+
+// One read, behind the bytes that are kept, which stay. One that fails is told.
+fn read_behind(mut streams: Streams, window: &mut [u8], have: usize) -> Got
     requires { (have ≤ length window.old) × (length window.old ≡ window_size) }
     ensures { ReadBehind window.old have window.new result }
 {
-    let answer = libc::read(STDIN_FILENO, &mut window[have..]);
-    got_of(answer, io::count(answer, &window[have..]))
+    let answer = streams.input.read(&mut window[have..]);
+    if let Err(why) = answer {
+        tell(streams, "sheet: read", why);
+    }
+    got_of(answer)
 }
 
-// The text that was written, to standard output. An empty one is not written, and does not fail.
-fn write(out: &[u8], wrote: usize) -> bool
+// The text that was written, to standard output. An empty one is not written, and does not fail. A write that fails is told, but where nobody reads the pipe any more.
+fn write(mut streams: Streams, out: &[u8], wrote: usize) -> bool
     requires { wrote ≤ length out.now }
     ensures { result ≡ false → 1 ≤ wrote }
 {
     if wrote == 0 {
         return true;
     }
-    io::write_all(STDOUT_FILENO, &out[..wrote])
+    match Write::write_all(&mut streams.output, &out[..wrote]) {
+        Ok(()) => true,
+        Err(why) => {
+            if why.kind() != io::ErrorKind::BrokenPipe {
+                tell(streams, "sheet: write", why);
+            }
+            false
+        }
+    }
 }
 
 // "and no more", "ends reading"
@@ -83,6 +123,7 @@ fn is_ended(phase: Phase) -> bool
 
 // One block, or the end of the input.
 fn turn(
+    streams: Streams,
     reader: Reader,
     left: usize,
     state: &mut [u8; Line::STATE_SIZE],
@@ -93,11 +134,11 @@ fn turn(
     ensures { Turned reader state.old window.old out.old left result state.new window.new out.new }
 {
     let have = reader.have;
-    let got = read_behind(window, have);
+    let got = read_behind(streams, window, have);
     match got {
         Got::Bytes(n) => {
             let next = stream::take_block(reader, state, window, n, out);
-            if !write(out, next.wrote) {
+            if !write(streams, out, next.wrote) {
                 return Next::Stop(Ending::Unwritten);
             }
             let phase = next.phase;
@@ -109,7 +150,7 @@ fn turn(
         }
         Got::End => {
             let wrote = stream::finish(reader, state, window, out);
-            if !write(out, wrote) {
+            if !write(streams, out, wrote) {
                 return Next::Stop(Ending::Unwritten);
             }
             Next::Stop(Ending::Whole)
@@ -119,16 +160,21 @@ fn turn(
 }
 
 // The opening, and then block by block.
-fn run(state: &mut [u8; Line::STATE_SIZE], window: &mut [u8; WINDOW], out: &mut [u8; OUT]) -> Ending
+fn run(
+    streams: Streams,
+    state: &mut [u8; Line::STATE_SIZE],
+    window: &mut [u8; WINDOW],
+    out: &mut [u8; OUT],
+) -> Ending
     ensures { Ran state.old window.old out.old result state.new window.new out.new }
 {
     let mut reader = stream::begin(out);
-    if !write(out, reader.wrote) {
+    if !write(streams, out, reader.wrote) {
         return Ending::Unwritten;
     }
     let mut left = ALLOWANCE;
     while WINDOW <= left {
-        let t = turn(reader, left, state, window, out);
+        let t = turn(streams, reader, left, state, window, out);
         match t {
             Next::On(next, rest) => {
                 reader = next;
@@ -140,17 +186,24 @@ fn run(state: &mut [u8; Line::STATE_SIZE], window: &mut [u8; WINDOW], out: &mut 
     Ending::TooLong
 }
 
-fn main() {
+fn main(rt: HostRuntime) {
     let mut state = [0u8; Line::STATE_SIZE];
     let mut window = [0u8; WINDOW];
     let mut out = [0u8; OUT];
-    let ending = run(&mut state, &mut window, &mut out);
+    let streams = Streams {
+        input: rt.stdin(),
+        output: rt.stdout(),
+        errors: rt.stderr(),
+        alloc: rt.alloc(),
+    };
+    let ending = run(streams, &mut state, &mut window, &mut out);
     match ending {
         Ending::Whole => {}
-        Ending::Unread => os::fail(b"sheet: read"),
-        Ending::Unwritten => os::fail(b"sheet: write"),
+        // Told as it failed.
+        Ending::Unread => {}
+        Ending::Unwritten => {}
         Ending::TooLong => {
-            io::write_all(STDERR_FILENO, b"sheet: input too long\n");
+            let _ = eprintln!(rt; "sheet: input too long");
         }
     }
 }
