@@ -1,11 +1,10 @@
 -- The parts of a sheet's lines, one behind the other.
 use Prim.Native.Nat.{ℕ}
 use mathlib.Core.Path.{◌≡◌, refl, sym, ap, ◌∙◌}
-use mathlib.Core.List.{List, [], ◌∷◌, ◌++◌, map, zip_with, append_assoc}
+use mathlib.Core.List.{List, [], ◌∷◌, ◌++◌, zip_with, append_assoc}
 use mathlib.Core.Option.{none, some}
 use Rattle.plan.specs.declared.Record.{Record}
-use Rattle.rules.specs.Lists.{joined}
-use Rattle.rules.specs.Line.{Origin, fed, made, Entry, Target, Asked, Line, node_at, parents}
+use Rattle.rules.specs.Line.{fed, made, Entry, Target, Asked, Line, node_at, parents}
 use Rattle.rules.specs.Sheet.{decimal, spaced, text_line, answer_line, status_word, origin_words, entry_line, clock_text, node_and_time, target_word, kept_text, node_text}
 use Rattle.rules.proofs.Lists.ListLaws.{nil_right}
 use Rattle.report.specs.Clock.{times_of}

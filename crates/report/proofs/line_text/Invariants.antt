@@ -1,16 +1,12 @@
 use Prim.Native.Nat.{◌-◌, ◌*◌, ◌≤◌}
-use mathlib.Core.Path.{sym, ap, ◌∙◌}
 use mathlib.Core.List.{map}
-use native.Mathlib.Omega.{arith}
-use borrow.Author.Rules.{rules}
 use lib.ListN.{length, drop}
 use Rattle.rules.specs.Lists.{joined}
 use Rattle.rules.specs.Line.{node_numbers}
-use Rattle.rules.specs.Sheet.{node_text, line_text}
+use Rattle.rules.specs.Sheet.{node_text}
 use Rattle.state.specs.State.{line_of}
-use Rattle.report.specs.Most.{node_most, text_most}
-use Rattle.report.proofs.NodesLaws.{numbers_long, number_at}
-use Rattle.report.proofs.WroteLaws.{Writing, wrote_most, writing_start, joined_turn, joined_end}
+use Rattle.report.specs.Most.{node_most}
+use Rattle.report.proofs.WroteLaws.{Writing}
 use Rattle.report.proofs.line_text.Given as goal
 
 abbrev pub invariant-loop-n : goal.invariant-loop-n

@@ -1,6 +1,5 @@
 use mathlib.Core.Path.{sym, ◌∙◌}
 use native.Mathlib.Omega.{arith}
-use borrow.Author.Rules.{rules}
 use Rattle.report.proofs.ParentLaws.{next_channel, at_place, behind_place}
 use Rattle.report.proofs.clock.next_parent.Goals as goal
 

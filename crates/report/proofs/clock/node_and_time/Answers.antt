@@ -1,6 +1,5 @@
 use mathlib.Core.Path.{refl}
 use native.Mathlib.Omega.{arith}
-use borrow.Author.Rules.{rules}
 use Rattle.rules.specs.Sheet.{node_and_time}
 use Rattle.report.proofs.DecimalLaws.{number_few}
 use Rattle.report.proofs.WroteLaws.{wrote_most, writing_start, writing_on, writing_last}

@@ -1,6 +1,5 @@
 use mathlib.Core.Path.{◌∙◌}
 use native.Mathlib.Omega.{arith}
-use borrow.Author.Rules.{rules}
 use Rattle.buffer.specs.Holds.{AtNode}
 use Rattle.report.proofs.ParentLaws.{four_parents, through_at, own_time, heard_time, kept_time}
 use Rattle.report.proofs.clock.parent_time.Goals as goal

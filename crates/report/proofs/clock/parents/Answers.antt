@@ -1,4 +1,3 @@
-use mathlib.Core.Path.{◌∙◌}
 use Rattle.report.proofs.ParentLaws.{parents-none, parents_some}
 use Rattle.report.proofs.clock.parents.Goals as goal
 

@@ -1,4 +1,3 @@
-use mathlib.Core.Path.{refl}
 use Rattle.report.proofs.ParentLaws.{separator_first, separator_later}
 use Rattle.report.proofs.clock.separator.Goals as goal
 

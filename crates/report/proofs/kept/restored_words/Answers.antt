@@ -1,6 +1,6 @@
 use native.Mathlib.Omega.{arith}
 use Rattle.report.proofs.ParentLaws.{walking_four, walking_less}
-use Rattle.report.proofs.KeptLaws.{Restoring, restoring_start, restoring_room, restoring_turn, restoring_end}
+use Rattle.report.proofs.KeptLaws.{restoring_start, restoring_room, restoring_turn, restoring_end}
 use Rattle.report.proofs.kept.restored_words.Goals as goal
 
 pub loop-left-init : goal.loop-left-init

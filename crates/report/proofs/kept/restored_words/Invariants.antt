@@ -1,6 +1,4 @@
-use native.Mathlib.Omega.{arith}
-use Rattle.report.proofs.ParentLaws.{walking_four, walking_less}
-use Rattle.report.proofs.KeptLaws.{Restoring, restoring_start, restoring_room, restoring_turn, restoring_end}
+use Rattle.report.proofs.KeptLaws.{Restoring}
 use Rattle.report.proofs.kept.restored_words.Given as goal
 
 abbrev pub invariant-loop-left : goal.invariant-loop-left

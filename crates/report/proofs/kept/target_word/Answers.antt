@@ -1,6 +1,5 @@
 use mathlib.Core.Path.{refl}
 use native.Mathlib.Omega.{arith}
-use borrow.Author.Rules.{rules}
 use Rattle.slots.specs.Slots.{target_is}
 use Rattle.report.proofs.PartsLaws.{target-parts}
 use Rattle.report.proofs.WroteLaws.{writing_of, writing_on, writing_last}

@@ -1,6 +1,5 @@
 use mathlib.Core.Path.{refl}
 use native.Mathlib.Omega.{arith}
-use borrow.Author.Rules.{rules}
 use Rattle.state.specs.State.{line_of}
 use Rattle.report.proofs.PartsLaws.{clock_parts}
 use Rattle.report.proofs.ClockLaws.{clock_own}

@@ -1,10 +1,5 @@
-use Prim.Native.Nat.{◌-◌, ◌*◌, ◌≤◌}
-use mathlib.Core.Path.{sym, ap, ◌∙◌}
 use mathlib.Core.List.{map}
-use native.Mathlib.Nat.{zero-mul}
 use native.Mathlib.Omega.{arith}
-use borrow.Author.Rules.{rules}
-use lib.ListN.{length, drop}
 use Rattle.rules.specs.Lists.{joined}
 use Rattle.rules.specs.Line.{node_at}
 use Rattle.rules.specs.Sheet.{entry_line}
@@ -12,7 +7,7 @@ use Rattle.state.specs.State.{line_of}
 use Rattle.buffer.specs.Nothing.{no_entry}
 use Rattle.report.specs.Parts.{log_text}
 use Rattle.report.proofs.ParentLaws.{node_few}
-use Rattle.report.proofs.WroteLaws.{Writing, wrote_most, writing_start, joined_turn, joined_end}
+use Rattle.report.proofs.WroteLaws.{wrote_most, writing_start, joined_turn, joined_end}
 use Rattle.report.proofs.node.log_lines.Goals as goal
 
 pub loop-i-init : goal.loop-i-init

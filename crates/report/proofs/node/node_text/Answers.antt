@@ -1,6 +1,5 @@
 use mathlib.Core.Path.{refl}
 use native.Mathlib.Omega.{arith}
-use borrow.Author.Rules.{rules}
 use Rattle.state.specs.State.{line_of}
 use Rattle.report.proofs.PartsLaws.{node-parts}
 use Rattle.report.proofs.WroteLaws.{writing_of, writing_on, writing_last}

@@ -1,5 +1,4 @@
 use native.Mathlib.Omega.{arith}
-use borrow.Author.Rules.{rules}
 use Rattle.report.proofs.OriginText.{origin-none, origin_some}
 use Rattle.report.proofs.WroteLaws.{wrote_most}
 use Rattle.report.proofs.node.origin_words.Goals as goal

@@ -1,4 +1,3 @@
-use borrow.Author.Rules.{rules}
 use Rattle.report.proofs.WroteLaws.{byte_written}
 use Rattle.report.proofs.text.byte.Goals as goal
 

@@ -1,7 +1,6 @@
 use mathlib.Core.Path.{refl}
 use mathlib.Core.List.{◌∷◌}
 use native.Mathlib.Omega.{arith}
-use borrow.Author.Rules.{rules}
 use Rattle.rules.specs.Sheet.{decimal}
 use Rattle.report.proofs.DecimalLaws.{number_few}
 use Rattle.report.proofs.WroteLaws.{wrote_most, writing_start, writing_on, writing_last}

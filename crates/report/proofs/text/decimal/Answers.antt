@@ -1,9 +1,8 @@
-use Prim.Native.Nat.{◌+◌, ◌-◌, ◌≤◌}
-use mathlib.Core.Path.{sym}
+use Prim.Native.Nat.{◌+◌, ◌≤◌}
 use native.Mathlib.Omega.{arith}
 use lib.ListN.{length}
 use Rattle.rules.specs.Sheet.{decimal}
-use Rattle.report.proofs.DecimalLaws.{Spelling, spelling_start, spelling_same, spelling_turn, spelling_end}
+use Rattle.report.proofs.DecimalLaws.{spelling_start, spelling_same, spelling_turn, spelling_end}
 use Rattle.report.proofs.text.decimal.Goals as goal
 
 pub overflow_add-end : goal.overflow_add-end

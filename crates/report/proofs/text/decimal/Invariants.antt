@@ -1,9 +1,7 @@
-use Prim.Native.Nat.{◌+◌, ◌-◌, ◌≤◌}
-use mathlib.Core.Path.{sym}
-use native.Mathlib.Omega.{arith}
+use Prim.Native.Nat.{◌+◌}
 use lib.ListN.{length}
 use Rattle.rules.specs.Sheet.{decimal}
-use Rattle.report.proofs.DecimalLaws.{Spelling, spelling_start, spelling_same, spelling_turn, spelling_end}
+use Rattle.report.proofs.DecimalLaws.{Spelling}
 use Rattle.report.proofs.text.decimal.Given as goal
 
 abbrev pub invariant-loop-i : goal.invariant-loop-i

@@ -1,4 +1,3 @@
-use borrow.Author.Rules.{rules}
 use Rattle.report.proofs.WroteLaws.{wrote_then}
 use Rattle.report.proofs.text.two_numbers.Goals as goal
 

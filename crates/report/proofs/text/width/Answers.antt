@@ -1,6 +1,5 @@
-use mathlib.Core.Path.{sym}
 use native.Mathlib.Omega.{arith}
-use Rattle.report.proofs.DecimalLaws.{Counting, counting_start, counting_room, counting_turn, counting_end}
+use Rattle.report.proofs.DecimalLaws.{counting_start, counting_room, counting_turn, counting_end}
 use Rattle.report.proofs.text.width.Goals as goal
 
 pub loop-rest-init : goal.loop-rest-init

@@ -1,4 +1,3 @@
-use borrow.Author.Rules.{rules}
 use Rattle.report.proofs.WroteLaws.{word_written}
 use Rattle.report.proofs.text.word.Goals as goal
 

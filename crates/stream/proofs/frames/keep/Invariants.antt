@@ -1,0 +1,22 @@
+use Prim.Native.Nat.{ℕ, ◌-◌, ◌≤◌}
+use mathlib.Core.Path.{◌≡◌, refl, sym, ◌∙◌}
+use mathlib.Core.List.{List}
+use native.Mathlib.Omega.{arith}
+use lib.ListN.{length, take, drop, length-set}
+use Rattle.basics.specs.Put.{put, put-none}
+use Rattle.plan.proofs.BytesLaws.{drop-take}
+use Rattle.stream.proofs.WindowLaws.{move_turn}
+use Rattle.stream.proofs.frames.keep.Given as goal
+
+-- The first i bytes have moved.
+pub record Moved (window₀ : List ℕ) (at end count : ℕ) (window : List ℕ) (i : ℕ) : Type 0 where
+  pub within : i ≤ count
+  pub many : count ≡ end - at
+  pub same : length window ≡ length window₀
+  pub now : window ≡ put window₀ 0 (take i (drop at window₀))
+
+abbrev pub invariant-loop-i : goal.invariant-loop-i
+invariant-loop-i l = Moved l.initial.window l.at l.end l.count l.window l.i
+
+abbrev pub decreases-loop-i : goal.decreases-loop-i
+decreases-loop-i l = l.count - l.i
