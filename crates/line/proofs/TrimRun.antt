@@ -19,7 +19,7 @@ use Rattle.line.proofs.StepRun.{as_told, run_of_lines}
 
 pub trims_change_nothing_on_bytes : TrimsChangeNothingOnBytes
 unfolding story_of
-trims_change_nothing_on_bytes plan lent before with without bytes each eachWith eachWithout z put_in all all' =
+trims_change_nothing_on_bytes plan lent before with without bytes each eachWith eachWithout z inserted all all' =
     let run = run_of_lines plan lent before bytes each z in
     let state = state_after (load_left plan lent) before in
     let l = (story_from (start_of (initial_line (plan_of plan))) before).line in
@@ -27,7 +27,7 @@ trims_change_nothing_on_bytes plan lent before with without bytes each eachWith 
     let told = (as_told with state eachWith run.accepted).story ∙ ap (λ (k : Line). story_from (start_of k) with) start in
     let told' = (as_told without state eachWithout run.accepted).story ∙ ap (λ (k : Line). story_from (start_of k) without) start in
     ap (λ (s : Story). s.receipts) told
-    ∙ trims_change_nothing plan before with without bytes each eachWithout (load_accepted plan lent z).0 put_in (ap (λ (s : Story). s.numbers) (sym told) ∙ all) (ap (λ (s : Story). s.numbers) (sym told') ∙ all')
+    ∙ trims_change_nothing plan before with without bytes each eachWithout (load_accepted plan lent z).0 inserted (ap (λ (s : Story). s.numbers) (sym told) ∙ all) (ap (λ (s : Story). s.numbers) (sym told') ∙ all')
     ∙ ap (λ (s : Story). s.receipts) (sym told')
 
 pub trim_frees_on_bytes : TrimFreesOnBytes

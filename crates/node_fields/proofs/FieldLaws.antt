@@ -9,7 +9,7 @@ use lib.Dec.{lit≤}
 use lib.ListN.{length, get_or, take, drop, replicate, length-append, length-drop, take-append-drop}
 use Rattle.basics.specs.Put.{put, puts, Adjacent, joined, put-replicate, puts-joined}
 use Rattle.plan.specs.Layout.{Layout, bytes_of, up_to_slots}
-use Rattle.plan.specs.Lawful.{Each, UpToFit}
+use Rattle.plan.specs.Lawful.{UpToFit}
 use Rattle.rules.specs.Line.{log_limit, held_limit, target_limit, Entry, Held, Target, Asked, Status, Node, node_at, with_node}
 use Rattle.state.specs.Sizes.{count_size, page_at, crashed_at, time_at, log_at, entry_size, held_at, held_size, targets_at, target_size, kept_at, node_rest_at}
 use Rattle.state.specs.Sound.{Sound}

@@ -1,31 +1,28 @@
 -- A held record as it is read: itself, its fixed column and its floor.
-use Prim.Native.Nat.{ℕ, zero, suc, ◌+◌, ◌-◌, ◌^◌, ◌≤◌, ◌<◌, max}
+use Prim.Native.Nat.{ℕ, zero, suc, ◌-◌, ◌^◌, ◌≤◌, ◌<◌, max}
 use mathlib.Core.Path.{◌≡◌, refl, sym, ap, ◌∙◌}
-use mathlib.Core.Logic.{◌≢◌}
 use mathlib.Core.Logic.{◌⊎◌, inl, inr}
 use mathlib.Core.Bool.{Bool, true, false, cond, ◌&&◌, or-true, true≢false}
 use mathlib.Core.List.{List, [], ◌∷◌, ◌++◌, map}
 use native.Mathlib.Omega.{arith}
-use native.Mathlib.Nat.{lt_of_not-le}
 use borrow.Author.Tests.{eqb-true, eq-eqb}
 use lib.Dec.{eqb}
 use Rattle.basics.specs.Bools.{both_true, neither_true, below_or_not}
 use lib.ListN.{length, get_or, length-append, length-map, get_or-append, get_or-map, get_or-eq_default}
 use lib.Seq.{get_or-take, get_or-append_seam, length-take-le}
-use lib.Pow.{pow_mono}
 use Rattle.plan.specs.declared.Record.{Record}
 use Rattle.plan.specs.Plan.{plan_of, plan_channels, leaving}
-use Rattle.plan.specs.Mask.{mask_of, Rising, channels_in, taking, plan_mask, FirstOf, TakingOf}
-use Rattle.plan.proofs.MaskLaws.{rising_lower, channels_listed, taking_rise, mask_few}
+use Rattle.plan.specs.Mask.{mask_of, channels_in, taking, plan_mask, TakingOf}
+use Rattle.plan.proofs.MaskLaws.{channels_listed, taking_rise, mask_few}
 use Rattle.plan.proofs.TakingLaws.{taking-listed}
 use Rattle.plan.proofs.PlanLaws.{channel_count_lem}
 use Rattle.rules.specs.Lists.{keep, keep_one, any_of, greatest_of}
 use Rattle.rules.specs.Line.{Held, Target, node_at, lane_at}
 use Rattle.rules.specs.Recover.{clash, conflict}
 use Rattle.rules.specs.Replay.{fixed_at, floor_of}
-use Rattle.rules.proofs.Lists.Members.{In, in_at, none_any}
+use Rattle.rules.proofs.Lists.Members.{in_at, none_any}
 use Rattle.rules.proofs.Line.Joins.{taking_in}
-use Rattle.buffer.proofs.MaskWalk.{Left, Next, next, left_none}
+use Rattle.buffer.proofs.MaskWalk.{Left, Next, left_none}
 use Rattle.state.specs.State.{line_of}
 use Rattle.state.proofs.InPlace.{line-plan}
 use Rattle.slots.specs.Slots.{held_is}

@@ -1,4 +1,3 @@
-use borrow.Author.Rules.{rules}
 use Rattle.channel_check.proofs.end_down.Goals as goal
 
 pub returns : goal.returns

@@ -1,4 +1,3 @@
-use borrow.Author.Rules.{rules}
 use Rattle.channel_check.proofs.ChannelLaws.{ends_at}
 use Rattle.channel_check.proofs.ends_ok.Goals as goal
 

@@ -1,4 +1,3 @@
-use borrow.Author.Rules.{rules}
 use Rattle.channel_check.proofs.MessageLaws.{message_tested}
 use Rattle.channel_check.proofs.message_ok.Goals as goal
 

@@ -1,15 +1,10 @@
-use Prim.Native.Nat.{ℕ, ◌-◌, ◌≤◌, ◌<◌, max}
-use mathlib.Core.Path.{◌≡◌, sym, ap, ◌∙◌}
+use Prim.Native.Nat.{ℕ, ◌-◌, ◌≤◌, max}
+use mathlib.Core.Path.{◌≡◌}
 use mathlib.Core.List.{List, ◌∷◌}
-use native.Mathlib.Omega.{arith}
-use lib.ListN.{length, drop}
+use lib.ListN.{drop}
 use Rattle.rules.specs.Lists.{greatest_of}
 use Rattle.rules.specs.Line.{lane_at}
 use Rattle.state.specs.State.{line_of}
-use Rattle.state.proofs.OffsetLaws.{line_taken, line-heard_at}
-use Rattle.state.proofs.PlanFitting.{few_heard, heard_long}
-use Rattle.buffer.proofs.ReadyLaws.{counted}
-use Rattle.channel_check.proofs.ChannelLaws.{greatest_more, greatest_end}
 use Rattle.channel_check.proofs.most_heard.Given as goal
 
 -- The first i heard are seen.

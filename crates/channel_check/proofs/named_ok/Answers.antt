@@ -1,4 +1,3 @@
-use borrow.Author.Rules.{rules}
 use Rattle.channel_check.proofs.MessageLaws.{named_fed, named_made}
 use Rattle.channel_check.proofs.named_ok.Goals as goal
 

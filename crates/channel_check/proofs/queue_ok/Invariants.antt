@@ -1,13 +1,9 @@
 use Prim.Native.Nat.{ℕ, ◌+◌, ◌*◌, ◌≤◌}
-use mathlib.Core.Path.{◌≡◌, refl, sym, ◌∙◌}
+use mathlib.Core.Path.{◌≡◌}
 use mathlib.Core.Bool.{Bool, ◌&&◌}
 use mathlib.Core.List.{List}
-use native.Mathlib.Omega.{arith}
-use borrow.Author.Rules.{rules}
 use Rattle.state.specs.Sizes.{block_at}
 use Rattle.channel_check.specs.Channel.{messages_ok}
-use Rattle.channel_check.proofs.MessageLaws.{message_time}
-use Rattle.channel_check.proofs.QueueLaws.{messages_turn, messages_end, queue_whole}
 use Rattle.channel_check.proofs.queue_ok.Given as goal
 
 -- The messages before the place are seen.

@@ -1,14 +1,9 @@
 use Prim.Native.Nat.{ℕ, ◌+◌, ◌*◌, ◌-◌, ◌≤◌}
-use mathlib.Core.Path.{◌≡◌, refl, ap, ◌∙◌}
+use mathlib.Core.Path.{◌≡◌}
 use mathlib.Core.List.{List}
-use native.Mathlib.Nat.{sub_self}
-use native.Mathlib.Omega.{arith}
-use borrow.Author.Rules.{rules}
 use lib.Dec.{eqb}
 use Rattle.state.specs.Sizes.{block_at, heard_at}
 use Rattle.buffer.specs.Exact.{zero_at}
-use Rattle.buffer.proofs.BytesLaws.{zero_test}
-use Rattle.channel_check.proofs.ChannelLaws.{word_turn}
 use Rattle.channel_check.proofs.unheard_zero.Given as goal
 
 -- The words before the i-th are seen.

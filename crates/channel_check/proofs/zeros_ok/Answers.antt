@@ -1,7 +1,6 @@
 use Prim.Native.Nat.{◌+◌, ◌-◌}
 use mathlib.Core.Path.{◌≡◌, refl}
 use native.Mathlib.Omega.{arith}
-use borrow.Author.Rules.{rules}
 use Rattle.state.specs.Sizes.{block_at}
 use Rattle.channel_check.proofs.ChannelLaws.{behind-at}
 use Rattle.channel_check.proofs.zeros_ok.Goals as goal

@@ -1,4 +1,3 @@
-use borrow.Author.Rules.{rules}
 use Rattle.channel_fields.proofs.LaneWrites.{heard_cleared}
 use Rattle.channel_fields.proofs.clear_heard.Goals as goal
 

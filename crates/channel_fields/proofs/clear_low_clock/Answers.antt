@@ -1,4 +1,3 @@
-use borrow.Author.Rules.{rules}
 use Rattle.channel_fields.proofs.LaneWrites.{low_cleared}
 use Rattle.channel_fields.proofs.clear_low_clock.Goals as goal
 

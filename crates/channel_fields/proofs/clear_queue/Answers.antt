@@ -1,6 +1,5 @@
 use native.Mathlib.Omega.{arith}
 use Prim.Native.Nat.{◌+◌, ◌*◌}
-use borrow.Author.Rules.{rules}
 use Rattle.state.specs.Sizes.{block_at, count_size, queue_at, message_size}
 use Rattle.channel_fields.proofs.LaneWrites.{queue_cleared}
 use Rattle.channel_fields.proofs.clear_queue.Goals as goal

@@ -1,4 +1,3 @@
-use borrow.Author.Rules.{rules}
 use mathlib.Core.Path.{◌∙◌}
 use Rattle.channel_fields.proofs.LaneReads.{first_read}
 use Rattle.channel_fields.proofs.first_of.Goals as goal

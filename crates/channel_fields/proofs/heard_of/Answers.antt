@@ -1,6 +1,5 @@
 use mathlib.Core.Path.{◌∙◌}
 use native.Mathlib.Omega.{arith}
-use borrow.Author.Rules.{rules}
 use Rattle.channel_fields.proofs.LaneReads.{heard_four, heard_word}
 use Rattle.channel_fields.proofs.heard_of.Goals as goal
 

@@ -1,6 +1,5 @@
 use mathlib.Core.Path.{◌∙◌}
 use native.Mathlib.Omega.{arith}
-use borrow.Author.Rules.{rules}
 use Rattle.channel_fields.proofs.LaneReads.{low_five, low_word}
 use Rattle.channel_fields.proofs.low_clock_of.Goals as goal
 

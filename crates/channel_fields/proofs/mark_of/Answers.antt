@@ -1,4 +1,3 @@
-use borrow.Author.Rules.{rules}
 use mathlib.Core.Path.{◌∙◌}
 use Rattle.channel_fields.proofs.LaneReads.{mark_word}
 use Rattle.channel_fields.proofs.mark_of.Goals as goal

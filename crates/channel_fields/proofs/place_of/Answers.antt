@@ -1,10 +1,8 @@
-use Prim.Native.Nat.{◌-◌, ◌<◌}
+use Prim.Native.Nat.{◌<◌}
 use mathlib.Core.Path.{sym, ◌∙◌}
-use mathlib.Core.Logic.{⊎_elim}
 use native.Mathlib.Omega.{arith}
-use borrow.Author.Rules.{rules}
 use Rattle.plan.specs.Plan.{plan_channels}
-use Rattle.channel_fields.proofs.PlaceLaws.{Placing, placing_start, placing_found, placing_more, placing_other, placing_end}
+use Rattle.channel_fields.proofs.PlaceLaws.{placing_start, placing_found, placing_more, placing_other, placing_end}
 use Rattle.channel_fields.proofs.place_of.Goals.{then-receiver_of-node+else-sender_of-parent, else-receiver_of-node}
 use Rattle.channel_fields.proofs.place_of.Goals as goal
 

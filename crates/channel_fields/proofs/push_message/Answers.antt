@@ -3,7 +3,6 @@ use mathlib.Core.Path.{ap, ◌∙◌}
 use mathlib.Core.List.{List}
 use native.Mathlib.Omega.{arith}
 use lib.Dec.{lit<}
-use borrow.Author.Rules.{rules}
 use Rattle.basics.specs.Put.{put}
 use Rattle.plan.specs.Layout.{bytes_of}
 use Rattle.state.specs.Sizes.{block_at, count_size, queue_at, message_size}

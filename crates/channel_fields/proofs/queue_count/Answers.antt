@@ -1,4 +1,3 @@
-use borrow.Author.Rules.{rules}
 use mathlib.Core.Path.{◌∙◌}
 use Rattle.channel_fields.proofs.LaneReads.{queue_word, queue_few}
 use Rattle.channel_fields.proofs.queue_count.Goals as goal

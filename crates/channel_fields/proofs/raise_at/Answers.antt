@@ -1,6 +1,5 @@
 use mathlib.Core.Path.{◌∙◌}
 use native.Mathlib.Omega.{arith}
-use borrow.Author.Rules.{rules}
 use Rattle.channel_fields.proofs.LaneReads.{heard_four, heard_word}
 use Rattle.channel_fields.proofs.LaneWrites.{heard_raised, heard_left}
 use Rattle.channel_fields.proofs.raise_at.Goals as goal

@@ -1,6 +1,5 @@
 use mathlib.Core.Path.{sym, subst}
 use native.Mathlib.Omega.{arith}
-use borrow.Author.Rules.{rules}
 use Rattle.rules.specs.Line.{Lane, with_lane}
 use Rattle.state.specs.State.{line_of}
 use Rattle.buffer.specs.Holds.{Holds}

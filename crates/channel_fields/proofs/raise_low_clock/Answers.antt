@@ -1,7 +1,6 @@
 use Prim.Native.Nat.{ℕ, max}
 use mathlib.Core.Path.{ap, ◌∙◌}
 use native.Mathlib.Omega.{arith}
-use borrow.Author.Rules.{rules}
 use Rattle.channel_fields.proofs.LaneReads.{low_five, low_word}
 use Rattle.channel_fields.proofs.LaneWrites.{low_raised}
 use Rattle.channel_fields.proofs.raise_low_clock.Goals as goal

@@ -1,5 +1,4 @@
 use native.Mathlib.Omega.{arith}
-use borrow.Author.Rules.{rules}
 use Rattle.channel_fields.proofs.LaneWrites.{taken_raised, taken_left}
 use Rattle.channel_fields.proofs.raise_taken.Goals as goal
 

@@ -1,5 +1,4 @@
 use native.Mathlib.Omega.{arith}
-use borrow.Author.Rules.{rules}
 use Rattle.channel_fields.proofs.LaneWrites.{mark-put}
 use Rattle.channel_fields.proofs.set_mark.Goals as goal
 

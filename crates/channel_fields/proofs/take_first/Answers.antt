@@ -1,4 +1,3 @@
-use borrow.Author.Rules.{rules}
 use Rattle.slots.specs.Slots.{message_is}
 use Rattle.channel_fields.proofs.TakeLaws.{heard_on, taken-whole}
 use Rattle.channel_fields.proofs.take_first.Goals as goal

@@ -1,4 +1,3 @@
-use borrow.Author.Rules.{rules}
 use mathlib.Core.Path.{◌∙◌}
 use Rattle.channel_fields.proofs.LaneReads.{taken_word}
 use Rattle.channel_fields.proofs.taken_of.Goals as goal

@@ -1,4 +1,3 @@
-use borrow.Author.Rules.{rules}
 use Rattle.rules.specs.Frame.{bad_kind}
 use Rattle.frame.proofs.bad_kind.Goals as goal
 

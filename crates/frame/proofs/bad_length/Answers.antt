@@ -1,6 +1,5 @@
 use lib.ListN.{length}
 use borrow.Author.Tests.{lt-ltb, le-ltb}
-use borrow.Author.Rules.{rules}
 use Rattle.rules.specs.Frame.{bad_frame_length}
 use Rattle.frame.proofs.FrameLaws.{size_field}
 use Rattle.frame.proofs.bad_length.Goals as goal

@@ -1,5 +1,4 @@
 use mathlib.Core.Path.{refl, sym, ◌∙◌}
-use borrow.Author.Rules.{rules}
 use lib.ListN.{drop}
 use Rattle.plan.proofs.BytesLaws.{bytes_known}
 use Rattle.buffer.proofs.OriginLaws.{record_tested}

@@ -1,5 +1,4 @@
 use mathlib.Core.Path.{◌∙◌}
-use borrow.Author.Rules.{rules}
 use Rattle.frame.proofs.FrameLaws.{kind_field}
 use Rattle.frame.proofs.kind_of.Goals as goal
 

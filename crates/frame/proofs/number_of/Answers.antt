@@ -1,6 +1,5 @@
 use Prim.Native.Nat.{◌+◌}
 use mathlib.Core.Path.{◌∙◌}
-use borrow.Author.Rules.{rules}
 use Rattle.plan.proofs.ReadLaws.{byte_field}
 use Rattle.frame.proofs.number_of.Goals as goal
 

@@ -1,6 +1,5 @@
 use mathlib.Core.Path.{refl, sym, ◌∙◌}
 use native.Mathlib.Omega.{arith}
-use borrow.Author.Rules.{rules}
 use Rattle.plan.proofs.ReadLaws.{byte_field}
 use Rattle.frame.proofs.FrameLaws.{by_tests, long_enough, version_one, version_two, version_unknown}
 use Rattle.frame.proofs.read.Goals as goal

@@ -1,6 +1,5 @@
 use mathlib.Core.Path.{refl, sym, ◌∙◌}
 use native.Mathlib.Omega.{arith}
-use borrow.Author.Rules.{rules}
 use Rattle.frame.proofs.FrameLaws.{by_kind, by_tests, kind_long, console_above, console_there}
 use Rattle.frame.proofs.read_from.Goals as goal
 

@@ -1,5 +1,4 @@
 use mathlib.Core.Path.{◌∙◌}
-use borrow.Author.Rules.{rules}
 use Rattle.frame.proofs.FrameLaws.{version_field}
 use Rattle.frame.proofs.version_of.Goals as goal
 

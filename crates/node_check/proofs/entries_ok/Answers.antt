@@ -2,13 +2,12 @@ use Prim.Native.Nat.{ℕ, suc, ◌+◌, ◌-◌}
 use mathlib.Core.Path.{◌≡◌, refl, sym, ap, ◌∙◌}
 use mathlib.Core.Bool.{true}
 use native.Mathlib.Omega.{arith}
-use borrow.Author.Tests.{not-true, not-false}
-use lib.ListN.{length, get_or}
+use lib.ListN.{get_or}
 use Rattle.plan.specs.Plan.{plan_of}
 use Rattle.items.specs.Items.{is_inner}
 use Rattle.node_check.specs.NodeCheck.{log_pass}
-use Rattle.state.specs.Sizes.{page_at, log_at, count_size, entry_size}
-use Rattle.node_check.proofs.NodeLaws.{Going, page_room, time_in, later_fits, entry_unmade, entry_more, log_whole}
+use Rattle.state.specs.Sizes.{page_at, log_at, count_size}
+use Rattle.node_check.proofs.NodeLaws.{page_room, time_in, later_fits, entry_unmade, entry_more, log_whole}
 use Rattle.node_check.proofs.entries_ok.Goals as goal
 
 pub overflow_add-at : goal.overflow_add-at

@@ -1,14 +1,8 @@
-use Prim.Native.Nat.{ℕ, suc, ◌+◌, ◌-◌}
-use mathlib.Core.Path.{◌≡◌, refl, sym, ap, ◌∙◌}
-use mathlib.Core.Bool.{true}
-use native.Mathlib.Omega.{arith}
-use borrow.Author.Tests.{not-true, not-false}
-use lib.ListN.{length, get_or}
-use Rattle.plan.specs.Plan.{plan_of}
-use Rattle.items.specs.Items.{is_inner}
+use Prim.Native.Nat.{◌+◌}
+use lib.ListN.{length}
 use Rattle.node_check.specs.NodeCheck.{log_pass}
 use Rattle.state.specs.Sizes.{page_at, log_at, count_size, entry_size}
-use Rattle.node_check.proofs.NodeLaws.{Going, page_room, time_in, later_fits, entry_unmade, entry_more, log_whole}
+use Rattle.node_check.proofs.NodeLaws.{Going}
 use Rattle.node_check.proofs.entries_ok.Given as goal
 
 abbrev pub invariant-loop-left : goal.invariant-loop-left

@@ -2,14 +2,10 @@ use Prim.Native.Nat.{ℕ, suc, ◌-◌}
 use mathlib.Core.Path.{◌≡◌, refl, sym, ap, ◌∙◌}
 use mathlib.Core.Bool.{not, ◌||◌}
 use native.Mathlib.Omega.{arith}
-use borrow.Author.Rules.{rules}
-use borrow.Author.Tests.{not-true, not-false}
-use lib.ListN.{length}
 use Rattle.plan.specs.Plan.{plan_of}
-use Rattle.state.specs.Sizes.{entry_size}
 use Rattle.items.specs.Items.{is_inner}
 use Rattle.node_check.specs.NodeCheck.{log_pass}
-use Rattle.node_check.proofs.NodeLaws.{Going, entry_bare, entry_unmade, entry_more}
+use Rattle.node_check.proofs.NodeLaws.{entry_bare, entry_unmade, entry_more}
 use Rattle.node_check.proofs.entries_on.Goals.{After-is_sink-sink}
 use Rattle.node_check.proofs.entries_on.Goals as goal
 

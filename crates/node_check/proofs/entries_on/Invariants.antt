@@ -1,15 +1,7 @@
-use Prim.Native.Nat.{ℕ, suc, ◌-◌}
-use mathlib.Core.Path.{◌≡◌, refl, sym, ap, ◌∙◌}
-use mathlib.Core.Bool.{not, ◌||◌}
-use native.Mathlib.Omega.{arith}
-use borrow.Author.Rules.{rules}
-use borrow.Author.Tests.{not-true, not-false}
 use lib.ListN.{length}
-use Rattle.plan.specs.Plan.{plan_of}
 use Rattle.state.specs.Sizes.{entry_size}
-use Rattle.items.specs.Items.{is_inner}
 use Rattle.node_check.specs.NodeCheck.{log_pass}
-use Rattle.node_check.proofs.NodeLaws.{Going, entry_bare, entry_unmade, entry_more}
+use Rattle.node_check.proofs.NodeLaws.{Going}
 use Rattle.node_check.proofs.entries_on.Given as goal
 
 abbrev pub invariant-loop-left : goal.invariant-loop-left

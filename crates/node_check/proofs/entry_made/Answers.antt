@@ -1,5 +1,4 @@
 use mathlib.Core.Path.{◌∙◌}
-use borrow.Author.Rules.{rules}
 use Rattle.node_check.proofs.PieceBytes.{entry_made_lem}
 use Rattle.node_check.proofs.entry_made.Goals as goal
 

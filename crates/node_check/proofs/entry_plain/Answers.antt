@@ -1,5 +1,4 @@
 use native.Mathlib.Omega.{arith}
-use borrow.Author.Rules.{rules}
 use Rattle.node_check.proofs.PieceBytes.{entry_plain_lem}
 use Rattle.node_check.proofs.entry_plain.Goals as goal
 

@@ -1,4 +1,3 @@
-use borrow.Author.Rules.{rules}
 use Rattle.node_check.proofs.NodeLaws.{head_tested}
 use Rattle.node_check.proofs.head_ok.Goals as goal
 

@@ -1,12 +1,10 @@
 use Prim.Native.Nat.{ℕ, suc, ◌+◌, ◌-◌}
 use mathlib.Core.Path.{◌≡◌, refl, sym, ap, ◌∙◌}
 use native.Mathlib.Omega.{arith}
-use borrow.Author.Tests.{not-true, not-false}
-use borrow.Author.Rules.{rules}
 use lib.ListN.{length, length-set}
-use Rattle.state.specs.Sizes.{page_at, held_at, count_size, held_size}
+use Rattle.state.specs.Sizes.{page_at, held_at, count_size}
 use Rattle.items.specs.Items.{none_held}
-use Rattle.node_check.proofs.NodeLaws.{Going, page_room, held_pass, held_bare, held_unmade, held_more, held_whole}
+use Rattle.node_check.proofs.NodeLaws.{page_room, held_pass, held_bare, held_unmade, held_more, held_whole}
 use Rattle.node_check.proofs.held_each_ok.Goals as goal
 
 pub returns-then-count-eq0 : goal.returns-then-count-eq0

@@ -1,12 +1,9 @@
-use Prim.Native.Nat.{ℕ, suc, ◌+◌, ◌-◌}
-use mathlib.Core.Path.{◌≡◌, refl, sym, ap, ◌∙◌}
-use native.Mathlib.Omega.{arith}
-use borrow.Author.Tests.{not-true, not-false}
-use borrow.Author.Rules.{rules}
-use lib.ListN.{length, length-set}
+use Prim.Native.Nat.{◌+◌}
+use mathlib.Core.Path.{◌≡◌}
+use lib.ListN.{length}
 use Rattle.state.specs.Sizes.{page_at, held_at, count_size, held_size}
 use Rattle.items.specs.Items.{none_held}
-use Rattle.node_check.proofs.NodeLaws.{Going, page_room, held_pass, held_bare, held_unmade, held_more, held_whole}
+use Rattle.node_check.proofs.NodeLaws.{Going, held_pass}
 use Rattle.node_check.proofs.held_each_ok.Given as goal
 
 abbrev pub invariant-loop-left : goal.invariant-loop-left

@@ -1,5 +1,4 @@
 use mathlib.Core.Path.{◌∙◌}
-use borrow.Author.Rules.{rules}
 use Rattle.node_check.proofs.PieceBytes.{held_made_lem}
 use Rattle.node_check.proofs.held_made.Goals as goal
 

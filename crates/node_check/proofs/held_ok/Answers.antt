@@ -1,7 +1,6 @@
 use Prim.Native.Nat.{ℕ, ◌+◌, ◌*◌, ◌-◌}
 use mathlib.Core.Path.{◌≡◌, sym, ◌∙◌}
 use native.Mathlib.Omega.{arith}
-use borrow.Author.Rules.{rules}
 use Rattle.rules.specs.Line.{held_limit, node_at}
 use Rattle.state.specs.Sizes.{page_at, count_size, held_at, held_size}
 use Rattle.state.specs.State.{line_of}

@@ -1,4 +1,3 @@
-use borrow.Author.Rules.{rules}
 use Rattle.node_check.proofs.PieceBytes.{held_plain_lem}
 use Rattle.node_check.proofs.held_plain.Goals as goal
 

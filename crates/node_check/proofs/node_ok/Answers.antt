@@ -1,7 +1,6 @@
 use Prim.Native.Nat.{ℕ, ◌+◌, ◌*◌}
 use mathlib.Core.Path.{◌≡◌, ap, ◌∙◌}
 use native.Mathlib.Omega.{arith}
-use borrow.Author.Rules.{rules}
 use Rattle.state.specs.Sizes.{page_at}
 use Rattle.node_check.specs.NodeCheck.{PageOf, page_end_exact}
 use Rattle.node_check.proofs.NodeLaws.{head_node, node_tested}

@@ -1,6 +1,5 @@
 use mathlib.Core.Path.{ap, ◌∙◌}
 use native.Mathlib.Omega.{arith}
-use borrow.Author.Rules.{rules}
 use Rattle.plan.specs.declared.Record.{Record}
 use Rattle.plan.specs.Plan.{plan_of}
 use Rattle.plan.specs.Mask.{some_takes}

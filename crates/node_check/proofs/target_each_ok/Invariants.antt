@@ -1,11 +1,7 @@
-use Prim.Native.Nat.{ℕ, suc, ◌+◌, ◌-◌}
-use mathlib.Core.Path.{◌≡◌, refl, sym, ap, ◌∙◌}
-use mathlib.Core.Bool.{Bool, ◌&&◌}
-use native.Mathlib.Omega.{arith}
-use borrow.Author.Tests.{not-true, not-false}
+use Prim.Native.Nat.{◌+◌}
 use lib.ListN.{length}
 use Rattle.state.specs.Sizes.{page_at, targets_at, count_size, target_size}
-use Rattle.node_check.proofs.NodeLaws.{Going, page_room, target_pass, target_more, target-whole}
+use Rattle.node_check.proofs.NodeLaws.{Going, target_pass}
 use Rattle.node_check.proofs.target_each_ok.Given as goal
 
 abbrev pub invariant-loop-left : goal.invariant-loop-left

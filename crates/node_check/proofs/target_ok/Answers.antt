@@ -1,4 +1,3 @@
-use borrow.Author.Rules.{rules}
 use mathlib.Core.Bool.{not}
 use lib.Dec.{eqb}
 use Rattle.state.specs.State.{line_of}

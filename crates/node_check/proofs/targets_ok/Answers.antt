@@ -1,7 +1,6 @@
 use Prim.Native.Nat.{ℕ, ◌+◌, ◌*◌, ◌-◌}
 use mathlib.Core.Path.{◌≡◌, sym, ◌∙◌}
 use native.Mathlib.Omega.{arith}
-use borrow.Author.Rules.{rules}
 use Rattle.rules.specs.Lists.{all_of}
 use Rattle.rules.specs.Line.{target_limit, node_at}
 use Rattle.state.specs.Sizes.{page_at, count_size, targets_at, target_size}

@@ -8,7 +8,6 @@ use Rattle.state.proofs.PieceLaws.{from_fits}
 use Rattle.slots.specs.Slots.{entry_is}
 use Rattle.buffer.proofs.HoldsLaws.{node_log_counted}
 use Rattle.node_fields.proofs.FieldLaws.{entry_more}
-use borrow.Author.Rules.{rules}
 use Rattle.node_fields.proofs.append_entry.Goals as goal
 
 pub overflow_add-count : goal.overflow_add-count

@@ -8,7 +8,6 @@ use Rattle.state.proofs.PieceLaws.{from_fits}
 use Rattle.slots.specs.Slots.{held_is}
 use Rattle.buffer.proofs.HoldsLaws.{node_held_counted}
 use Rattle.node_fields.proofs.FieldLaws.{held_more}
-use borrow.Author.Rules.{rules}
 use Rattle.node_fields.proofs.append_held.Goals as goal
 
 pub overflow_add-count : goal.overflow_add-count

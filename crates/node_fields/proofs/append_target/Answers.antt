@@ -6,7 +6,6 @@ use Rattle.state.specs.State.{line_of}
 use Rattle.slots.specs.Slots.{target_is}
 use Rattle.buffer.proofs.HoldsLaws.{node_targets_counted}
 use Rattle.node_fields.proofs.FieldLaws.{target_more}
-use borrow.Author.Rules.{rules}
 use Rattle.node_fields.proofs.append_target.Goals as goal
 
 pub overflow_add-count : goal.overflow_add-count

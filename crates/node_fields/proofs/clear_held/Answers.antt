@@ -2,7 +2,6 @@ use Prim.Native.Nat.{ℕ, ◌+◌, ◌*◌}
 use mathlib.Core.Path.{ap}
 use Rattle.state.specs.Sizes.{count_size, page_at, held_at, held_size}
 use Rattle.node_fields.proofs.FieldLaws.{held-cleared}
-use borrow.Author.Rules.{rules}
 use Rattle.node_fields.proofs.clear_held.Goals as goal
 
 pub returns : goal.returns

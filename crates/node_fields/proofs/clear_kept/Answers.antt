@@ -1,7 +1,6 @@
 use Prim.Native.Nat.{◌+◌, ◌*◌}
 use native.Mathlib.Omega.{arith}
 use Rattle.node_fields.proofs.FieldLaws.{kept_cleared}
-use borrow.Author.Rules.{rules}
 use Rattle.node_fields.proofs.clear_kept.Goals as goal
 
 pub returns : goal.returns

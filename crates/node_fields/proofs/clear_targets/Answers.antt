@@ -2,7 +2,6 @@ use Prim.Native.Nat.{ℕ, ◌+◌, ◌*◌}
 use mathlib.Core.Path.{ap}
 use Rattle.state.specs.Sizes.{count_size, page_at, targets_at, target_size}
 use Rattle.node_fields.proofs.FieldLaws.{targets_cleared}
-use borrow.Author.Rules.{rules}
 use Rattle.node_fields.proofs.clear_targets.Goals as goal
 
 pub returns : goal.returns

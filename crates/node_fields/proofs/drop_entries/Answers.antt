@@ -1,7 +1,6 @@
 use Prim.Native.Nat.{ℕ, ◌-◌}
 use mathlib.Core.Path.{ap}
 use Rattle.node_fields.proofs.FieldLaws.{log_gone}
-use borrow.Author.Rules.{rules}
 use Rattle.node_fields.proofs.drop_entries.Goals as goal
 
 pub returns : goal.returns

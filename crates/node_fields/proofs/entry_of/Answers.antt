@@ -3,7 +3,6 @@ use native.Mathlib.Omega.{arith}
 use Rattle.buffer.specs.Nothing.{no_entry}
 use Rattle.buffer.proofs.HoldsLaws.{node_fits}
 use Rattle.node_fields.proofs.FieldLaws.{log_read}
-use borrow.Author.Rules.{rules}
 use Rattle.node_fields.proofs.entry_of.Goals as goal
 
 pub overflow_mul-i : goal.overflow_mul-i

@@ -1,7 +1,6 @@
 use mathlib.Core.Path.{sym, ap}
 use mathlib.Core.Bool.{not}
 use Rattle.buffer.proofs.ReadyLaws.{kept_counted}
-use borrow.Author.Rules.{rules}
 use Rattle.node_fields.proofs.has_kept.Goals as goal
 
 pub returns : goal.returns

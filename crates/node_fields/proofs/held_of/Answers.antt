@@ -3,7 +3,6 @@ use native.Mathlib.Omega.{arith}
 use Rattle.buffer.specs.Nothing.{no_held}
 use Rattle.buffer.proofs.HoldsLaws.{node_fits}
 use Rattle.node_fields.proofs.FieldLaws.{held_read}
-use borrow.Author.Rules.{rules}
 use Rattle.node_fields.proofs.held_of.Goals as goal
 
 pub overflow_mul-i : goal.overflow_mul-i

@@ -1,9 +1,6 @@
-use Prim.Native.Nat.{ℕ, ◌+◌, ◌*◌}
-use mathlib.Core.Path.{◌≡◌, sym, ap, ◌∙◌}
-use native.Mathlib.Omega.{arith}
+use mathlib.Core.Path.{sym, ◌∙◌}
 use Rattle.state.proofs.OffsetLaws.{line_kept_number}
 use Rattle.buffer.proofs.ReadyLaws.{counted}
-use borrow.Author.Rules.{rules}
 use Rattle.node_fields.proofs.kept_number.Goals as goal
 
 pub returns : goal.returns

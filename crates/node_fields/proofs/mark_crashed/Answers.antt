@@ -1,6 +1,5 @@
 use mathlib.Core.Bool.{true}
 use Rattle.node_fields.proofs.FieldLaws.{crash_written}
-use borrow.Author.Rules.{rules}
 use Rattle.node_fields.proofs.mark_crashed.Goals as goal
 
 pub returns : goal.returns

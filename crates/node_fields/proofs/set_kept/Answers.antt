@@ -3,7 +3,6 @@ use mathlib.Core.Path.{refl}
 use mathlib.Core.List.{[], ◌∷◌}
 use native.Mathlib.Omega.{arith}
 use Rattle.node_fields.proofs.FieldLaws.{kept_put}
-use borrow.Author.Rules.{rules}
 use Rattle.node_fields.proofs.set_kept.Goals as goal
 
 pub returns : goal.returns

@@ -5,7 +5,6 @@ use Rattle.plan.specs.Layout.{bytes_of}
 use Rattle.state.specs.Sizes.{page_at}
 use Rattle.state.specs.Node.{status_of}
 use Rattle.node_fields.proofs.FieldLaws.{status_number_lem, status_written}
-use borrow.Author.Rules.{rules}
 use Rattle.node_fields.proofs.set_status.Goals as goal
 
 pub returns : goal.returns

@@ -1,6 +1,5 @@
 use native.Mathlib.Omega.{arith}
 use Rattle.node_fields.proofs.FieldLaws.{time_written}
-use borrow.Author.Rules.{rules}
 use Rattle.node_fields.proofs.set_time.Goals as goal
 
 pub returns : goal.returns

@@ -4,7 +4,6 @@ use lib.ListN.{length}
 use Rattle.rules.specs.Line.{node_at}
 use Rattle.state.specs.State.{line_of}
 use Rattle.buffer.proofs.HoldsLaws.{node_fits, node_targets_counted}
-use borrow.Author.Rules.{rules}
 use Rattle.node_fields.proofs.target_count.Goals as goal
 
 pub returns : goal.returns

@@ -1,7 +1,6 @@
 use mathlib.Core.Path.{sym, ◌∙◌}
 use Rattle.state.proofs.OffsetLaws.{line_time}
 use Rattle.buffer.proofs.ReadyLaws.{counted}
-use borrow.Author.Rules.{rules}
 use Rattle.node_fields.proofs.time_of.Goals as goal
 
 pub returns : goal.returns

@@ -1,4 +1,3 @@
-use borrow.Author.Rules.{rules}
 use Rattle.state.proofs.InPlace.{line-plan}
 use Rattle.passing.proofs.end_down.Goals as goal
 

@@ -4,8 +4,6 @@ use mathlib.Core.Bool.{true}
 use mathlib.Core.List.{List}
 use native.Mathlib.Numerals.{add-one}
 use native.Mathlib.Omega.{arith}
-use borrow.Author.Rules.{rules}
-use borrow.Author.Tests.{not-true, not-false}
 use Rattle.plan.specs.Record.{record_layout, record_fits}
 use Rattle.plan.specs.Plan.{plan_of, plan_nodes, is_source}
 use Rattle.plan.specs.Mask.{set_of}

@@ -1,8 +1,5 @@
-use Prim.Native.Nat.{◌≤◌, ◌<◌}
 use native.Mathlib.Omega.{arith}
-use lib.ListN.{length, drop}
-use Rattle.plan.specs.Lawful.{Each}
-use Rattle.rules.specs.Line.{Entry, node_at}
+use Rattle.rules.specs.Line.{node_at}
 use Rattle.state.specs.State.{line_of}
 use Rattle.slots.specs.Slots.{entry_is}
 use Rattle.passing.proofs.StateLaws.{at-node, log_rising}

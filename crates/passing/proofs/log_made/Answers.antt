@@ -1,5 +1,4 @@
 use mathlib.Core.Path.{subst}
-use borrow.Author.Rules.{rules}
 use Rattle.rules.specs.Line.{Node, node_at, with_node}
 use Rattle.state.specs.State.{line_of}
 use Rattle.slots.specs.Slots.{origin_is}

@@ -1,7 +1,6 @@
 use Prim.Native.Nat.{ℕ, suc}
 use mathlib.Core.Path.{◌≡◌, ap, sym, ◌∙◌}
 use mathlib.Core.Bool.{Bool, cond}
-use borrow.Author.Rules.{rules}
 use Rattle.plan.specs.Plan.{Plan}
 use Rattle.plan.specs.Mask.{set_of}
 use Rattle.rules.specs.Line.{node_at}

@@ -1,4 +1,3 @@
-use borrow.Author.Rules.{rules}
 use Rattle.plan.specs.Plan.{plan_of}
 use Rattle.state.proofs.InPlace.{line-plan}
 use Rattle.passing.proofs.StateLaws.{rule_same}

@@ -1,4 +1,3 @@
-use borrow.Author.Rules.{rules}
 use Rattle.rules.specs.Line.{lane_at}
 use Rattle.state.specs.State.{line_of}
 use Rattle.slots.specs.Slots.{entry_is}

@@ -1,7 +1,6 @@
 use mathlib.Core.Path.{ap, ◌∙◌}
 use mathlib.Core.Bool.{not, ◌&&◌}
 use lib.ListN.{length}
-use borrow.Author.Rules.{rules}
 use Rattle.state.specs.State.{line_of}
 use Rattle.recover.proofs.ListedLaws.{answer_four}
 use Rattle.recover.proofs.KeptLaws.{answer_as}

@@ -1,5 +1,4 @@
 use mathlib.Core.Path.{refl, ◌∙◌}
-use borrow.Author.Rules.{rules}
 use Rattle.state.specs.State.{line_of}
 use Rattle.recover.proofs.RestoredLaws.{rows_none}
 use Rattle.recover.proofs.KeptLaws.{answer-many, answer_few}

@@ -1,6 +1,5 @@
 use mathlib.Core.Path.{sym, ap, ◌∙◌}
 use mathlib.Core.Bool.{not, not-not}
-use borrow.Author.Rules.{rules}
 use Rattle.rules.specs.Line.{node_at}
 use Rattle.rules.specs.Step.{is_nothing}
 use Rattle.state.specs.State.{line_of}

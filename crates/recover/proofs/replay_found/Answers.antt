@@ -1,5 +1,4 @@
 use mathlib.Core.Bool.{not, ◌&&◌}
-use borrow.Author.Rules.{rules}
 use lib.Dec.{eqb}
 use Rattle.recover.specs.Found.{targets_in}
 use Rattle.recover.proofs.RestoredLaws.{rows_none}

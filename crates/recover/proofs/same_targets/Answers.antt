@@ -1,7 +1,6 @@
-use Prim.Native.Nat.{ℕ, ◌+◌, ◌*◌, ◌-◌}
+use Prim.Native.Nat.{ℕ, ◌+◌, ◌*◌}
 use mathlib.Core.Path.{◌≡◌, refl, sym, ap, ◌∙◌}
 use native.Mathlib.Omega.{arith}
-use borrow.Author.Rules.{rules}
 use lib.ListN.{length}
 use Rattle.rules.specs.Line.{node_at}
 use Rattle.state.specs.Sizes.{page_at, targets_at}
@@ -11,7 +10,7 @@ use Rattle.buffer.specs.Nothing.{no_target}
 use Rattle.slots.specs.Slots.{target_is}
 use Rattle.recover.specs.Found.{targets_in}
 use Rattle.recover.proofs.TargetLaws.{targets_length, targets_at_lem}
-use Rattle.recover.proofs.ReplayLaws.{stored_count, sizes_differ, Matching, matching_turn, matching_end}
+use Rattle.recover.proofs.ReplayLaws.{stored_count, sizes_differ, matching_turn, matching_end}
 use Rattle.recover.proofs.same_targets.Goals as goal
 
 pub returns-then-stored-count : goal.returns-then-stored-count

@@ -1,7 +1,6 @@
 use Prim.Native.Nat.{◌+◌, ◌*◌}
 use mathlib.Core.Path.{◌≡◌, ◌∙◌}
 use native.Mathlib.Omega.{arith}
-use borrow.Author.Rules.{rules}
 use Rattle.state.specs.Sizes.{count_size, target_size, page_at, targets_at}
 use Rattle.recover.proofs.ReplayLaws.{stored_at}
 use Rattle.recover.proofs.stored_goal.Goals as goal

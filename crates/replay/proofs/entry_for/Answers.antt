@@ -1,6 +1,5 @@
 use Prim.Native.Nat.{ℕ, ◌<◌}
 use mathlib.Core.Path.{◌≡◌, sym, ap, ◌∙◌}
-use mathlib.Core.Logic.{⊎_elim}
 use mathlib.Core.List.{List, [], ◌∷◌, ◌++◌}
 use native.Mathlib.Omega.{arith}
 use lib.ListN.{length, get_or, get_or-append}
@@ -29,12 +28,12 @@ found c =
     let last : Held = held_is a.last in
     elim c.if-number-held_count.branch [
       | then-number-held_count w ↦
-        (let below : a.number < length hs = omega (arith, w.if-number-held_count.true, count) in
-        let is = ap held_is w.h-is ∙ w.held_of-h.ensures in
-        (is ∙ sym (get_or-append hs (last ∷ []) no_held a.number below), rw (ap (λ (h : Held). h.sender) is) (c.requires.4 a.number below)))
+          (let below : a.number < length hs = omega (arith, w.if-number-held_count.true, count) in
+          let is = ap held_is w.h-is ∙ w.held_of-h.ensures in
+          (is ∙ sym (get_or-append hs (last ∷ []) no_held a.number below), rw (ap (λ (h : Held). h.sender) is) (c.requires.4 a.number below)))
       | else-number-held_count w ↦
-        (let behind : a.number ≡ length hs = omega (arith, w.if-number-held_count.false, count, c.requires.2) in
-        (ap held_is w.h-is ∙ sym (ap (λ (k : ℕ). get_or (hs ++ last ∷ []) k no_held) behind ∙ get_or-append_seam hs last [] no_held), rw (ap (λ (h : Waiting). h.sender) w.h-is) c.requires.3))
+          (let behind : a.number ≡ length hs = omega (arith, w.if-number-held_count.false, count, c.requires.2) in
+          (ap held_is w.h-is ∙ sym (ap (λ (k : ℕ). get_or (hs ++ last ∷ []) k no_held) behind ∙ get_or-append_seam hs last [] no_held), rw (ap (λ (h : Waiting). h.sender) w.h-is) c.requires.3))
     ]
 
 pub returns : goal.returns

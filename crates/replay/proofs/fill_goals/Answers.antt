@@ -8,7 +8,7 @@ use Rattle.rules.specs.Recover.{row_goal}
 use Rattle.state.specs.State.{line_of}
 use Rattle.slots.specs.Slots.{target_is}
 use Rattle.buffer.specs.Rows.{Rows}
-use Rattle.replay.proofs.RowLaws.{GoalsFrom, goals_turn}
+use Rattle.replay.proofs.RowLaws.{goals_turn}
 use Rattle.replay.proofs.fill_goals.Goals as goal
 
 pub loop-left-init : goal.loop-left-init

@@ -1,5 +1,4 @@
 use native.Mathlib.Omega.{arith}
-use borrow.Author.Rules.{rules}
 use Rattle.replay.proofs.RecordLaws.{enters_none, set-counts}
 use Rattle.replay.proofs.goes_on.Goals as goal
 

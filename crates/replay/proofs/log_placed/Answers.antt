@@ -1,4 +1,4 @@
-use Prim.Native.Nat.{ℕ, ◌+◌, ◌-◌}
+use Prim.Native.Nat.{ℕ, ◌+◌}
 use mathlib.Core.Path.{◌≡◌, ap, subst, ◌∙◌}
 use mathlib.Core.List.{[], ◌∷◌, ◌++◌}
 use native.Mathlib.Omega.{arith}
@@ -13,7 +13,7 @@ use Rattle.buffer.specs.Holds.{NodeNow}
 use Rattle.slots.specs.Slots.{held_is, entry_is}
 use Rattle.replay.specs.After.{end_log}
 use Rattle.replay.proofs.RecordLaws.{enters_none}
-use Rattle.replay.proofs.LeftLaws.{LoggedTo, logged_start, logged_begin, logged_few, logged-number, logged_senders, logged_turn}
+use Rattle.replay.proofs.LeftLaws.{logged_start, logged_begin, logged_few, logged-number, logged_senders, logged_turn}
 use Rattle.replay.proofs.log_placed.Goals as goal
 
 pub loop-j-init : goal.loop-j-init

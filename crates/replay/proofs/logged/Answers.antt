@@ -1,7 +1,6 @@
 use Prim.Native.Nat.{ℕ}
 use mathlib.Core.Path.{ap}
 use native.Mathlib.Numerals.{add-one}
-use native.Mathlib.Omega.{arith}
 use Rattle.rules.specs.Line.{Entry}
 use Rattle.state.specs.Pieces.{origin_from}
 use Rattle.slots.specs.Slots.{origin_is}

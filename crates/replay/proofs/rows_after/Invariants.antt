@@ -1,15 +1,10 @@
-use Prim.Native.Nat.{ℕ, ◌+◌, ◌-◌, ◌≤◌, ◌<◌}
-use mathlib.Core.Path.{◌≡◌, sym, ap, ◌∙◌}
-use mathlib.Core.Bool.{Bool, true, false, ◌&&◌}
+use Prim.Native.Nat.{ℕ, ◌-◌, ◌≤◌}
+use mathlib.Core.Path.{◌≡◌}
 use mathlib.Core.List.{List}
-use native.Mathlib.Omega.{arith}
-use borrow.Author.Tests.{not-true, not-false}
-use Rattle.plan.specs.Plan.{plan_channels, channel_count}
-use Rattle.plan.proofs.PlanLaws.{channel_count_lem}
+use Rattle.plan.specs.Plan.{plan_channels}
 use Rattle.state.specs.State.{line_of}
-use Rattle.state.proofs.InPlace.{line-plan}
 use Rattle.replay.specs.After.{row_after, rows_after}
-use Rattle.replay.proofs.RowLaws.{row_asked, all_from, all_turn, all_end, all_start}
+use Rattle.replay.proofs.RowLaws.{all_from}
 use Rattle.replay.proofs.rows_after.Given as goal
 
 -- All rows, by those left: the ones before are complete.

@@ -1,6 +1,4 @@
 use mathlib.Core.Path.{refl, sym, ap, ◌∙◌}
-use borrow.Author.Rules.{rules}
-use borrow.Author.Tests.{not-true, not-false}
 use Rattle.rules.specs.Step.{replaying}
 use Rattle.state.specs.State.{line_of}
 use Rattle.replay.proofs.AnswerLaws.{enters, space_left, few_held, held_on, not_placed, loggable, ended}

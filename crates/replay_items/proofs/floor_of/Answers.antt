@@ -2,7 +2,7 @@ use native.Mathlib.Omega.{arith}
 use lib.Pow.{pow_pos}
 use Rattle.plan.specs.Plan.{plan_channels}
 use Rattle.buffer.proofs.MaskWalk.{next}
-use Rattle.replay_items.proofs.ItemLaws.{FloorTo, floor_start, floor_turn, floor_end}
+use Rattle.replay_items.proofs.ItemLaws.{floor_start, floor_turn, floor_end}
 use Rattle.replay_items.proofs.floor_of.Goals as goal
 
 pub loop-left-init : goal.loop-left-init

@@ -1,8 +1,4 @@
-use native.Mathlib.Omega.{arith}
-use lib.Pow.{pow_pos}
-use Rattle.plan.specs.Plan.{plan_channels}
-use Rattle.buffer.proofs.MaskWalk.{next}
-use Rattle.replay_items.proofs.ItemLaws.{FloorTo, floor_start, floor_turn, floor_end}
+use Rattle.replay_items.proofs.ItemLaws.{FloorTo}
 use Rattle.replay_items.proofs.floor_of.Given as goal
 
 abbrev pub invariant-loop-left : goal.invariant-loop-left

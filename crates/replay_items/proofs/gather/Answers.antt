@@ -1,11 +1,10 @@
 use mathlib.Core.Path.{refl, ◌∙◌}
 use native.Mathlib.Omega.{arith}
-use borrow.Author.Rules.{rules}
 use lib.Pow.{pow_pos}
 use Rattle.plan.specs.Plan.{plan_channels}
 use Rattle.replay_items.specs.Items.{held_by}
 use Rattle.buffer.proofs.MaskWalk.{next}
-use Rattle.replay_items.proofs.TableLaws.{sender_same, RowsTo, rows_start, rows_room, rows_turn, rows_end}
+use Rattle.replay_items.proofs.TableLaws.{sender_same, rows_start, rows_room, rows_turn, rows_end}
 use Rattle.replay_items.proofs.gather.Goals as goal
 
 pub loop-left-init : goal.loop-left-init

@@ -1,11 +1,10 @@
-use Prim.Native.Nat.{◌-◌, ◌<◌}
+use Prim.Native.Nat.{◌<◌}
 use native.Mathlib.Omega.{arith}
-use borrow.Author.Rules.{rules}
 use lib.ListN.{length}
 use Rattle.state.specs.State.{line_of}
 use Rattle.replay_items.specs.Items.{held_by}
 use Rattle.replay_items.proofs.ItemLaws.{held_long}
-use Rattle.replay_items.proofs.TableLaws.{RowTo, row_start, row_room, row_turn, row_end}
+use Rattle.replay_items.proofs.TableLaws.{row_start, row_room, row_turn, row_end}
 use Rattle.replay_items.proofs.gather_row.Goals as goal
 
 pub loop-i-init : goal.loop-i-init

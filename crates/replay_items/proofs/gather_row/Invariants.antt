@@ -1,11 +1,7 @@
-use Prim.Native.Nat.{◌-◌, ◌<◌}
-use native.Mathlib.Omega.{arith}
-use borrow.Author.Rules.{rules}
-use lib.ListN.{length}
+use Prim.Native.Nat.{◌-◌}
 use Rattle.state.specs.State.{line_of}
 use Rattle.replay_items.specs.Items.{held_by}
-use Rattle.replay_items.proofs.ItemLaws.{held_long}
-use Rattle.replay_items.proofs.TableLaws.{RowTo, row_start, row_room, row_turn, row_end}
+use Rattle.replay_items.proofs.TableLaws.{RowTo}
 use Rattle.replay_items.proofs.gather_row.Given as goal
 
 abbrev pub invariant-loop-i : goal.invariant-loop-i

@@ -1,4 +1,3 @@
-use Prim.Native.Nat.{◌-◌}
 use mathlib.Core.Path.{◌≡◌, sym, ap, ◌∙◌}
 use mathlib.Core.List.{map}
 use native.Mathlib.Omega.{arith}
@@ -7,8 +6,8 @@ use Rattle.rules.specs.Line.{node_at}
 use Rattle.state.specs.State.{line_of}
 use Rattle.slots.specs.Slots.{target_is}
 use Rattle.buffer.specs.Nothing.{no_target}
-use Rattle.replay_items.specs.Items.{goal_spot, goal_spots}
-use Rattle.replay_items.proofs.PairLaws.{ListedTo, listed_start, listed_turn, listed_end}
+use Rattle.replay_items.specs.Items.{goal_spot}
+use Rattle.replay_items.proofs.PairLaws.{listed_start, listed_turn, listed_end}
 use Rattle.replay_items.proofs.goal_pairs.Goals as goal
 
 pub loop-i-init : goal.loop-i-init

@@ -1,6 +1,5 @@
 use mathlib.Core.Path.{sym, ◌∙◌}
 use native.Mathlib.Omega.{arith}
-use borrow.Author.Rules.{rules}
 use Rattle.replay_items.proofs.ItemLaws.{held_stored, held_last}
 use Rattle.replay_items.proofs.held_at.Goals as goal
 

@@ -1,6 +1,5 @@
 use mathlib.Core.Path.{refl}
 use native.Mathlib.Omega.{arith}
-use borrow.Author.Rules.{rules}
 use Rattle.slots.specs.Slots.{held_is}
 use Rattle.replay_items.proofs.ItemLaws.{sought_found, sought_all}
 use Rattle.replay_items.proofs.target_place.Goals as goal

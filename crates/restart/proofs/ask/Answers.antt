@@ -1,5 +1,4 @@
 use mathlib.Core.Path.{refl, sym, ◌∙◌}
-use borrow.Author.Rules.{rules}
 use Rattle.recover.proofs.RestoredLaws.{rows_none}
 use Rattle.buffer.proofs.HoldsLaws.{node_then}
 use Rattle.restart.proofs.RecoverLaws.{ask_refused, found_on, found_inside, found_fillable, found_four, ask_done}

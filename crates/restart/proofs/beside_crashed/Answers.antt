@@ -1,11 +1,11 @@
-use Prim.Native.Nat.{◌-◌, ◌≤◌, ◌<◌}
-use mathlib.Core.Path.{◌≡◌, refl, sym, ap₂, ◌∙◌}
+use Prim.Native.Nat.{◌<◌}
+use mathlib.Core.Path.{refl, sym, ap₂, ◌∙◌}
 use mathlib.Core.Bool.{◌||◌}
 use native.Mathlib.Omega.{arith}
-use Rattle.plan.specs.Plan.{plan_channels, channel_count}
+use Rattle.plan.specs.Plan.{channel_count}
 use Rattle.state.specs.State.{line_of}
 use Rattle.buffer.proofs.ReadyLaws.{line_channels}
-use Rattle.restart.proofs.BesideLaws.{beside_to, beside_turn, beside-whole}
+use Rattle.restart.proofs.BesideLaws.{beside_turn, beside-whole}
 use Rattle.restart.proofs.beside_crashed.Goals as goal
 
 pub loop-b-init : goal.loop-b-init

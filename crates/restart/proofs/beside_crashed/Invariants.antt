@@ -1,11 +1,8 @@
-use Prim.Native.Nat.{◌-◌, ◌≤◌, ◌<◌}
-use mathlib.Core.Path.{◌≡◌, refl, sym, ap₂, ◌∙◌}
-use mathlib.Core.Bool.{◌||◌}
-use native.Mathlib.Omega.{arith}
-use Rattle.plan.specs.Plan.{plan_channels, channel_count}
+use Prim.Native.Nat.{◌-◌, ◌≤◌}
+use mathlib.Core.Path.{◌≡◌}
+use Rattle.plan.specs.Plan.{plan_channels}
 use Rattle.state.specs.State.{line_of}
-use Rattle.buffer.proofs.ReadyLaws.{line_channels}
-use Rattle.restart.proofs.BesideLaws.{beside_to, beside_turn, beside-whole}
+use Rattle.restart.proofs.BesideLaws.{beside_to}
 use Rattle.restart.proofs.beside_crashed.Given as goal
 
 abbrev pub invariant-loop-b : goal.invariant-loop-b

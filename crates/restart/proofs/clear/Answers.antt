@@ -1,4 +1,3 @@
-use borrow.Author.Rules.{rules}
 use Rattle.buffer.proofs.HoldsLaws.{lane_then}
 use Rattle.restart.proofs.clear.Goals as goal
 

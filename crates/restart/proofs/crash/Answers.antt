@@ -1,5 +1,4 @@
 use mathlib.Core.Path.{refl, sym, ◌∙◌}
-use borrow.Author.Rules.{rules}
 use Rattle.restart.proofs.CrashLaws.{crash_on, crash_refused, crash_done}
 use Rattle.restart.proofs.crash.Goals as goal
 

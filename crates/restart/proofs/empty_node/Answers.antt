@@ -1,4 +1,3 @@
-use borrow.Author.Rules.{rules}
 use Rattle.buffer.proofs.HoldsLaws.{node_then}
 use Rattle.restart.proofs.empty_node.Goals as goal
 

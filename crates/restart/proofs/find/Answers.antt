@@ -1,6 +1,5 @@
-use mathlib.Core.Path.{refl, sym, ◌∙◌}
+use mathlib.Core.Path.{sym, ◌∙◌}
 use native.Mathlib.Omega.{arith}
-use borrow.Author.Rules.{rules}
 use Rattle.restart.proofs.RecoverLaws.{logs-counted, asked_refused, restart_inside, find_full, find_none, find_some}
 use Rattle.restart.proofs.find.Goals as goal
 

@@ -1,6 +1,5 @@
 use mathlib.Core.Path.{sym, ap, ap₂, ◌∙◌}
 use mathlib.Core.Bool.{◌||◌}
-use borrow.Author.Rules.{rules}
 use Rattle.plan.specs.Plan.{Plan, is_source, is_sink}
 use Rattle.state.proofs.InPlace.{line-plan}
 use Rattle.restart.proofs.is_end.Goals as goal

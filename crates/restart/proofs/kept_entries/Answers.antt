@@ -5,7 +5,7 @@ use lib.Seq.{get_or-drop}
 use Rattle.plan.specs.Plan.{plan_channels}
 use Rattle.state.specs.Pieces.{asked_numbers}
 use Rattle.buffer.proofs.MaskWalk.{next}
-use Rattle.restart.proofs.KeptLaws.{KeptTo, kept_start, kept_there, kept_turn, kept_end}
+use Rattle.restart.proofs.KeptLaws.{kept_start, kept_there, kept_turn, kept_end}
 use Rattle.restart.proofs.kept_entries.Goals as goal
 
 pub loop-left-init : goal.loop-left-init

@@ -1,10 +1,8 @@
-use Prim.Native.Nat.{◌-◌}
 use mathlib.Core.Path.{ap}
 use native.Mathlib.Omega.{arith}
-use borrow.Author.Rules.{rules}
 use Rattle.rules.specs.Line.{Target}
 use Rattle.slots.specs.Slots.{target_is}
-use Rattle.restart.proofs.TargetLaws.{FilledTo, filled_start, filled_room, filled_turn, filled_end}
+use Rattle.restart.proofs.TargetLaws.{filled_start, filled_room, filled_turn, filled_end}
 use Rattle.restart.proofs.put_targets.Goals as goal
 
 pub append_target-requires : goal.append_target-requires

@@ -1,10 +1,5 @@
 use Prim.Native.Nat.{◌-◌}
-use mathlib.Core.Path.{ap}
-use native.Mathlib.Omega.{arith}
-use borrow.Author.Rules.{rules}
-use Rattle.rules.specs.Line.{Target}
-use Rattle.slots.specs.Slots.{target_is}
-use Rattle.restart.proofs.TargetLaws.{FilledTo, filled_start, filled_room, filled_turn, filled_end}
+use Rattle.restart.proofs.TargetLaws.{FilledTo}
 use Rattle.restart.proofs.put_targets.Given as goal
 
 abbrev pub invariant-loop-i : goal.invariant-loop-i

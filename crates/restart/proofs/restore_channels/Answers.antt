@@ -1,13 +1,12 @@
-use Prim.Native.Nat.{◌-◌, ◌<◌}
+use Prim.Native.Nat.{◌<◌}
 use mathlib.Core.Path.{subst}
 use native.Mathlib.Omega.{arith}
-use borrow.Author.Rules.{rules}
 use Rattle.plan.specs.Plan.{Plan, channel_count}
 use Rattle.state.specs.State.{line_of}
 use Rattle.buffer.specs.Holds.{LaneNow}
 use Rattle.restart.specs.Lanes.{restored_on}
 use Rattle.buffer.proofs.ReadyLaws.{line_channels}
-use Rattle.restart.proofs.SweepLaws.{SweptIn, swept_start, swept_on, swept_plan_in, swept_turn, swept_end}
+use Rattle.restart.proofs.SweepLaws.{swept_start, swept_on, swept_plan_in, swept_turn, swept_end}
 use Rattle.restart.proofs.restore_channels.Goals as goal
 
 pub loop-b-init : goal.loop-b-init

@@ -1,7 +1,6 @@
 use Prim.Native.Nat.{ℕ}
 use mathlib.Core.Path.{sym, subst, ◌∙◌}
 use Rattle.state.specs.Changes.{with_mark}
-use borrow.Author.Rules.{rules}
 use Rattle.buffer.specs.Holds.{LaneNow}
 use Rattle.restart.proofs.restore_mark.Goals as goal
 

@@ -1,6 +1,5 @@
 use mathlib.Core.Path.{subst}
 use mathlib.Core.Option.{none}
-use borrow.Author.Rules.{rules}
 use Rattle.rules.specs.Line.{Status, Node, node_at, with_node}
 use Rattle.state.specs.State.{line_of}
 use Rattle.buffer.specs.Holds.{Holds}

@@ -1,10 +1,7 @@
 use Prim.Native.Nat.{◌-◌, ◌≤◌}
-use mathlib.Core.Path.{◌≡◌}
-use native.Mathlib.Omega.{arith}
-use Rattle.plan.specs.Plan.{plan_channels}
 use Rattle.state.specs.State.{line_of}
 use Rattle.buffer.specs.Rows.{Rows}
-use Rattle.trim.proofs.FloorLaws.{floor_to, floor_turn, floors_found}
+use Rattle.trim.proofs.FloorLaws.{floor_to}
 use Rattle.trim.proofs.floors_of.Given as goal
 
 abbrev pub invariant-loop-b : goal.invariant-loop-b

@@ -1,11 +1,10 @@
-use Prim.Native.Nat.{◌-◌, min}
+use Prim.Native.Nat.{min}
 use mathlib.Core.Path.{◌≡◌}
-use mathlib.Core.Logic.{⊎_elim}
 use native.Mathlib.Omega.{arith}
 use lib.ListN.{get_or}
 use Rattle.state.specs.State.{line_of}
 use Rattle.trim.specs.Trimmed.{heard_lowers}
-use Rattle.trim.proofs.RowLaws.{RowsTo, rows_start, rows_set, rows_left, rows_end}
+use Rattle.trim.proofs.RowLaws.{rows_start, rows_set, rows_left, rows_end}
 use Rattle.trim.proofs.FloorLaws.{unheard, heard_place, heard_lowers_lem}
 use Rattle.trim.proofs.lower_heard.Goals.{then-code-ne255, else-code-ne255}
 use Rattle.trim.proofs.lower_heard.Goals as goal
@@ -32,10 +31,10 @@ loop-q-preserved c =
     let lowers = heard_lowers (line_of a.s.now) a.b in
     elim c.if-code-ne255.branch [
       | then-code-ne255 w ↦
-        (let old : get_or t.floors t.q 0 ≡ get_or a.floors.now t.q 0 = t.invariant.rest t.q (omega arith) in
-        rw (w.floors-is, w.lower.ensures)
-        (rows_set lowers a.floors.now t.floors t.q t.invariant (omega arith) (min (get_or t.floors t.q 0) w.heard_of.result)
-        (rw (old, w.heard_of.ensures) (heard_lowers_lem a.s.now c.requires.0 a.b c.requires.2 t.q code is w.if-code-ne255.true (get_or a.floors.now t.q 0)))))
+          (let old : get_or t.floors t.q 0 ≡ get_or a.floors.now t.q 0 = t.invariant.rest t.q (omega arith) in
+          rw (w.floors-is, w.lower.ensures)
+          (rows_set lowers a.floors.now t.floors t.q t.invariant (omega arith) (min (get_or t.floors t.q 0) w.heard_of.result)
+          (rw (old, w.heard_of.ensures) (heard_lowers_lem a.s.now c.requires.0 a.b c.requires.2 t.q code is w.if-code-ne255.true (get_or a.floors.now t.q 0)))))
       | else-code-ne255 w ↦ rw w.floors-is (rows_left lowers a.floors.now t.floors t.q t.invariant (omega arith) (unheard a.s.now c.requires.0 a.b c.requires.2 t.q code is w.if-code-ne255.false (get_or a.floors.now t.q 0)))
     ]
 

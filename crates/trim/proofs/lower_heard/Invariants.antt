@@ -1,12 +1,7 @@
-use Prim.Native.Nat.{◌-◌, min}
-use mathlib.Core.Path.{◌≡◌}
-use mathlib.Core.Logic.{⊎_elim}
-use native.Mathlib.Omega.{arith}
-use lib.ListN.{get_or}
+use Prim.Native.Nat.{◌-◌}
 use Rattle.state.specs.State.{line_of}
 use Rattle.trim.specs.Trimmed.{heard_lowers}
-use Rattle.trim.proofs.RowLaws.{RowsTo, rows_start, rows_set, rows_left, rows_end}
-use Rattle.trim.proofs.FloorLaws.{unheard, heard_place, heard_lowers_lem}
+use Rattle.trim.proofs.RowLaws.{RowsTo}
 use Rattle.trim.proofs.lower_heard.Given as goal
 
 abbrev pub invariant-loop-q : goal.invariant-loop-q

@@ -1,5 +1,4 @@
 use native.Mathlib.Omega.{arith}
-use borrow.Author.Rules.{rules}
 use Rattle.trim.proofs.FloorLaws.{lowered_on}
 use Rattle.trim.proofs.lower_on.Goals as goal
 

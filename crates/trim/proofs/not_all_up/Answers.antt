@@ -1,6 +1,6 @@
 use Prim.Native.Nat.{ℕ, ◌-◌}
 use mathlib.Core.Path.{◌≡◌, ap}
-use mathlib.Core.Bool.{not, ◌||◌}
+use mathlib.Core.Bool.{not}
 use native.Mathlib.Omega.{arith}
 use Rattle.plan.specs.Plan.{node_count}
 use Rattle.rules.specs.Lists.{any_of, up_to}
@@ -8,7 +8,7 @@ use Rattle.rules.specs.Line.{node_at, is_up}
 use Rattle.rules.specs.Step.{not_all_up}
 use Rattle.state.specs.State.{line_of}
 use Rattle.buffer.proofs.ReadyLaws.{line-nodes}
-use Rattle.trim.proofs.AnswerLaws.{stopped_from, stopped_turn, stopped_end}
+use Rattle.trim.proofs.AnswerLaws.{stopped_turn, stopped_end}
 use Rattle.trim.proofs.not_all_up.Goals as goal
 
 pub loop-n-init : goal.loop-n-init

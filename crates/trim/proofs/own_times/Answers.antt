@@ -1,11 +1,10 @@
-use Prim.Native.Nat.{◌-◌}
 use mathlib.Core.Path.{sym, ◌∙◌}
 use native.Mathlib.Omega.{arith}
 use Rattle.rules.specs.Line.{node_at}
 use Rattle.state.specs.State.{line_of}
 use Rattle.state.proofs.InPlace.{nodes-counted}
 use Rattle.buffer.proofs.ReadyLaws.{counted}
-use Rattle.trim.proofs.RowLaws.{RowsTo, rows_start, rows_set, rows_end}
+use Rattle.trim.proofs.RowLaws.{rows_start, rows_set, rows_end}
 use Rattle.trim.proofs.RunLaws.{no_time}
 use Rattle.trim.proofs.own_times.Goals as goal
 

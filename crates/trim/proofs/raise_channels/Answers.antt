@@ -7,7 +7,7 @@ use Rattle.rules.specs.Line.{Node}
 use Rattle.buffer.proofs.HoldsLaws.{onward-node}
 use Rattle.buffer.proofs.MaskWalk.{next}
 use Rattle.buffer.proofs.TableLaws.{table_kept}
-use Rattle.trim.proofs.RaiseLaws.{RaisedLeft, left_start, left_lane, left_turn, left_end}
+use Rattle.trim.proofs.RaiseLaws.{left_start, left_lane, left_turn, left_end}
 use Rattle.trim.proofs.raise_channels.Goals as goal
 
 pub loop-left-init : goal.loop-left-init

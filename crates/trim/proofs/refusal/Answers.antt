@@ -1,7 +1,6 @@
 use mathlib.Core.Path.{sym, ◌∙◌}
 use mathlib.Core.Bool.{true, false}
 use native.Mathlib.Omega.{arith}
-use borrow.Author.Rules.{rules}
 use Rattle.state.specs.State.{line_of}
 use Rattle.buffer.proofs.ReadyLaws.{line-nodes}
 use Rattle.trim.proofs.AnswerLaws.{none_such, not_now}

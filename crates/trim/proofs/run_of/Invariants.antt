@@ -1,19 +1,11 @@
 use Prim.Native.Nat.{ℕ, ◌-◌, ◌≤◌, ◌<◌}
-use mathlib.Core.Path.{◌≡◌, sym, ap, ◌∙◌}
-use mathlib.Core.Logic.{inl, inr}
-use mathlib.Core.Bool.{true, false}
-use native.Mathlib.Omega.{arith}
-use borrow.Author.Tests.{not-true, not-false}
+use mathlib.Core.Path.{◌≡◌}
+use mathlib.Core.Bool.{true}
 use lib.ListN.{get_or}
-use Rattle.basics.specs.Bools.{below_or_not}
 use Rattle.rules.specs.Line.{node_at}
 use Rattle.rules.specs.Trim.{droppable}
 use Rattle.state.specs.State.{line_of}
-use Rattle.state.proofs.InPlace.{nodes-counted}
-use Rattle.slots.specs.Slots.{entry_is}
 use Rattle.buffer.specs.Nothing.{no_entry}
-use Rattle.buffer.proofs.ReadyLaws.{counted}
-use Rattle.trim.proofs.RunLaws.{run_ends, entry_is_lem}
 use Rattle.trim.proofs.run_of.Given as goal
 
 abbrev pub invariant-loop-i : goal.invariant-loop-i

@@ -1,5 +1,4 @@
 use mathlib.Core.Path.{refl, sym, ◌∙◌}
-use borrow.Author.Rules.{rules}
 use lib.ListN.{get_or-replicate}
 use Rattle.buffer.specs.Table.{empty_table}
 use Rattle.trim.proofs.TrimLaws.{trim_refused, trim_on, trim_idle, trim_next, trim_done}

@@ -1,8 +1,5 @@
 use Prim.Native.Nat.{◌-◌}
-use mathlib.Core.Path.{◌≡◌}
-use native.Mathlib.Numerals.{add-one}
-use native.Mathlib.Omega.{arith}
-use Rattle.node_check.proofs.MaterialLaws.{Adding, adding_start, adding_same, adding_few, adding_more, adding_end}
+use Rattle.node_check.proofs.MaterialLaws.{Adding}
 use Rattle.node_check.proofs.sets.add_channel.Given as goal
 
 abbrev pub invariant-loop-i : goal.invariant-loop-i

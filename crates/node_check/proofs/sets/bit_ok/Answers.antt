@@ -1,6 +1,5 @@
 use mathlib.Core.Path.{ap, ◌∙◌}
 use native.Mathlib.Omega.{arith}
-use borrow.Author.Rules.{rules}
 use Rattle.plan.specs.Channel.{takes}
 use Rattle.plan.proofs.BytesLaws.{bytes_known}
 use Rattle.node_check.proofs.PieceBytes.{record_fields_lem}

@@ -1,8 +1,7 @@
 use native.Mathlib.Omega.{arith}
-use borrow.Author.Tests.{not-true, not-false}
 use Rattle.node_check.specs.Sets.{bit_right}
 use Rattle.node_check.proofs.NodeLaws.{page_room}
-use Rattle.node_check.proofs.SetLaws.{SetsLeft, sets_start, sets_wrong, sets_more, sets_end}
+use Rattle.node_check.proofs.SetLaws.{sets_start, sets_wrong, sets_more, sets_end}
 use Rattle.node_check.proofs.sets.bits_ok.Goals as goal
 
 pub overflow_add-slot : goal.overflow_add-slot

@@ -1,8 +1,5 @@
-use native.Mathlib.Omega.{arith}
-use borrow.Author.Tests.{not-true, not-false}
 use Rattle.node_check.specs.Sets.{bit_right}
-use Rattle.node_check.proofs.NodeLaws.{page_room}
-use Rattle.node_check.proofs.SetLaws.{SetsLeft, sets_start, sets_wrong, sets_more, sets_end}
+use Rattle.node_check.proofs.SetLaws.{SetsLeft}
 use Rattle.node_check.proofs.sets.bits_ok.Given as goal
 
 abbrev pub invariant-loop-left : goal.invariant-loop-left

@@ -1,12 +1,6 @@
-use Prim.Native.Nat.{◌-◌, ◌<◌}
-use mathlib.Core.Path.{◌≡◌, sym, ap, ◌∙◌}
-use native.Mathlib.Numerals.{add-one}
-use native.Mathlib.Omega.{arith}
-use borrow.Author.Tests.{not-true, not-false}
-use Rattle.plan.specs.Plan.{plan_of, channel_count, channel_at}
-use Rattle.plan.proofs.PlanLaws.{node_count_lem, channel_count_lem}
-use Rattle.node_check.specs.Sets.{is_open}
-use Rattle.node_check.proofs.MaterialLaws.{Listing, listing_start, listing_room, listing_more, listing_closed, listing_all, listing_last}
+use Prim.Native.Nat.{◌-◌}
+use Rattle.plan.specs.Plan.{plan_of}
+use Rattle.node_check.proofs.MaterialLaws.{Listing}
 use Rattle.node_check.proofs.sets.by_material.Given as goal
 
 abbrev pub invariant-loop-b : goal.invariant-loop-b

@@ -6,7 +6,7 @@ use lib.ListN.{get_or}
 use Rattle.plan.specs.Plan.{plan_of}
 use Rattle.items.specs.Items.{set_right}
 use Rattle.node_check.proofs.NodeLaws.{page_room}
-use Rattle.node_check.proofs.SetLaws.{entry_listed, SetsLeft, sets_start, sets_known, sets_wrong, sets_more, sets_end}
+use Rattle.node_check.proofs.SetLaws.{entry_listed, sets_start, sets_known, sets_wrong, sets_more, sets_end}
 use Rattle.node_check.proofs.sets.listed_ok.Goals as goal
 
 pub overflow_add-slot : goal.overflow_add-slot

@@ -1,12 +1,6 @@
-use Prim.Native.Nat.{◌+◌, ◌%◌}
-use native.Mathlib.Omega.{arith}
-use borrow.Author.Tests.{eq-eqb, ne_eqb}
-use lib.Dec.{eqb}
-use lib.ListN.{get_or}
 use Rattle.plan.specs.Plan.{plan_of}
 use Rattle.items.specs.Items.{set_right}
-use Rattle.node_check.proofs.NodeLaws.{page_room}
-use Rattle.node_check.proofs.SetLaws.{entry_listed, SetsLeft, sets_start, sets_known, sets_wrong, sets_more, sets_end}
+use Rattle.node_check.proofs.SetLaws.{SetsLeft}
 use Rattle.node_check.proofs.sets.listed_ok.Given as goal
 
 abbrev pub invariant-loop-left : goal.invariant-loop-left

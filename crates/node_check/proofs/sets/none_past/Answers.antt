@@ -5,7 +5,7 @@ use lib.Dec.{eqb}
 use lib.ListN.{get_or}
 use Rattle.node_check.specs.Sets.{none_past}
 use Rattle.node_check.proofs.NodeLaws.{page_room}
-use Rattle.node_check.proofs.SetLaws.{past_in, SetsLeft, sets_start, sets_wrong, sets_more, sets_end}
+use Rattle.node_check.proofs.SetLaws.{past_in, sets_start, sets_wrong, sets_more, sets_end}
 use Rattle.node_check.proofs.sets.none_past.Goals as goal
 
 pub overflow_add-slot : goal.overflow_add-slot

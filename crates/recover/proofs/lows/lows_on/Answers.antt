@@ -2,7 +2,7 @@ use native.Mathlib.Omega.{arith}
 use lib.Pow.{pow_pos}
 use Rattle.plan.specs.Plan.{plan_channels}
 use Rattle.buffer.proofs.MaskWalk.{next}
-use Rattle.recover.proofs.LowLaws.{LowsTo, lows_none, lows_start, lows_there, lows_few, lows_turn, lows_end}
+use Rattle.recover.proofs.LowLaws.{lows_none, lows_start, lows_there, lows_few, lows_turn, lows_end}
 use Rattle.recover.proofs.lows.lows_on.Goals as goal
 
 pub returns-then-no_low : goal.returns-then-no_low

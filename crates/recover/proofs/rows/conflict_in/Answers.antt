@@ -1,7 +1,6 @@
-use Prim.Native.Nat.{◌-◌}
 use mathlib.Core.Path.{refl, sym}
 use native.Mathlib.Omega.{arith}
-use Rattle.recover.proofs.RowLaws.{Conflicting, conflicting_turn, conflicting_end}
+use Rattle.recover.proofs.RowLaws.{conflicting_turn, conflicting_end}
 use Rattle.recover.proofs.rows.conflict_in.Goals as goal
 
 pub returns-then-rising : goal.returns-then-rising

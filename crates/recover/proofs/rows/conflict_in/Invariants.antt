@@ -1,7 +1,5 @@
 use Prim.Native.Nat.{◌-◌}
-use mathlib.Core.Path.{refl, sym}
-use native.Mathlib.Omega.{arith}
-use Rattle.recover.proofs.RowLaws.{Conflicting, conflicting_turn, conflicting_end}
+use Rattle.recover.proofs.RowLaws.{Conflicting}
 use Rattle.recover.proofs.rows.conflict_in.Given as goal
 
 abbrev pub invariant-loop-i : goal.invariant-loop-i

@@ -5,7 +5,7 @@ use lib.ListN.{get_or}
 use Rattle.plan.specs.Plan.{plan_of, plan_channels, channel_at}
 use Rattle.buffer.proofs.MaskWalk.{next}
 use Rattle.buffer.proofs.ReadyLaws.{sender_inside}
-use Rattle.recover.proofs.ListedLaws.{ListedTo, listed_start, listed_there, listed_turn, listed_end}
+use Rattle.recover.proofs.ListedLaws.{listed_start, listed_there, listed_turn, listed_end}
 use Rattle.recover.proofs.rows.listed.Goals as goal
 
 pub loop-left-init : goal.loop-left-init

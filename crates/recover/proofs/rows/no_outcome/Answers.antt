@@ -1,6 +1,5 @@
 use mathlib.Core.Path.{sym, ap, ap₂, ◌∙◌}
 use mathlib.Core.Bool.{Bool, not, ◌&&◌, ◌||◌}
-use borrow.Author.Rules.{rules}
 use Rattle.rules.specs.Recover.{conflict}
 use Rattle.state.specs.State.{line_of}
 use Rattle.recover.specs.Found.{targets_in, rows_in}

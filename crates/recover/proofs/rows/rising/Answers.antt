@@ -1,8 +1,7 @@
-use Prim.Native.Nat.{◌-◌}
 use native.Mathlib.Omega.{arith}
 use Rattle.slots.specs.Slots.{target_is}
 use Rattle.recover.specs.Found.{}
-use Rattle.recover.proofs.RisingLaws.{RisingTo, rising_start, rising_turn, rising_end}
+use Rattle.recover.proofs.RisingLaws.{rising_start, rising_turn, rising_end}
 use Rattle.recover.proofs.rows.rising.Goals as goal
 
 pub loop-i-init : goal.loop-i-init

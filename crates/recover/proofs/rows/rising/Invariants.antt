@@ -1,8 +1,6 @@
 use Prim.Native.Nat.{◌-◌}
-use native.Mathlib.Omega.{arith}
-use Rattle.slots.specs.Slots.{target_is}
 use Rattle.recover.specs.Found.{}
-use Rattle.recover.proofs.RisingLaws.{RisingTo, rising_start, rising_turn, rising_end}
+use Rattle.recover.proofs.RisingLaws.{RisingTo}
 use Rattle.recover.proofs.rows.rising.Given as goal
 
 abbrev pub invariant-loop-i : goal.invariant-loop-i

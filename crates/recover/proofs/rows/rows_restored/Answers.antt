@@ -1,4 +1,4 @@
-use Prim.Native.Nat.{◌-◌, ◌<◌}
+use Prim.Native.Nat.{◌<◌}
 use mathlib.Core.Path.{refl, sym, ap, ap₂, ◌∙◌}
 use mathlib.Core.Bool.{Bool, not, ◌&&◌, ◌||◌}
 use native.Mathlib.Omega.{arith}
@@ -8,7 +8,7 @@ use Rattle.state.specs.State.{line_of}
 use Rattle.buffer.specs.Ready.{OnChannel}
 use Rattle.buffer.proofs.ReadyLaws.{sender_inside}
 use Rattle.buffer.specs.Rows.{rows_long}
-use Rattle.recover.proofs.RowLaws.{RowsBefore, row_same, rows_turn, rows_whole}
+use Rattle.recover.proofs.RowLaws.{row_same, rows_turn, rows_whole}
 use Rattle.recover.proofs.rows.rows_restored.Goals as goal
 
 pub loop-b-init : goal.loop-b-init

@@ -1,8 +1,7 @@
-use Prim.Native.Nat.{◌-◌, ◌<◌}
+use Prim.Native.Nat.{◌<◌}
 use native.Mathlib.Omega.{arith}
-use borrow.Author.Rules.{rules}
 use Rattle.plan.specs.Plan.{plan_channels}
-use Rattle.recover.proofs.ChildLaws.{HighTo, high_start, high_turn, high_end}
+use Rattle.recover.proofs.ChildLaws.{high_start, high_turn, high_end}
 use Rattle.recover.proofs.told.high_of.Goals as goal
 
 pub loop-b-init : goal.loop-b-init

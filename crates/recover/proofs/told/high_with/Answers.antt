@@ -1,5 +1,4 @@
 use native.Mathlib.Omega.{arith}
-use borrow.Author.Rules.{rules}
 use Rattle.recover.proofs.told.high_with.Goals as goal
 
 pub returns-then-high-t : goal.returns-then-high-t

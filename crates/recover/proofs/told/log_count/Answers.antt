@@ -1,7 +1,6 @@
 use Prim.Native.Nat.{ℕ, ◌+◌, ◌*◌}
 use mathlib.Core.Path.{◌≡◌, ap, sym, ◌∙◌}
 use native.Mathlib.Omega.{arith}
-use borrow.Author.Rules.{rules}
 use Rattle.state.specs.Right.{word_at}
 use Rattle.state.specs.Sizes.{page_at, log_at}
 use Rattle.recover.proofs.TripleLaws.{log_length}

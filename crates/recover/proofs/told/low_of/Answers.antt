@@ -1,8 +1,7 @@
-use Prim.Native.Nat.{◌-◌, ◌<◌}
+use Prim.Native.Nat.{◌<◌}
 use native.Mathlib.Omega.{arith}
-use borrow.Author.Rules.{rules}
 use Rattle.plan.specs.Plan.{plan_channels}
-use Rattle.recover.proofs.ChildLaws.{LowTo, low_start, low_turn, low_end}
+use Rattle.recover.proofs.ChildLaws.{low_start, low_turn, low_end}
 use Rattle.recover.proofs.told.low_of.Goals as goal
 
 pub loop-b-init : goal.loop-b-init

@@ -1,8 +1,5 @@
-use Prim.Native.Nat.{◌-◌, ◌<◌}
-use native.Mathlib.Omega.{arith}
-use borrow.Author.Rules.{rules}
-use Rattle.plan.specs.Plan.{plan_channels}
-use Rattle.recover.proofs.ChildLaws.{LowTo, low_start, low_turn, low_end}
+use Prim.Native.Nat.{◌-◌}
+use Rattle.recover.proofs.ChildLaws.{LowTo}
 use Rattle.recover.proofs.told.low_of.Given as goal
 
 abbrev pub invariant-loop-b : goal.invariant-loop-b

@@ -1,5 +1,4 @@
 use native.Mathlib.Omega.{arith}
-use borrow.Author.Rules.{rules}
 use Rattle.recover.proofs.told.low_with.Goals as goal
 
 pub returns-then-low-t : goal.returns-then-low-t

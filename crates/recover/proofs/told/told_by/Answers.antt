@@ -1,6 +1,5 @@
 use mathlib.Core.Bool.{true, false}
 use native.Mathlib.Omega.{arith}
-use borrow.Author.Rules.{rules}
 use borrow.Author.Tests.{not-true, not-false}
 use Rattle.recover.specs.Found.{target}
 use Rattle.recover.proofs.ToldLaws.{told_nothing, told_over, triple_is, told_raised, told_added}

@@ -1,10 +1,9 @@
-use Prim.Native.Nat.{◌-◌, ◌<◌}
+use Prim.Native.Nat.{◌<◌}
 use native.Mathlib.Omega.{arith}
-use borrow.Author.Rules.{rules}
 use lib.ListN.{length}
 use Rattle.rules.specs.Line.{node_at}
 use Rattle.state.specs.State.{line_of}
-use Rattle.recover.proofs.ToldLaws.{LogTold, told_nothing, log_turn, log_end}
+use Rattle.recover.proofs.ToldLaws.{told_nothing, log_turn, log_end}
 use Rattle.recover.proofs.told.told_in.Goals as goal
 
 pub log_count-entries-requires : goal.log_count-entries-requires

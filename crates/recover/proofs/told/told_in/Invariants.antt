@@ -1,10 +1,7 @@
-use Prim.Native.Nat.{◌-◌, ◌<◌}
-use native.Mathlib.Omega.{arith}
-use borrow.Author.Rules.{rules}
-use lib.ListN.{length}
+use Prim.Native.Nat.{◌-◌}
 use Rattle.rules.specs.Line.{node_at}
 use Rattle.state.specs.State.{line_of}
-use Rattle.recover.proofs.ToldLaws.{LogTold, told_nothing, log_turn, log_end}
+use Rattle.recover.proofs.ToldLaws.{LogTold}
 use Rattle.recover.proofs.told.told_in.Given as goal
 
 abbrev pub invariant-loop-i : goal.invariant-loop-i

@@ -1,8 +1,7 @@
-use Prim.Native.Nat.{◌-◌, ◌<◌}
+use Prim.Native.Nat.{◌<◌}
 use native.Mathlib.Omega.{arith}
-use borrow.Author.Rules.{rules}
 use Rattle.plan.specs.Plan.{plan_channels}
-use Rattle.recover.proofs.ToldLaws.{ChannelsTold, channels_start, channels_turn, channels_end}
+use Rattle.recover.proofs.ToldLaws.{channels_start, channels_turn, channels_end}
 use Rattle.recover.proofs.told.told_of.Goals as goal
 
 pub loop-b-init : goal.loop-b-init

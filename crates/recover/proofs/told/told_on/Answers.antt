@@ -1,6 +1,5 @@
 use Prim.Native.Nat.{ℕ}
 use mathlib.Core.Path.{sym, ap, ◌∙◌}
-use borrow.Author.Rules.{rules}
 use Rattle.rules.specs.Line.{node_at}
 use Rattle.rules.specs.Recover.{triples}
 use Rattle.state.specs.State.{line_of}

@@ -1,7 +1,6 @@
 use Prim.Native.Nat.{◌+◌, ◌*◌}
 use mathlib.Core.Path.{◌≡◌, ◌∙◌}
 use native.Mathlib.Omega.{arith}
-use borrow.Author.Rules.{rules}
 use Rattle.state.specs.Sizes.{count_size, entry_size, page_at, log_at}
 use Rattle.recover.proofs.TripleLaws.{triple_read}
 use Rattle.recover.proofs.told.triple_at.Goals as goal
