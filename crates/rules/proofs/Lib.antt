@@ -1,4 +1,4 @@
--- The theorems are Order's, AlwaysBack's and WithoutSets', those of `console`, `versions`, `trimming` and `ticks`, and 2026-08's in `steps` and `theorem`; the folders are what they rest on, in this order, and `undamaged` is the other law of steps.
+-- The theorems are Order's, AlwaysBack's and WithoutSets', those of `Console`, `Versions`, `Trimming` and `Ticks`, and 2026-08's in `Steps` and `Theorem`; the folders are what they rest on, in this order, and `Undamaged` is the other law of steps.
 -- Lists.
 pub mod Lists
 -- The line after a change, and the channels of a node.

@@ -1,4 +1,4 @@
-use Prim.Native.Nat.{ℕ, ◌-◌, ◌≤◌}
+use Prim.Native.Nat.{ℕ}
 use mathlib.Core.Path.{◌≡◌, refl, subst}
 use Rattle.marking.specs.Loops.{Beside}
 use Rattle.marking.proofs.LoopLaws.{beside_more}

@@ -1,8 +1,5 @@
-use Prim.Native.Nat.{ℕ, ◌-◌, ◌≤◌}
-use mathlib.Core.Path.{◌≡◌, refl, subst}
+use Prim.Native.Nat.{◌-◌, ◌≤◌}
 use Rattle.marking.specs.Loops.{Beside}
-use Rattle.marking.proofs.LoopLaws.{beside_more}
-use native.Mathlib.Omega.{arith}
 use Rattle.marking.proofs.clashes.Given as goal
 
 abbrev pub invariant-loop-j : goal.invariant-loop-j

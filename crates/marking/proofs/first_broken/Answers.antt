@@ -1,8 +1,5 @@
-use Prim.Native.Nat.{◌-◌}
-use lib.ListN.{length}
-use Rattle.marking.proofs.LoopLaws.{Going, going_begun, found_here, found_later, found_none}
+use Rattle.marking.proofs.LoopLaws.{going_begun, found_here, found_later, found_none}
 use native.Mathlib.Omega.{arith}
-use borrow.Author.Rules.{rules}
 use Rattle.marking.proofs.first_broken.Goals as goal
 
 pub loop-k-init : goal.loop-k-init

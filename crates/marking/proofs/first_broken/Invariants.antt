@@ -1,8 +1,6 @@
 use Prim.Native.Nat.{◌-◌}
 use lib.ListN.{length}
-use Rattle.marking.proofs.LoopLaws.{Going, going_begun, found_here, found_later, found_none}
-use native.Mathlib.Omega.{arith}
-use borrow.Author.Rules.{rules}
+use Rattle.marking.proofs.LoopLaws.{Going}
 use Rattle.marking.proofs.first_broken.Given as goal
 
 abbrev pub invariant-loop-k : goal.invariant-loop-k

@@ -1,6 +1,5 @@
 use mathlib.Core.Path.{sym, ◌∙◌}
 use native.Mathlib.Omega.{arith}
-use borrow.Author.Rules.{rules}
 use Rattle.marking.proofs.MarkLaws.{marks_malformed, marks_length, aligned, marks_no, marks_yes}
 use Rattle.marking.proofs.mark_of.Goals as goal
 

@@ -1,6 +1,5 @@
 use mathlib.Core.Path.{sym, ap, ◌∙◌}
 use native.Mathlib.Omega.{arith}
-use borrow.Author.Rules.{rules}
 use Rattle.marking.specs.Mark.{mark_number}
 use Rattle.marking.proofs.marking_mark.Goals as goal
 

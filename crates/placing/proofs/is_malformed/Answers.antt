@@ -2,7 +2,6 @@ use mathlib.Core.Path.{◌≡◌}
 use mathlib.Core.Bool.{true, false, ◌&&◌}
 use lib.ListN.{length}
 use lib.Dec.{leb}
-use borrow.Author.Tests.{not-true, not-false}
 use Rattle.placing.specs.Table.{most_items, greatest, lengths_agree}
 use Rattle.placing.proofs.ItemsLaws.{malformed_is, lengths_are}
 use Rattle.placing.proofs.is_malformed.Goals as goal

@@ -1,12 +1,9 @@
-use Prim.Native.Nat.{◌-◌, ◌≤◌}
-use mathlib.Core.Path.{◌≡◌, refl, ◌∙◌}
-use mathlib.Core.Bool.{◌&&◌, and-true}
+use mathlib.Core.Path.{refl, ◌∙◌}
+use mathlib.Core.Bool.{and-true}
 use Rattle.placing.proofs.ItemsLaws.{length_items, fit_more}
 use native.Mathlib.Omega.{arith}
-use borrow.Author.Rules.{rules}
-use lib.ListN.{length, drop, drop_of_length-le}
+use lib.ListN.{drop_of_length-le}
 use Rattle.placing.specs.Item.{items_of}
-use Rattle.placing.specs.Table.{items_fit}
 use Rattle.placing.proofs.items_fit.Goals as goal
 
 pub loop-i-init : goal.loop-i-init

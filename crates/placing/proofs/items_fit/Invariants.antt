@@ -1,10 +1,7 @@
 use Prim.Native.Nat.{◌-◌, ◌≤◌}
-use mathlib.Core.Path.{◌≡◌, refl, ◌∙◌}
-use mathlib.Core.Bool.{◌&&◌, and-true}
-use Rattle.placing.proofs.ItemsLaws.{length_items, fit_more}
-use native.Mathlib.Omega.{arith}
-use borrow.Author.Rules.{rules}
-use lib.ListN.{length, drop, drop_of_length-le}
+use mathlib.Core.Path.{◌≡◌}
+use mathlib.Core.Bool.{◌&&◌}
+use lib.ListN.{length, drop}
 use Rattle.placing.specs.Item.{items_of}
 use Rattle.placing.specs.Table.{items_fit}
 use Rattle.placing.proofs.items_fit.Given as goal

@@ -1,12 +1,10 @@
 use mathlib.Core.Path.{refl, sym, ◌∙◌}
-use mathlib.Core.Logic.{⊎_elim}
 use native.Mathlib.Omega.{arith}
 use lib.ListN.{length, get_or-replicate}
 use Rattle.placing.specs.Table.{most_items, row_count}
 use Rattle.placing.proofs.AnswerLaws.{refuses_form, refuses_short, refuses_none, accepts}
 use Rattle.placing.proofs.Turn.{take-replicate}
 use Rattle.placing.proofs.Formed.{formed}
-use borrow.Author.Rules.{rules}
 use Rattle.placing.proofs.placing_place.Goals.{then-walk, else-walk}
 use Rattle.placing.proofs.placing_place.Goals as goal
 

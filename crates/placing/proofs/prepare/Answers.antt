@@ -1,12 +1,9 @@
-use Prim.Native.Nat.{ℕ, suc, ◌-◌, ◌≤◌, ◌<◌}
+use Prim.Native.Nat.{ℕ, suc, ◌-◌, ◌<◌}
 use mathlib.Core.Path.{◌≡◌, ◌∙◌}
-use mathlib.Core.List.{List}
 use native.Mathlib.Omega.{arith}
 use lib.ListN.{length, length-set}
-use Rattle.placing.specs.Table.{most_items, row_count}
-use Rattle.placing.specs.Places.{Prepared, PrepareAsks}
+use Rattle.placing.specs.Places.{Prepared}
 use Rattle.placing.proofs.PrepareLaws.{prepared_start, prepared_more}
-use borrow.Author.Rules.{rules}
 use Rattle.placing.proofs.prepare.Goals as goal
 
 pub loop-i-init : goal.loop-i-init

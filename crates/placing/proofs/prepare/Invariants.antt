@@ -1,12 +1,9 @@
-use Prim.Native.Nat.{ℕ, suc, ◌-◌, ◌≤◌, ◌<◌}
-use mathlib.Core.Path.{◌≡◌, ◌∙◌}
+use Prim.Native.Nat.{ℕ, ◌≤◌}
+use mathlib.Core.Path.{◌≡◌}
 use mathlib.Core.List.{List}
-use native.Mathlib.Omega.{arith}
-use lib.ListN.{length, length-set}
+use lib.ListN.{length}
 use Rattle.placing.specs.Table.{most_items, row_count}
 use Rattle.placing.specs.Places.{Prepared, PrepareAsks}
-use Rattle.placing.proofs.PrepareLaws.{prepared_start, prepared_more}
-use borrow.Author.Rules.{rules}
 use Rattle.placing.proofs.prepare.Given as goal
 
 -- What holds where the items from place i on are prepared.

@@ -1,13 +1,6 @@
-use Prim.Native.Nat.{ℕ, ◌+◌, ◌-◌, ◌≤◌, ◌<◌}
-use mathlib.Core.Path.{◌≡◌, sym, subst, ◌∙◌}
-use mathlib.Core.List.{List}
-use native.Mathlib.Omega.{arith}
-use native.Mathlib.Decide.{ℕ_discrete}
-use lib.ListN.{get_or, set, length-set}
-use lib.Seq.{get_or-set_same, get_or-set_other}
-use borrow.Author.Rules.{rules}
+use Prim.Native.Nat.{◌-◌, ◌≤◌}
 use Rattle.placing.specs.Table.{row_count}
-use Rattle.placing.specs.Places.{shut_until, ShutRows}
+use Rattle.placing.specs.Places.{ShutRows}
 use Rattle.placing.proofs.shut_rows.Given as goal
 
 abbrev pub invariant-loop-r : goal.invariant-loop-r

@@ -2,7 +2,6 @@ use mathlib.Core.Path.{sym, ◌∙◌}
 use lib.ListN.{length, get_or}
 use borrow.Author.Tests.{lt-ltb, le-ltb, eq-eqb, ne_eqb}
 use Rattle.placing.specs.Places.{shut_until}
-use borrow.Author.Rules.{rules}
 use Rattle.placing.proofs.shut_until.Goals as goal
 
 pub returns-then-fixed-i-eq0 : goal.returns-then-fixed-i-eq0

@@ -1,6 +1,5 @@
 use native.Mathlib.Omega.{arith}
 use borrow.Author.Tests.{lt-ltb, le-ltb}
-use borrow.Author.Rules.{rules}
 use Rattle.placing.proofs.sooner.Goals as goal
 
 pub returns-in-Empty : goal.returns-in-Empty

@@ -1,19 +1,8 @@
-use Prim.Native.Nat.{ℕ, suc, ◌-◌, ◌≤◌, ◌<◌}
-use mathlib.Core.Path.{◌≡◌}
-use mathlib.Core.Logic.{◌⊎◌, inl, inr, ⊎_elim}
-use mathlib.Core.Option.{none, some}
-use native.Mathlib.Omega.{arith}
-use lib.ListN.{get_or}
-use lib.Dec.{ltb}
-use borrow.Author.Tests.{leb-true, leb-false, ltb-true, ltb-false}
-use borrow.Author.Rules.{rules}
-use Rattle.placing.specs.Table.{most_items, row_count}
-use Rattle.placing.specs.Walk.{or_else}
-use Rattle.placing.specs.declared.Pick.TheVariants.{Row}
+use Prim.Native.Nat.{suc, ◌-◌}
+use Rattle.placing.specs.Table.{row_count}
 use Rattle.placing.specs.Places.{candidate_of}
-use Rattle.basics.specs.Bools.{both_true, one_false}
 use Rattle.placing.proofs.ShutLaws.{AllShut}
-use Rattle.placing.proofs.Turn.{Chosen, Searching, Walking, searching_begun, searching_ended, turn_fixed, turn_free, turn_passed, turn_nothing, chosen_inside, column_taken, column_empty, shut_taken, goes_on_lem, walking_begun, shut_begun, walking_done}
+use Rattle.placing.proofs.Turn.{Searching, Walking}
 use Rattle.placing.proofs.walk.Given as goal
 
 abbrev pub invariant-search : goal.invariant-search

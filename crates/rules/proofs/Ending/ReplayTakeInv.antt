@@ -15,7 +15,7 @@ use Rattle.rules.proofs.Line.LineLaws.{node_there, node_else}
 use Rattle.rules.proofs.Histories.Ghost.{Ghost}
 use Rattle.rules.proofs.Histories.Passing.{goes_on, held_of}
 use Rattle.rules.proofs.Invariant.Inv.{Inv, is_up}
-use Rattle.rules.proofs.Steps.HoldInv.{taken, drop_inv, hold_inv}
+use Rattle.rules.proofs.Steps.HoldInv.{drop_inv, hold_inv}
 use Rattle.rules.proofs.Ending.Ends.{EndsAs}
 use Rattle.rules.proofs.Ending.EndInv.{Goes, ended_inv}
 

@@ -1,6 +1,6 @@
 -- What a receiver has heard through a channel, when it takes one more message.
-use Prim.Native.Nat.{ℕ, max, ◌≤◌}
-use mathlib.Core.Path.{◌≡◌, refl, sym, ap, subst, ◌∙◌}
+use Prim.Native.Nat.{ℕ, max}
+use mathlib.Core.Path.{◌≡◌, refl, sym, ap, ◌∙◌}
 use mathlib.Core.Logic.{◌⊎◌, inl, inr}
 use mathlib.Core.Bool.{Bool, true, false, cond}
 use mathlib.Core.List.{List, [], ◌∷◌, ◌++◌}
@@ -10,7 +10,7 @@ use lib.Dec.{eqb}
 use borrow.Author.Tests.{eqb-true}
 use Rattle.rules.specs.Line.{Origin, fed, made, Message}
 use Rattle.rules.specs.Clock.{raise_heard, entry_for}
-use Rattle.rules.proofs.Lists.Members.{In, here, in_left, in_right}
+use Rattle.rules.proofs.Lists.Members.{here, in_left, in_right}
 use Rattle.rules.proofs.Invariant.Inv.{HeardFrom}
 
 -- The entry for node a is as it was, or what the message was made from.

@@ -1,5 +1,5 @@
 -- The space of a crashed node: what keeps it, and the counts behind it.
-use Prim.Native.Nat.{ℕ, ◌+◌, ◌<◌, ◌≤◌}
+use Prim.Native.Nat.{ℕ, ◌<◌, ◌≤◌}
 use mathlib.Core.Path.{◌≡◌, refl, sym, ap, subst, ◌∙◌}
 use mathlib.Core.Bool.{Bool, true, false, ◌&&◌, true≢false}
 use mathlib.Core.List.{List, [], ◌∷◌, ◌++◌, map}
@@ -16,7 +16,7 @@ use Rattle.rules.specs.Clock.{logged, message_of}
 use Rattle.rules.specs.Replay.{passed_on}
 use Rattle.rules.proofs.Lists.ListLaws.{keep_append, map-append}
 use Rattle.rules.proofs.Lists.Rising.{past}
-use Rattle.rules.proofs.Lists.Members.{In, there}
+use Rattle.rules.proofs.Lists.Members.{In}
 use Rattle.rules.proofs.Lists.Counts.{keep_short, keep_fewer}
 use Rattle.rules.proofs.Histories.Witness.{Taken}
 use Rattle.rules.proofs.Histories.Ghost.{Event, fed_at, took_at, Ghost, entry_of, input_of, sent_of, later, later_there, later_else}

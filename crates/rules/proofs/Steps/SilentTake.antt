@@ -9,11 +9,11 @@ use Rattle.basics.specs.Bools.{neither_true}
 use Rattle.plan.specs.declared.Record.{Record}
 use Rattle.plan.specs.Plan.{Plan, is_sink}
 use Rattle.plan.specs.Mask.{set_of}
-use Rattle.rules.specs.Line.{made, Message, is_replay, Line, node_at, sender_of, receiver_of, with_node, counted}
+use Rattle.rules.specs.Line.{made, Message, is_replay, node_at, sender_of, receiver_of, with_node, counted}
 use Rattle.rules.specs.Frame.{Frame, frame_console}
 use Rattle.rules.specs.Clock.{logged}
 use Rattle.rules.specs.Replay.{timed}
-use Rattle.rules.specs.Step.{made_by, taken_up, taken_lane, taken_first, taken_line, effect, accepted, refusal, step}
+use Rattle.rules.specs.Step.{made_by, taken_up, taken_lane, taken_first, taken_line, effect, accepted, refusal}
 use Rattle.rules.specs.Times.{SilentTake}
 use Rattle.rules.proofs.Histories.Passing.{timed_by_set, timed-counts}
 use Rattle.rules.proofs.Theorem.Accepted.{step-accepted}

@@ -22,7 +22,7 @@ use Rattle.rules.specs.Trim.{droppable, leading, behind, with_log, trimmed_line,
 use Rattle.rules.specs.Step.{made_by, sent_line, fed_line, taken_lane, taken_up, taken_replaying, asking, asked_line, effect}
 use Rattle.rules.specs.Plain.{Act}
 use Rattle.rules.specs.Claim.{crash_of}
-use Rattle.rules.proofs.Lists.Members.{In, here, in_none, in_first, in_right, append_in}
+use Rattle.rules.proofs.Lists.Members.{In, in_none, in_first, in_right, append_in}
 use Rattle.rules.proofs.Lists.Options.{some_same, none_some}
 use Rattle.rules.proofs.Line.LineLaws.{node_there, node_else, lane_there, lane_else}
 use Rattle.rules.proofs.Invariant.Inv.{is_up, Leaves}

@@ -13,7 +13,6 @@ use Rattle.rules.specs.Line.{target_limit, accepted_steps, Status, up, Node, Lin
 use Rattle.rules.specs.Frame.{ask, commit}
 use Rattle.rules.specs.Recover.{targets_of, triples, answer_of}
 use Rattle.rules.specs.Step.{asking, asked_line, effect}
-use Rattle.rules.proofs.Lists.Members.{here}
 use Rattle.rules.proofs.Lists.Options.{some_same, none_some}
 use Rattle.rules.proofs.Line.LineLaws.{node_there, node_else}
 use Rattle.rules.proofs.Invariant.Inv.{Ordered}

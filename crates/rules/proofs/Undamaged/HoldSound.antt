@@ -20,7 +20,7 @@ use Rattle.rules.specs.Step.{replaying, first_record, to_hold, take_lacks, made_
 use Rattle.rules.specs.Damaged.{worked_on}
 use Rattle.rules.proofs.Lists.ListLaws.{nil_right, keep_append}
 use Rattle.rules.proofs.Lists.Rising.{Rises, Within, rises_snoc}
-use Rattle.rules.proofs.Lists.Members.{In, here, in_none, in_first, in_left, in_right, append_in, in_map, map_in, keep_in, within_by}
+use Rattle.rules.proofs.Lists.Members.{In, in_none, in_first, in_left, in_right, append_in, in_map, map_in, keep_in, within_by}
 use Rattle.rules.proofs.Line.LineLaws.{node_there, node_else}
 use Rattle.rules.proofs.Invariant.Stays.{moved}
 use Rattle.rules.proofs.Invariant.Inv.{Enters}

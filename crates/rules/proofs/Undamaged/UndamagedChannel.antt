@@ -13,7 +13,7 @@ use Rattle.plan.specs.Plan.{Plan, channel_at}
 use Rattle.rules.specs.Lists.{is_empty, any_of}
 use Rattle.rules.specs.Line.{queue_limit, Message, down, replay, Lane, Line, node_at, lane_at, parents, sender_of, receiver_of, is_down, is_replay, accepted_steps}
 use Rattle.rules.specs.Step.{end_down, node_down, replaying}
-use Rattle.rules.specs.Damaged.{record_past_limits, channel_past_limits, not_parent, channel_wrong_parent, origin_times, channel_named_times, channel_other_times, channel_time_past, channel_time_zero, origin_wrong, channel_maker_wrong, rises, rises_to, queue_wrong, marks_joined, channel_holds, low_wrong, channel_damaged}
+use Rattle.rules.specs.Damaged.{record_past_limits, channel_past_limits, not_parent, channel_wrong_parent, origin_times, channel_named_times, channel_other_times, channel_time_past, channel_time_zero, origin_wrong, channel_maker_wrong, rises_to, queue_wrong, marks_joined, channel_holds, low_wrong, channel_damaged}
 use Rattle.rules.proofs.Theorem.Accepted.{is_down_lem}
 use Rattle.rules.proofs.Lists.Members.{In, here, there, in_first, in_left, in_right, append_in, in_map, map_in, in_joined, joined_in, none_any}
 use Rattle.rules.proofs.Invariant.Inv.{time_of}

@@ -1,7 +1,6 @@
-use Prim.Native.Nat.{◌*◌, ◌-◌}
+use Prim.Native.Nat.{◌*◌}
 use native.Mathlib.Omega.{arith}
-use borrow.Author.Rules.{rules}
-use Rattle.slots.proofs.SlotLaws.{Moved, none-moved, one_moved, all_moved}
+use Rattle.slots.proofs.SlotLaws.{none-moved, one_moved, all_moved}
 use Rattle.slots.proofs.close_entries.Goals as goal
 
 pub loop-i-init : goal.loop-i-init

@@ -1,7 +1,5 @@
 use Prim.Native.Nat.{◌-◌}
-use native.Mathlib.Omega.{arith}
-use borrow.Author.Rules.{rules}
-use Rattle.slots.proofs.SlotLaws.{Moved, none-moved, one_moved, all_moved}
+use Rattle.slots.proofs.SlotLaws.{Moved}
 use Rattle.slots.proofs.close_gap.Given as goal
 
 abbrev pub invariant-loop-i : goal.invariant-loop-i

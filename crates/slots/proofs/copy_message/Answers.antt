@@ -1,5 +1,4 @@
 use native.Mathlib.Omega.{arith}
-use borrow.Author.Rules.{rules}
 use Rattle.plan.proofs.BytesLaws.{bytes_known}
 use Rattle.slots.proofs.SlotLaws.{slot_copied}
 use Rattle.slots.proofs.copy_message.Goals as goal

@@ -1,6 +1,5 @@
 use Prim.Native.Nat.{◌+◌}
 use mathlib.Core.Path.{◌∙◌}
-use borrow.Author.Rules.{rules}
 use lib.ListN.{get_or}
 use Rattle.buffer.proofs.PieceReads.{origin_in_lem, entry_in_lem}
 use Rattle.slots.proofs.entry_at.Goals as goal

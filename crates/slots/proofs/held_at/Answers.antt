@@ -1,7 +1,6 @@
 use Prim.Native.Nat.{◌+◌}
 use mathlib.Core.Path.{◌∙◌}
 use lib.ListN.{get_or}
-use borrow.Author.Rules.{rules}
 use Rattle.buffer.proofs.PieceReads.{origin_in_lem, held_in_lem}
 use Rattle.slots.proofs.held_at.Goals as goal
 

@@ -1,5 +1,4 @@
 use mathlib.Core.Path.{sym}
-use borrow.Author.Rules.{rules}
 use Rattle.buffer.proofs.PieceReads.{origin_in_lem}
 use Rattle.slots.proofs.made_at.Goals as goal
 

@@ -1,6 +1,5 @@
 use Prim.Native.Nat.{◌+◌}
 use mathlib.Core.Path.{◌∙◌}
-use borrow.Author.Rules.{rules}
 use Rattle.buffer.proofs.PieceReads.{origin_in_lem, message_in}
 use Rattle.slots.proofs.message_at.Goals as goal
 

@@ -1,5 +1,4 @@
 use native.Mathlib.Omega.{arith}
-use borrow.Author.Rules.{rules}
 use Rattle.slots.specs.Slots.{entry_is}
 use Rattle.slots.proofs.SlotLaws.{entry-written}
 use Rattle.slots.proofs.put_entry.Goals as goal

@@ -1,5 +1,4 @@
 use native.Mathlib.Omega.{arith}
-use borrow.Author.Rules.{rules}
 use Rattle.slots.specs.Slots.{held_is}
 use Rattle.slots.proofs.SlotLaws.{held-written}
 use Rattle.slots.proofs.put_held.Goals as goal

@@ -1,5 +1,4 @@
 use native.Mathlib.Omega.{arith}
-use borrow.Author.Rules.{rules}
 use Rattle.slots.proofs.SlotLaws.{made_written}
 use Rattle.slots.proofs.put_made.Goals as goal
 

@@ -1,5 +1,4 @@
 use native.Mathlib.Omega.{arith}
-use borrow.Author.Rules.{rules}
 use Rattle.slots.specs.Slots.{message_is}
 use Rattle.slots.proofs.SlotLaws.{message-written}
 use Rattle.slots.proofs.put_message.Goals as goal

@@ -1,6 +1,5 @@
 use Prim.Native.Nat.{ℕ}
 use mathlib.Core.Path.{ap, ◌∙◌}
-use borrow.Author.Rules.{rules}
 use Rattle.basics.specs.Put.{put}
 use Rattle.plan.specs.Layout.{bytes_of}
 use Rattle.buffer.proofs.WordLaws.{record_bytes}

@@ -1,5 +1,4 @@
 use native.Mathlib.Omega.{arith}
-use borrow.Author.Rules.{rules}
 use Rattle.slots.specs.Slots.{target_is}
 use Rattle.slots.proofs.SlotLaws.{target-written}
 use Rattle.slots.proofs.put_target.Goals as goal

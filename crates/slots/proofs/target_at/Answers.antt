@@ -1,5 +1,4 @@
 use mathlib.Core.Path.{sym}
-use borrow.Author.Rules.{rules}
 use Rattle.buffer.proofs.PieceReads.{target_in_lem}
 use Rattle.slots.proofs.target_at.Goals as goal
 

@@ -1,5 +1,4 @@
 use native.Mathlib.Omega.{arith}
-use borrow.Author.Rules.{rules}
 use Rattle.slots.proofs.SlotLaws.{time_some}
 use Rattle.slots.proofs.time_of.Goals as goal
 

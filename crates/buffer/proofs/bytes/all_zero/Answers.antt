@@ -1,11 +1,6 @@
-use Prim.Native.Nat.{ℕ, ◌-◌, ◌≤◌}
 use mathlib.Core.Path.{◌≡◌, refl, ◌∙◌}
-use mathlib.Core.List.{List}
 use native.Mathlib.Nat.{sub_self}
 use native.Mathlib.Omega.{arith}
-use lib.Dec.{eqb}
-use lib.ListN.{take, drop}
-use Rattle.buffer.specs.Zero.{zero_bytes}
 use Rattle.buffer.proofs.BytesLaws.{zero_turn, zero_test}
 use Rattle.buffer.proofs.bytes.all_zero.Goals as goal
 

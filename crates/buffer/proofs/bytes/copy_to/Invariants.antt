@@ -1,11 +1,8 @@
 use Prim.Native.Nat.{ℕ, ◌-◌, ◌≤◌}
-use mathlib.Core.Path.{◌≡◌, refl, ◌∙◌}
+use mathlib.Core.Path.{◌≡◌}
 use mathlib.Core.List.{List}
-use native.Mathlib.Numerals.{add-one}
-use native.Mathlib.Omega.{arith}
-use lib.ListN.{length, get_or, length-set}
-use lib.Seq.{paste, paste-zero}
-use Rattle.buffer.proofs.BytesLaws.{paste_turn, paste_all}
+use lib.ListN.{length}
+use lib.Seq.{paste}
 use Rattle.buffer.proofs.bytes.copy_to.Given as goal
 
 -- The first i bytes are copied.

@@ -1,10 +1,9 @@
-use Prim.Native.Nat.{ℕ, suc, ◌+◌, ◌-◌, ◌≤◌}
+use Prim.Native.Nat.{ℕ, suc, ◌+◌, ◌-◌}
 use mathlib.Core.Path.{◌≡◌, refl, ◌∙◌}
-use mathlib.Core.List.{List}
 use native.Mathlib.Nat.{sub_self}
 use native.Mathlib.Omega.{arith}
-use lib.ListN.{length, replicate, length-set, length-replicate, get_or-replicate}
-use lib.Seq.{paste, paste-zero}
+use lib.ListN.{replicate, length-set, length-replicate, get_or-replicate}
+use lib.Seq.{paste-zero}
 use Rattle.buffer.proofs.BytesLaws.{paste_turn, paste_all}
 use Rattle.buffer.proofs.bytes.fill_zero.Goals as goal
 

@@ -1,11 +1,8 @@
-use Prim.Native.Nat.{ℕ, suc, ◌+◌, ◌-◌, ◌≤◌}
-use mathlib.Core.Path.{◌≡◌, refl, ◌∙◌}
+use Prim.Native.Nat.{ℕ, ◌-◌, ◌≤◌}
+use mathlib.Core.Path.{◌≡◌}
 use mathlib.Core.List.{List}
-use native.Mathlib.Nat.{sub_self}
-use native.Mathlib.Omega.{arith}
-use lib.ListN.{length, replicate, length-set, length-replicate, get_or-replicate}
-use lib.Seq.{paste, paste-zero}
-use Rattle.buffer.proofs.BytesLaws.{paste_turn, paste_all}
+use lib.ListN.{length, replicate}
+use lib.Seq.{paste}
 use Rattle.buffer.proofs.bytes.fill_zero.Given as goal
 
 -- The bytes from the place up to i are 0.

@@ -1,6 +1,5 @@
 use mathlib.Core.Path.{sym}
 use native.Mathlib.Omega.{arith}
-use borrow.Author.Rules.{rules}
 use Rattle.plan.proofs.ReadLaws.{word_field}
 use Rattle.buffer.proofs.bytes.get16.Goals as goal
 

@@ -1,5 +1,4 @@
 use mathlib.Core.Path.{sym, ◌∙◌}
-use borrow.Author.Rules.{rules}
 use Rattle.buffer.proofs.BytesLaws.{four_field}
 use Rattle.buffer.proofs.bytes.get32.Goals as goal
 

@@ -1,5 +1,4 @@
 use mathlib.Core.Path.{sym, ◌∙◌}
-use borrow.Author.Rules.{rules}
 use Rattle.buffer.proofs.WordLaws.{spells64}
 use Rattle.buffer.proofs.bytes.get64.Goals as goal
 

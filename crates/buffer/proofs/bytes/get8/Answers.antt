@@ -1,5 +1,4 @@
 use mathlib.Core.Path.{sym}
-use borrow.Author.Rules.{rules}
 use Rattle.plan.proofs.ReadLaws.{byte_field}
 use Rattle.buffer.proofs.bytes.get8.Goals as goal
 

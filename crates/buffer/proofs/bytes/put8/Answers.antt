@@ -2,7 +2,6 @@ use Prim.Native.Nat.{◌%◌}
 use mathlib.Core.Path.{◌≡◌}
 use native.Mathlib.Nat.{div-one}
 use native.Mathlib.Omega.{arith}
-use borrow.Author.Rules.{rules}
 use Rattle.basics.specs.Put.{put-set}
 use Rattle.buffer.proofs.bytes.put8.Goals as goal
 

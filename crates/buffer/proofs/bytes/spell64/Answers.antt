@@ -1,5 +1,4 @@
 use mathlib.Core.Path.{◌∙◌}
-use borrow.Author.Rules.{rules}
 use Rattle.buffer.proofs.WordLaws.{two_halves}
 use Rattle.buffer.proofs.bytes.spell64.Goals as goal
 

@@ -1,6 +1,5 @@
 use mathlib.Core.Path.{sym, ◌∙◌}
 use native.Mathlib.Omega.{arith}
-use borrow.Author.Rules.{rules}
 use Rattle.plan.proofs.ReadLaws.{channels_byte}
 use Rattle.buffer.proofs.look.channel_count.Goals as goal
 

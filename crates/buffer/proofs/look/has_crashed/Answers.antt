@@ -1,4 +1,3 @@
-use borrow.Author.Rules.{rules}
 use Rattle.buffer.proofs.ReadyLaws.{crashed_at_lem}
 use Rattle.buffer.proofs.look.has_crashed.Goals as goal
 

@@ -1,4 +1,3 @@
-use borrow.Author.Rules.{rules}
 use Rattle.buffer.proofs.ReadyLaws.{down_at}
 use Rattle.buffer.proofs.look.is_down.Goals as goal
 

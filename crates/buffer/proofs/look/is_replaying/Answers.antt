@@ -1,4 +1,3 @@
-use borrow.Author.Rules.{rules}
 use Rattle.buffer.proofs.ReadyLaws.{replaying-at}
 use Rattle.buffer.proofs.look.is_replaying.Goals as goal
 

@@ -1,6 +1,5 @@
 use Prim.Native.Nat.{ℕ}
 use mathlib.Core.Path.{ap, ◌∙◌}
-use borrow.Author.Rules.{rules}
 use lib.Dec.{eqb}
 use Rattle.plan.specs.Plan.{plan_of, entering, is_source}
 use Rattle.plan.proofs.MaskLaws.{mask_few, mask_none}

@@ -1,6 +1,5 @@
 use mathlib.Core.Path.{sym, ◌∙◌}
 use native.Mathlib.Omega.{arith}
-use borrow.Author.Rules.{rules}
 use Rattle.plan.proofs.ReadLaws.{nodes_byte}
 use Rattle.buffer.proofs.look.node_count.Goals as goal
 

@@ -2,7 +2,6 @@ use Prim.Native.Nat.{◌-◌, ◌/◌}
 use mathlib.Core.Path.{ap, ◌∙◌}
 use mathlib.Core.Bool.{Bool, ◌&&◌}
 use native.Mathlib.Omega.{arith}
-use borrow.Author.Rules.{rules}
 use lib.Dec.{eqb}
 use Rattle.buffer.proofs.TableLaws.{coded, not_placed}
 use Rattle.buffer.proofs.OriginLaws.{before_fed, before_missing, before_there}

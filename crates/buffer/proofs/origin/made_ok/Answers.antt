@@ -1,6 +1,5 @@
 use Prim.Native.Nat.{◌%◌}
 use native.Mathlib.Omega.{arith}
-use borrow.Author.Rules.{rules}
 use Rattle.state.specs.Pieces.{origin_from}
 use Rattle.buffer.specs.Exact.{time_named}
 use Rattle.buffer.proofs.TableLaws.{coded, not_found}

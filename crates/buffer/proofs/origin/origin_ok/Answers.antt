@@ -1,5 +1,4 @@
 use mathlib.Core.Path.{◌∙◌}
-use borrow.Author.Rules.{rules}
 use Rattle.buffer.proofs.OriginLaws.{origin_at_source, origin-named}
 use Rattle.buffer.proofs.origin.origin_ok.Goals as goal
 

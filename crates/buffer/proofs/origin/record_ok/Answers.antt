@@ -1,6 +1,5 @@
 use Prim.Native.Nat.{ℕ}
 use mathlib.Core.Path.{ap, ◌∙◌}
-use borrow.Author.Rules.{rules}
 use Rattle.plan.specs.Record.{record_fits}
 use Rattle.plan.specs.Layout.{bytes_of}
 use Rattle.plan.proofs.BytesLaws.{bytes_known}

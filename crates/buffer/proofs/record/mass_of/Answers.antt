@@ -1,5 +1,4 @@
 use native.Mathlib.Omega.{arith}
-use borrow.Author.Rules.{rules}
 use Rattle.buffer.proofs.WordLaws.{mass_field}
 use Rattle.buffer.proofs.record.mass_of.Goals as goal
 

@@ -1,5 +1,4 @@
 use native.Mathlib.Omega.{arith}
-use borrow.Author.Rules.{rules}
 use Rattle.buffer.proofs.WordLaws.{material_field}
 use Rattle.buffer.proofs.record.material_of.Goals as goal
 

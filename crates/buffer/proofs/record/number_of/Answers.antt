@@ -1,5 +1,4 @@
 use native.Mathlib.Omega.{arith}
-use borrow.Author.Rules.{rules}
 use Rattle.buffer.proofs.WordLaws.{number_of_record}
 use Rattle.buffer.proofs.record.number_of.Goals as goal
 

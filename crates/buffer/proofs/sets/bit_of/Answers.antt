@@ -4,7 +4,7 @@ use native.Mathlib.Numerals.{add-one}
 use native.Mathlib.Omega.{arith}
 use Rattle.plan.specs.Plan.{plan_of, channel_at}
 use Rattle.plan.proofs.PlanLaws.{node_count_lem, channel_count_lem}
-use Rattle.buffer.proofs.SetLaws.{Behind, behind_start, behind_more, bit_first, bit_found}
+use Rattle.buffer.proofs.SetLaws.{behind_start, behind_more, bit_first, bit_found}
 use Rattle.buffer.proofs.sets.bit_of.Goals as goal
 
 pub loop-k-init : goal.loop-k-init

@@ -1,11 +1,11 @@
-use Prim.Native.Nat.{◌-◌, ◌<◌}
+use Prim.Native.Nat.{◌<◌}
 use mathlib.Core.Path.{◌≡◌, sym, ◌∙◌}
 use native.Mathlib.Numerals.{add-one}
 use native.Mathlib.Omega.{arith}
 use Rattle.plan.specs.Plan.{plan_of, channel_count, channel_at}
 use Rattle.plan.proofs.MaskLaws.{bit_at_most}
 use Rattle.plan.proofs.PlanLaws.{node_count_lem, channel_count_lem}
-use Rattle.buffer.proofs.SetLaws.{Found, found_start, found_room, found_more, found_all, found_last}
+use Rattle.buffer.proofs.SetLaws.{found_start, found_room, found_more, found_all, found_last}
 use Rattle.buffer.proofs.sets.set_of.Goals as goal
 
 pub loop-b-init : goal.loop-b-init

@@ -1,10 +1,10 @@
-use Prim.Native.Nat.{◌-◌, ◌<◌}
+use Prim.Native.Nat.{◌<◌}
 use native.Mathlib.Numerals.{add-one}
 use native.Mathlib.Omega.{arith}
 use borrow.Author.Rules.{rules}
 use Rattle.plan.specs.Plan.{plan_channels}
 use Rattle.buffer.specs.Table.{empty_table}
-use Rattle.buffer.proofs.TableLaws.{Filled, filled_start, filled_few, filled_turn, filled_end, turn_fits}
+use Rattle.buffer.proofs.TableLaws.{filled_start, filled_few, filled_turn, filled_end, turn_fits}
 use Rattle.buffer.proofs.table.fill.Goals as goal
 
 pub fill_zero-requires : goal.fill_zero-requires

@@ -1,10 +1,5 @@
-use Prim.Native.Nat.{◌-◌, ◌<◌}
-use native.Mathlib.Numerals.{add-one}
-use native.Mathlib.Omega.{arith}
-use borrow.Author.Rules.{rules}
-use Rattle.plan.specs.Plan.{plan_channels}
-use Rattle.buffer.specs.Table.{empty_table}
-use Rattle.buffer.proofs.TableLaws.{Filled, filled_start, filled_few, filled_turn, filled_end, turn_fits}
+use Prim.Native.Nat.{◌-◌}
+use Rattle.buffer.proofs.TableLaws.{Filled}
 use Rattle.buffer.proofs.table.fill.Given as goal
 
 abbrev pub invariant-loop-b : goal.invariant-loop-b

@@ -1,6 +1,5 @@
 use mathlib.Core.Path.{◌∙◌}
 use native.Mathlib.Omega.{arith}
-use borrow.Author.Rules.{rules}
 use Rattle.buffer.proofs.TableLaws.{outside}
 use Rattle.buffer.proofs.table.joined.Goals as goal
 

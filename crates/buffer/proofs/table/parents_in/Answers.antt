@@ -1,6 +1,5 @@
 use mathlib.Core.Path.{◌∙◌}
 use native.Mathlib.Omega.{arith}
-use borrow.Author.Rules.{rules}
 use Rattle.buffer.proofs.TableLaws.{none_outside}
 use Rattle.buffer.proofs.table.parents_in.Goals as goal
 

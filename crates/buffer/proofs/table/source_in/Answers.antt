@@ -1,6 +1,5 @@
 use mathlib.Core.Path.{ap, ◌∙◌}
 use Prim.Native.Nat.{ℕ}
-use borrow.Author.Rules.{rules}
 use lib.Dec.{eqb}
 use Rattle.plan.specs.Plan.{plan_of}
 use Rattle.buffer.proofs.TableLaws.{source_counted}

@@ -2,7 +2,6 @@ use mathlib.Core.Path.{refl, sym}
 use native.Mathlib.Omega.{arith}
 use Rattle.plan.specs.Channel.{bit_set}
 use Rattle.plan.proofs.ChannelLaws.{bit_beyond}
-use borrow.Author.Rules.{rules}
 use Rattle.plan.proofs.channels.bit_set.Goals as goal
 
 pub returns-then-i-gt15 : goal.returns-then-i-gt15

@@ -1,7 +1,6 @@
 use mathlib.Core.Path.{◌≡◌, sym}
 use native.Mathlib.Nat.{mod-zero}
 use native.Mathlib.Omega.{arith}
-use borrow.Author.Rules.{rules}
 use Rattle.plan.proofs.channels.left_over.Goals as goal
 
 pub returns-then-modulus-eq0 : goal.returns-then-modulus-eq0

@@ -2,7 +2,6 @@ use mathlib.Core.Path.{◌≡◌, refl, sym, ◌∙◌}
 use mathlib.Core.Bool.{Bool, true, false, ◌||◌}
 use Rattle.plan.specs.Record.{is_tick}
 use Rattle.plan.specs.Channel.{takes}
-use borrow.Author.Rules.{rules}
 use Rattle.plan.proofs.channels.takes_fields.Goals as goal
 
 -- The code asks whether it is a tick last.

@@ -1,12 +1,9 @@
-use Prim.Native.Nat.{ℕ, ◌-◌, ◌≤◌, ◌<◌}
-use mathlib.Core.Path.{◌≡◌, refl, ap, ◌∙◌}
-use mathlib.Core.Bool.{◌&&◌, not}
-use native.Mathlib.Omega.{arith}
+use Prim.Native.Nat.{◌-◌, ◌≤◌}
+use mathlib.Core.Path.{◌≡◌}
+use mathlib.Core.Bool.{◌&&◌}
 use lib.ListN.{drop}
-use Rattle.plan.specs.Plan.{plan_of, channel_count}
-use Rattle.plan.specs.Check.{channels_fit, bad_channels}
-use Rattle.plan.proofs.PlanLaws.{channel_count_lem}
-use Rattle.plan.proofs.LoopLaws.{channels_more, channels_end}
+use Rattle.plan.specs.Plan.{plan_of}
+use Rattle.plan.specs.Check.{channels_fit}
 use Rattle.plan.proofs.checks.bad_channels.Given as goal
 
 abbrev pub invariant-loop-b : goal.invariant-loop-b

@@ -1,6 +1,5 @@
 use mathlib.Core.Bool.{not}
 use mathlib.Core.Path.{ap}
-use borrow.Author.Rules.{rules}
 use Rattle.plan.specs.Check.{bad_degrees}
 use Rattle.plan.proofs.DegreeLaws.{few_nodes}
 use Rattle.plan.proofs.checks.bad_degrees.Goals as goal

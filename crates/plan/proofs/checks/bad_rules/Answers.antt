@@ -1,11 +1,11 @@
-use Prim.Native.Nat.{◌-◌, ◌≤◌, ◌<◌}
-use mathlib.Core.Path.{◌≡◌, refl, ap, ◌∙◌}
-use mathlib.Core.Bool.{◌&&◌, not}
+use Prim.Native.Nat.{◌≤◌, ◌<◌}
+use mathlib.Core.Path.{refl, ap, ◌∙◌}
+use mathlib.Core.Bool.{not}
 use native.Mathlib.Omega.{arith}
 use lib.ListN.{length, drop}
 use Rattle.plan.specs.Rule.{rule_fields}
 use Rattle.plan.specs.Plan.{plan_nodes}
-use Rattle.plan.specs.Check.{rules_fit, bad_rules}
+use Rattle.plan.specs.Check.{bad_rules}
 use Rattle.plan.proofs.LayoutLaws.{length-read_slots}
 use Rattle.plan.proofs.LoopLaws.{rule_slots, rules_more, rules_end}
 use Rattle.plan.proofs.checks.bad_rules.Goals as goal

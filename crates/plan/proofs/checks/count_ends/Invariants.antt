@@ -1,10 +1,4 @@
-use Prim.Native.Nat.{ℕ, suc, ◌-◌, ◌<◌}
-use mathlib.Core.Path.{◌≡◌}
-use mathlib.Core.List.{List}
-use native.Mathlib.Omega.{arith}
-use Rattle.plan.specs.Channel.{channel_size}
-use Rattle.plan.specs.Plan.{plan_version, channel_from}
-use Rattle.plan.proofs.DegreeLaws.{Counting, counting_start, enter_ready, leave_ready, counting_more, counting_end, channel_there, place_few}
+use Rattle.plan.proofs.DegreeLaws.{Counting}
 use Rattle.plan.proofs.checks.count_ends.Given as goal
 
 abbrev pub invariant-loop-left : goal.invariant-loop-left

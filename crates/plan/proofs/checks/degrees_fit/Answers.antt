@@ -1,9 +1,8 @@
-use Prim.Native.Nat.{ℕ, suc, ◌-◌, ◌≤◌}
+use Prim.Native.Nat.{ℕ, suc, ◌-◌}
 use mathlib.Core.Path.{◌≡◌, sym, ◌∙◌}
-use mathlib.Core.Bool.{◌&&◌, and-true}
+use mathlib.Core.Bool.{and-true}
 use native.Mathlib.Omega.{arith}
-use Rattle.plan.specs.Plan.{plan_of, plan_nodes}
-use Rattle.plan.specs.Check.{four_at_most}
+use Rattle.plan.specs.Plan.{plan_of}
 use Rattle.plan.proofs.LoopLaws.{degrees_more}
 use Rattle.plan.proofs.checks.degrees_fit.Goals as goal
 

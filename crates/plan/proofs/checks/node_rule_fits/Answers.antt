@@ -1,4 +1,3 @@
-use native.Mathlib.Omega.{arith}
 use mathlib.Core.List.{[]}
 use Rattle.plan.proofs.ReadLaws.{rule_numbers-at}
 use Rattle.plan.proofs.checks.node_rule_fits.Goals as goal

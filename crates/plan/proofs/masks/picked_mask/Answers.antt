@@ -1,10 +1,10 @@
-use Prim.Native.Nat.{◌-◌, ◌≤◌, ◌<◌}
+use Prim.Native.Nat.{◌≤◌, ◌<◌}
 use mathlib.Core.Path.{sym, ◌∙◌}
 use native.Mathlib.Omega.{arith}
 use Rattle.plan.specs.Plan.{plan_of, channel_count, numbers_from}
 use Rattle.plan.specs.Mask.{picked}
 use Rattle.plan.proofs.PlanLaws.{channel_count_lem}
-use Rattle.plan.proofs.MaskLaws.{Grown, grown_start, grown_more, grown_end, bit_at_most, mask_few, mask_many}
+use Rattle.plan.proofs.MaskLaws.{grown_start, grown_more, grown_end, bit_at_most, mask_few, mask_many}
 use Rattle.plan.proofs.masks.picked_mask.Goals as goal
 
 pub returns-then-m-gt24 : goal.returns-then-m-gt24

@@ -1,10 +1,7 @@
-use Prim.Native.Nat.{◌-◌, ◌≤◌, ◌<◌}
-use mathlib.Core.Path.{sym, ◌∙◌}
-use native.Mathlib.Omega.{arith}
-use Rattle.plan.specs.Plan.{plan_of, channel_count, numbers_from}
+use Prim.Native.Nat.{◌-◌}
+use Rattle.plan.specs.Plan.{plan_of}
 use Rattle.plan.specs.Mask.{picked}
-use Rattle.plan.proofs.PlanLaws.{channel_count_lem}
-use Rattle.plan.proofs.MaskLaws.{Grown, grown_start, grown_more, grown_end, bit_at_most, mask_few, mask_many}
+use Rattle.plan.proofs.MaskLaws.{Grown}
 use Rattle.plan.proofs.masks.picked_mask.Given as goal
 
 abbrev pub invariant-loop-b : goal.invariant-loop-b

@@ -4,7 +4,7 @@ use native.Mathlib.Omega.{arith}
 use lib.Pow.{pow_pos}
 use Rattle.plan.specs.Plan.{plan_of}
 use Rattle.plan.specs.Mask.{takes_at}
-use Rattle.plan.proofs.TakingLaws.{Asked, asked_start, next_bit, asked_more, asked_none, asked_some}
+use Rattle.plan.proofs.TakingLaws.{asked_start, next_bit, asked_more, asked_none, asked_some}
 use Rattle.plan.proofs.masks.some_takes.Goals as goal
 
 pub loop-left-init : goal.loop-left-init

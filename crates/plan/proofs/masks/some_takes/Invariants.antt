@@ -1,10 +1,6 @@
-use mathlib.Core.Path.{sym, ap, ◌∙◌}
-use mathlib.Core.Bool.{not}
-use native.Mathlib.Omega.{arith}
-use lib.Pow.{pow_pos}
 use Rattle.plan.specs.Plan.{plan_of}
 use Rattle.plan.specs.Mask.{takes_at}
-use Rattle.plan.proofs.TakingLaws.{Asked, asked_start, next_bit, asked_more, asked_none, asked_some}
+use Rattle.plan.proofs.TakingLaws.{Asked}
 use Rattle.plan.proofs.masks.some_takes.Given as goal
 
 -- Nothing is found yet.

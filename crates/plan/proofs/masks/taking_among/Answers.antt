@@ -3,7 +3,7 @@ use lib.Pow.{pow_pos}
 use Rattle.plan.specs.Plan.{plan_of}
 use Rattle.plan.specs.Mask.{takes_at}
 use Rattle.plan.proofs.MaskLaws.{bit_at_most}
-use Rattle.plan.proofs.TakingLaws.{Asked, asked_start, next_bit, asked_more, asked_end, taking-of}
+use Rattle.plan.proofs.TakingLaws.{asked_start, next_bit, asked_more, asked_end, taking-of}
 use Rattle.plan.proofs.masks.taking_among.Goals as goal
 
 pub loop-left-init : goal.loop-left-init

@@ -1,4 +1,3 @@
-use borrow.Author.Rules.{rules}
 use Rattle.plan.proofs.nodes.apply.Goals as goal
 
 pub returns-in-Relabel : goal.returns-in-Relabel

@@ -1,5 +1,4 @@
 use borrow.Author.Tests.{ne_eqb}
-use native.Mathlib.Omega.{arith}
 use Rattle.plan.proofs.nodes.rule_of.Goals as goal
 
 pub returns-in-1 : goal.returns-in-1
