@@ -4,13 +4,12 @@ use mathlib.Core.Path.{◌≡◌, refl, sym, ap, subst, ◌∙◌}
 use mathlib.Core.Logic.{◌≢◌}
 use mathlib.Core.Bool.{true, false, true≢false}
 use mathlib.Core.List.{List, [], ◌++◌, append-nil}
-use native.Mathlib.Nat.{zero-add}
 use native.Mathlib.Omega.{arith}
 use borrow.Author.Tests.{leb-true, ltb-true}
 use mathlib.Core.Option.{Option, some}
 use lib.Dec.{leb, ltb}
-use lib.ListN.{length, take, drop, take-append-drop}
-use lib.Seq.{slice, take-append_seam, length-take-le}
+use lib.ListN.{length}
+use lib.Seq.{slice}
 use Rattle.basics.specs.Bools.{both_true}
 use Rattle.basics.specs.Put.{put, put-none, put_front}
 use Rattle.rules.specs.Sheet.{answer_line, line_text, length_field, frames_text}

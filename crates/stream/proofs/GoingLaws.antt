@@ -5,9 +5,9 @@ use mathlib.Core.Logic.{◌≢◌}
 use mathlib.Core.List.{List, [], ◌++◌, append_assoc}
 use native.Mathlib.Numerals.{add-one}
 use native.Mathlib.Omega.{arith}
-use lib.ListN.{length, take, drop, length-append}
+use lib.ListN.{length, take, drop}
 use lib.Seq.{slice}
-use Rattle.basics.specs.Put.{put, put-none, put-behind}
+use Rattle.basics.specs.Put.{put-none}
 use Rattle.plan.specs.Lawful.{Bytes}
 use Rattle.plan.proofs.BytesLaws.{bytes_take, bytes_drop}
 use Rattle.rules.specs.Line.{Line}
@@ -25,7 +25,7 @@ use Rattle.report.proofs.WroteLaws.{wrote_at, wrote_most, wrote_then}
 use Rattle.stream.specs.Reading.{Told, before, frames_told}
 use Rattle.stream.specs.Reader.{out_size}
 use Rattle.stream.specs.Frames.{FrameSize, Workable, Going}
-use Rattle.stream.proofs.ReadingLaws.{short, told-frame, text_frame}
+use Rattle.stream.proofs.ReadingLaws.{told-frame, text_frame}
 use Rattle.stream.proofs.WindowLaws.{part_long, part_front, part_behind}
 
 -- ---- texts one behind the other

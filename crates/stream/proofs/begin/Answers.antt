@@ -1,5 +1,4 @@
 use native.Mathlib.Omega.{arith}
-use borrow.Author.Rules.{rules}
 use Rattle.stream.specs.Reader.{out_size}
 use Rattle.report.proofs.WroteLaws.{wrote_most}
 use mathlib.Core.Path.{refl}

@@ -1,6 +1,5 @@
 use mathlib.Core.Path.{sym, ◌∙◌}
 use native.Mathlib.Omega.{arith}
-use borrow.Author.Rules.{rules}
 use Rattle.stream.proofs.EndingLaws.{ended_short, kept_part}
 use Rattle.stream.proofs.frame_block.Goals as goal
 

@@ -1,5 +1,4 @@
 use native.Mathlib.Omega.{arith}
-use borrow.Author.Rules.{rules}
 use Rattle.stream.proofs.EndingLaws.{closed_even, closed_cut}
 use Rattle.stream.proofs.frame_end.Goals as goal
 

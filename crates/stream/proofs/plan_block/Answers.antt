@@ -1,6 +1,5 @@
 use mathlib.Core.Path.{sym}
 use native.Mathlib.Omega.{arith}
-use borrow.Author.Rules.{rules}
 use lib.Seq.{length-take-le}
 use Rattle.plan.proofs.BytesLaws.{bytes_known}
 use Rattle.stream.proofs.PlanningLaws.{waiting_few, waiting_part, loaded_workable, block_loaded, block_refused}

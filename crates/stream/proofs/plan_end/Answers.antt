@@ -1,6 +1,5 @@
 use mathlib.Core.Path.{sym}
 use native.Mathlib.Omega.{arith}
-use borrow.Author.Rules.{rules}
 use lib.Seq.{length-take-le}
 use Rattle.plan.proofs.BytesLaws.{bytes_known}
 use Rattle.stream.proofs.PlanningLaws.{size_within, loaded_workable, closed_loaded, closed_refused}

@@ -1,5 +1,4 @@
 use native.Mathlib.Omega.{arith}
-use borrow.Author.Rules.{rules}
 use Rattle.stream.proofs.WindowLaws.{frame_few, frame_under, frame_part, frame-whole}
 use Rattle.stream.proofs.frames.frame_size.Goals as goal
 

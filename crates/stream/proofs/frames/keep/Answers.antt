@@ -1,9 +1,8 @@
-use Prim.Native.Nat.{ℕ, ◌-◌, ◌≤◌}
+use Prim.Native.Nat.{◌-◌}
 use mathlib.Core.Path.{◌≡◌, refl, sym, ◌∙◌}
-use mathlib.Core.List.{List}
 use native.Mathlib.Omega.{arith}
-use lib.ListN.{length, take, drop, length-set}
-use Rattle.basics.specs.Put.{put, put-none}
+use lib.ListN.{length-set}
+use Rattle.basics.specs.Put.{put-none}
 use Rattle.plan.proofs.BytesLaws.{drop-take}
 use Rattle.stream.proofs.WindowLaws.{move_turn}
 use Rattle.stream.proofs.frames.keep.Goals as goal

@@ -1,11 +1,8 @@
 use Prim.Native.Nat.{ℕ, ◌-◌, ◌≤◌}
-use mathlib.Core.Path.{◌≡◌, refl, sym, ◌∙◌}
+use mathlib.Core.Path.{◌≡◌}
 use mathlib.Core.List.{List}
-use native.Mathlib.Omega.{arith}
-use lib.ListN.{length, take, drop, length-set}
-use Rattle.basics.specs.Put.{put, put-none}
-use Rattle.plan.proofs.BytesLaws.{drop-take}
-use Rattle.stream.proofs.WindowLaws.{move_turn}
+use lib.ListN.{length, take, drop}
+use Rattle.basics.specs.Put.{put}
 use Rattle.stream.proofs.frames.keep.Given as goal
 
 -- The first i bytes have moved.

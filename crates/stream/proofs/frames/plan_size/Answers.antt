@@ -1,4 +1,3 @@
-use borrow.Author.Rules.{rules}
 use Rattle.stream.proofs.WindowLaws.{plan_few, plan_field, plan_all}
 use Rattle.stream.proofs.frames.plan_size.Goals as goal
 

@@ -1,4 +1,3 @@
-use borrow.Author.Rules.{rules}
 use Rattle.stream.proofs.WindowLaws.{short_few, short_by}
 use Rattle.stream.proofs.frames.too_short.Goals as goal
 

@@ -1,12 +1,11 @@
-use Prim.Native.Nat.{ℕ, ◌+◌, ◌-◌, ◌≤◌}
+use Prim.Native.Nat.{◌+◌, ◌≤◌}
 use mathlib.Core.Path.{refl, subst}
-use mathlib.Core.List.{List}
 use native.Mathlib.Omega.{arith}
 use lib.Seq.{slice}
 use Rattle.plan.proofs.BytesLaws.{bytes_known}
 use Rattle.report.specs.Most.{answer_most}
 use Rattle.stream.specs.Reader.{out_size}
-use Rattle.stream.specs.Frames.{FrameSize, Going}
+use Rattle.stream.specs.Frames.{FrameSize}
 use Rattle.stream.proofs.GoingLaws.{going_start, next_inside, going_on}
 use Rattle.stream.proofs.frames.work.Goals.{In-loop-n}
 use Rattle.stream.proofs.frames.work.Goals as goal
