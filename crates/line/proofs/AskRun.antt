@@ -13,7 +13,7 @@ use Rattle.rules.specs.Ask.{line_after, StaysDown}
 use Rattle.rules.proofs.Restart.AskCommit.{ask_refused, ask_keeps, ask_tells, ask_and_commit, ask_again, never_stale, commit_unkept, commit_read_as_recover, commit_as_recover, ask_then_commit}
 use Rattle.state.specs.State.{line_bytes, line_of, state_answer}
 use Rattle.state.proofs.SpelledLaws.{state_sane}
-use Rattle.line.specs.Step.{step_answer, step_left}
+use Rattle.line.specs.Step.{step_left}
 use Rattle.line.specs.Order.{state_after}
 use Rattle.line.specs.Ask.{AskRefusedOnBytes, AskKeepsOnBytes, AskTellsOnBytes, AskAndCommitOnBytes, AskAgainOnBytes, NeverStaleOnBytes, CommitUnkeptOnBytes, CommitReadAsRecoverOnBytes, SameStep, CommitAsRecoverOnBytes, StaysDownOnBytes, AskThenCommitOnBytes}
 use Rattle.line.proofs.StepLaws.{one_call}

@@ -11,7 +11,7 @@ use lib.Dec.{eqb}
 use Rattle.plan.specs.Lawful.{Bytes}
 use Rattle.rules.specs.Line.{Line}
 use Rattle.rules.specs.Frame.{Frame, frame_of}
-use Rattle.rules.specs.Step.{no_such, some_stopped, wrong_node, wrong_status, beside_crashed, no_answer, bad_record, nothing_there, queue_full, row_done, no_space, no_placing, line_refusal, refusal, accepted, step}
+use Rattle.rules.specs.Step.{no_such, some_stopped, wrong_node, wrong_status, beside_crashed, no_answer, bad_record, nothing_there, queue_full, row_done, no_space, no_placing, line_refusal, refusal, step}
 use Rattle.rules.specs.Damaged.{damaged}
 use Rattle.rules.proofs.Theorem.Accepted.{step_refused as rules-refused, admitted}
 use Rattle.rules.proofs.Undamaged.StepSound.{step_undamaged}

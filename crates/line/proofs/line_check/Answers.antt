@@ -1,6 +1,4 @@
 use mathlib.Core.Path.{sym, ◌∙◌}
-use borrow.Author.Tests.{not-true, not-false}
-use borrow.Author.Rules.{rules}
 use Rattle.plan.proofs.BytesLaws.{bytes_known}
 use Rattle.line.proofs.WholeLaws.{check_answer}
 use Rattle.line.proofs.WriteLaws.{size_wrong, state_wrong}

@@ -1,7 +1,6 @@
 use Prim.Native.Nat.{ℕ}
 use mathlib.Core.Path.{◌≡◌, sym, ◌∙◌}
 use mathlib.Core.List.{List}
-use borrow.Author.Rules.{rules}
 use Rattle.plan.proofs.BytesLaws.{bytes_known}
 use Rattle.state.specs.State.{state_answer}
 use Rattle.state.proofs.SpelledLaws.{state_sane}

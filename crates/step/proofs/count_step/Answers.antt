@@ -1,5 +1,4 @@
 use native.Mathlib.Omega.{arith}
-use borrow.Author.Rules.{rules}
 use Rattle.step.proofs.StepLaws.{counted-put}
 use Rattle.step.proofs.count_step.Goals as goal
 

@@ -1,6 +1,5 @@
 use Prim.Native.Nat.{◌<◌}
 use native.Mathlib.Omega.{arith}
-use borrow.Author.Rules.{rules}
 use Rattle.plan.proofs.BytesLaws.{bytes_known}
 use Rattle.rules.specs.Line.{step_limit, steps_from}
 use Rattle.rules.specs.Frame.{frame_of}

@@ -2,7 +2,6 @@ use Prim.Native.Nat.{ℕ}
 use mathlib.Core.Path.{sym, ◌∙◌}
 use mathlib.Core.List.{List}
 use native.Mathlib.Omega.{arith}
-use borrow.Author.Rules.{rules}
 use Rattle.step.proofs.StepLaws.{no_channel, end_down_lem, nothing_there, at_receiver}
 use Rattle.step.proofs.take.Goals as goal
 

@@ -1,6 +1,5 @@
 use mathlib.Core.Path.{sym, ◌∙◌}
 use native.Mathlib.Omega.{arith}
-use borrow.Author.Rules.{rules}
 use Rattle.line.proofs.CheckLaws.{plan_bad, plan-within, plan_good}
 use Rattle.line.proofs.check.plan_ok.Goals as goal
 

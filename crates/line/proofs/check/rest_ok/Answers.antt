@@ -1,4 +1,3 @@
-use borrow.Author.Rules.{rules}
 use Rattle.line.proofs.CheckLaws.{rest_found}
 use Rattle.line.proofs.check.rest_ok.Goals as goal
 

@@ -1,8 +1,4 @@
-use Prim.Native.Nat.{ℕ, ◌≤◌}
-use mathlib.Core.Path.{◌∙◌}
 use native.Mathlib.Omega.{arith}
-use Rattle.rules.specs.Line.{step_limit, steps_from}
-use Rattle.state.specs.State.{line_of}
 use Rattle.buffer.proofs.ReadyLaws.{counted}
 use Rattle.line.proofs.CheckLaws.{steps_added, steps-within}
 use Rattle.line.proofs.whole.all_steps.Goals as goal

@@ -1,7 +1,6 @@
-use Prim.Native.Nat.{◌-◌}
 use native.Mathlib.Omega.{arith}
 use Rattle.line.specs.Whole.{channel_checked}
-use Rattle.line.proofs.CheckLaws.{Tested, tested_start, tested_turn, tested_end}
+use Rattle.line.proofs.CheckLaws.{tested_start, tested_turn, tested_end}
 use Rattle.line.proofs.whole.channels_ok.Goals as goal
 
 pub loop-b-init : goal.loop-b-init

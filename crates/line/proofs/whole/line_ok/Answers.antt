@@ -1,6 +1,4 @@
 use mathlib.Core.Path.{sym, ◌∙◌}
-use borrow.Author.Tests.{not-true, not-false}
-use borrow.Author.Rules.{rules}
 use Rattle.line.proofs.CheckLaws.{steps_wrong}
 use Rattle.line.proofs.whole.line_ok.Goals as goal
 

@@ -1,7 +1,6 @@
 use Prim.Native.Nat.{◌-◌}
-use native.Mathlib.Omega.{arith}
 use Rattle.line.specs.Whole.{node_checked}
-use Rattle.line.proofs.CheckLaws.{Tested, tested_start, tested_turn, tested_end}
+use Rattle.line.proofs.CheckLaws.{Tested}
 use Rattle.line.proofs.whole.pages_ok.Given as goal
 
 abbrev pub invariant-loop-k : goal.invariant-loop-k

@@ -1,4 +1,3 @@
-use borrow.Author.Tests.{not-true, not-false}
 use borrow.Author.Rules.{rules}
 use Rattle.buffer.specs.Table.{empty_table}
 use Rattle.line.proofs.CheckLaws.{found_wrong, found_restarts, found_pages}

@@ -1,6 +1,4 @@
 use mathlib.Core.Path.{sym, ◌∙◌}
-use borrow.Author.Tests.{not-true, not-false}
-use borrow.Author.Rules.{rules}
 use Rattle.line.proofs.whole.replay_ok.Goals as goal
 
 pub returns-then-not-is_replaying : goal.returns-then-not-is_replaying

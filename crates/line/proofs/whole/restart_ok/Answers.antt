@@ -1,6 +1,5 @@
 use mathlib.Core.Path.{ap₂, ◌∙◌}
 use mathlib.Core.Bool.{◌&&◌}
-use borrow.Author.Rules.{rules}
 use Rattle.state.specs.State.{line_of}
 use Rattle.line.proofs.CheckLaws.{restart_parts}
 use Rattle.line.proofs.whole.restart_ok.Goals as goal

@@ -1,8 +1,7 @@
-use Prim.Native.Nat.{◌-◌}
 use native.Mathlib.Omega.{arith}
 use Rattle.state.specs.State.{line_of}
 use Rattle.items.specs.Items.{restart_right}
-use Rattle.line.proofs.CheckLaws.{Tested, tested_start, tested_turn, tested_end}
+use Rattle.line.proofs.CheckLaws.{tested_start, tested_turn, tested_end}
 use Rattle.line.proofs.whole.restarts_ok.Goals as goal
 
 pub loop-k-init : goal.loop-k-init

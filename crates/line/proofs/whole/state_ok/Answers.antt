@@ -1,6 +1,4 @@
 use mathlib.Core.Path.{sym, ◌∙◌}
-use borrow.Author.Tests.{not-true, not-false}
-use borrow.Author.Rules.{rules}
 use Rattle.plan.proofs.BytesLaws.{bytes_known}
 use Rattle.plan.proofs.ReadLaws.{nodes_byte, channels_byte}
 use Rattle.line.proofs.CheckLaws.{plan_ready, plan_wrong}
