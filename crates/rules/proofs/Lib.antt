@@ -19,6 +19,8 @@ pub mod Order
 pub mod Proposed
 -- A step keeps an undamaged line undamaged.
 pub mod Undamaged
+-- The laws of a replay that goes on, of the step itself, which ends it at the chosen columns if its rows are complete.
+pub mod EndedIfComplete
 -- A crashed node can always come back.
 pub mod Restart
 pub mod AlwaysBack

@@ -72,7 +72,7 @@ module _ (n : ℕ) (l : Line) (inside : n < length l.nodes) (s : Limits 1 l) (ot
         ];
       }
 
-  ended_steady : {k : Line} → EndsAs n l k → Steady 1 k
+  pub ended_steady : {k : Line} → EndsAs n l k → Steady 1 k
   ended_steady (goes_on_lem c) = record { limits = s; open_rows = λ m. elim (ℕ_discrete m n) [ yes q ↦ λ z. ap (rows_complete l) q ∙ c | no d ↦ others m d ] }
   ended_steady (ends_at c h columns keeps few) = placed_steady columns keeps few
 

@@ -70,6 +70,9 @@ module _ {A : Type 0} (view : Line → A) (free : ℕ → Type 0) (node-apart : 
       one true e = rw (e, ended_if_complete) (end_kept b l d)
       one false e = rw (e, ended_if_complete) refl
 
+  pub ended_keeps : (n : ℕ) (l : Line) {k : Line} → free n → ended_if_complete n l ≡ some k → view k ≡ view l
+  ended_keeps n l d e = subst (Has (view l)) e (ended_kept n l d)
+
   sent_kept : (b : ℕ) (o : Option Entry) (l : Line) → view (sent_line b o l) ≡ view l
   sent_kept b none l = refl
   sent_kept b (some e) l = lane-apart b (sent_on e (lane_at l b)) l
@@ -153,6 +156,10 @@ any_node (some n) = tt
 pub effect-steps : (l : Line) (f : Frame) {k : Line} → effect l f ≡ some k → k.steps ≡ l.steps
 unfolding with_node with_lane
 effect-steps l f e = effect-keeps (λ l. l.steps) (λ n. Unit {0}) (λ n x l d. refl) (λ b x l. refl) l f (any_node (own_node l f)) e
+
+pub ended_steps : (l : Line) (n : ℕ) {k : Line} → ended_if_complete n l ≡ some k → k.steps ≡ l.steps
+unfolding with_node with_lane
+ended_steps l n e = ended_keeps (λ l. l.steps) (λ n. Unit {0}) (λ n x l d. refl) (λ b x l. refl) n l tt e
 
 pub effect-plan : (l : Line) (f : Frame) {k : Line} → effect l f ≡ some k → k.plan ≡ l.plan
 unfolding with_node with_lane
