@@ -1,4 +1,4 @@
--- The state check item by item: one pass over each list, and lookups among the at most four channels that enter a node. Code goes by this; the outer contract does not rest on believing it, since `line-items` of the proofs says that it is the negation of `damaged`.
+-- The state check item by item: one pass over each list, and lookups among the at most four channels that enter a node. Code goes by this; the outer contract does not rest on believing it, since `line_items` of the proofs says that it is the negation of `damaged`.
 use Rattle.std.specs.Prelude.{ℕ, suc, ◌^◌, Bool, true, false, not, ◌&&◌, ◌||◌, List, [], ◌∷◌, length, get_or, set, replicate, leb, ltb, eqb}
 use Rattle.std.proofs.Math.Option.{Option, none, some}
 use Rattle.plan.specs.declared.Record.{Record}

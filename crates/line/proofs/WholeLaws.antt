@@ -1,4 +1,4 @@
--- The check over the whole state: it finds nothing exactly where `stateAnswer` is 0.
+-- The check over the whole state: it finds nothing exactly where `state_answer` is 0.
 use Prim.Native.Nat.{ℕ, zero, suc, ◌+◌, ◌*◌, ◌-◌, ◌<◌, ◌≤◌}
 use mathlib.Core.Path.{◌≡◌, refl, sym, ap, ◌∙◌}
 use mathlib.Core.Bool.{Bool, true, false, not, ◌&&◌, true≢false}

@@ -1,4 +1,4 @@
--- The whole state as the check goes over it. `check-answer` of the proofs says that it is `stateAnswer`; the outer contract does not rest on believing this.
+-- The whole state as the check goes over it. `check_answer` of the proofs says that it is `state_answer`; the outer contract does not rest on believing this.
 use Rattle.std.specs.Prelude.{ℕ, ◌+◌, ◌*◌, ◌-◌, ◌<◌, Bool, ◌&&◌, List, take, eqb}
 use Rattle.plan.specs.Plan.{plan_of, size_by_head, plan_nodes, plan_channels, channel_at}
 use Rattle.plan.specs.Check.{plan_refusal}

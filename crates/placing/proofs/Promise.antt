@@ -1,4 +1,4 @@
--- The placing's promise: `accepted` and `none-exists` of a table, `promise` of the slices lent. Accepted: the columns keep the rules. Refused with 24: no list of columns does.
+-- The placing's promise: `accepted` and `none_exists` of a table, `promise` of the slices lent. Accepted: the columns keep the rules. Refused with 24: no list of columns does.
 use Prim.Native.Nat.{ℕ, zero, suc, ◌+◌, ◌-◌, ◌<◌, ◌≤◌}
 use mathlib.Core.Path.{◌≡◌, refl, sym, subst, fun_ext, ◌∙◌}
 use mathlib.Core.Logic.{◌↔◌, ◌≢◌}

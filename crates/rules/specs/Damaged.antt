@@ -75,7 +75,7 @@ unfoldable pub channel_wrong_parent : Plan → ℕ → Lane → Bool
 unfolding parents
 channel_wrong_parent p b s = any_of (λ (m : Message). not_parent p (channel_at p b).sender m.origin) s.queue
 
--- The times of messages, held records and named senders, and the others that stand in the state. 2026-08: a log entry's own time is among the others; `logWrong` says where it may be 0.
+-- The times of messages, held records and named senders, and the others that stand in the state. 2026-08: a log entry's own time is among the others; `log_wrong` says where it may be 0.
 abbrev pub origin_times : Origin → List ℕ
 origin_times fed = []
 origin_times (made s t) = t ∷ []

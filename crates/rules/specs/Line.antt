@@ -45,7 +45,7 @@ pub record Message : Type 0 where
   pub time : ℕ
   pub origin : Origin
 
--- "Each log entry is such a message, made by this node, and keeps also the sender and time that its input was made from, if any." 2026-06: and the set of channels that take it, "one bit a belt" (`setOf`). 2026-08: where channels leave the node and none of them takes it, it has no time of its own, but the node's when it was logged.
+-- "Each log entry is such a message, made by this node, and keeps also the sender and time that its input was made from, if any." 2026-06: and the set of channels that take it, "one bit a belt" (`set_of`). 2026-08: where channels leave the node and none of them takes it, it has no time of its own, but the node's when it was logged.
 pub record Entry : Type 0 where
   pub what : Record
   pub time : ℕ

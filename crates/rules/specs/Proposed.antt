@@ -15,7 +15,7 @@ use Rattle.rules.specs.Damaged.{damaged}
 use Rattle.rules.specs.Claim.{Story, start_of, told_by}
 use Rattle.rules.specs.Order.{OneRun}
 
--- A replay that a step may end: the node, and the line of which the step asks whether its rows are complete (`endedIfComplete`).
+-- A replay that a step may end: the node, and the line of which the step asks whether its rows are complete (`ended_if_complete`).
 pub record Ending : Type 0 where
   pub node : ℕ
   pub line : Line

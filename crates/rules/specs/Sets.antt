@@ -13,7 +13,7 @@ node_without_sets x = record { status = x.status; crashed = x.crashed; time = x.
 abbrev pub without_sets : Line → Line
 without_sets l = record { plan = l.plan; steps = l.steps; nodes = map node_without_sets l.nodes; lanes = l.lanes }
 
--- A step, with the sets left out of what it leaves. That it is the step from before 2026-06, but for what later requests changed, is read off the definitions: of a step, `fedLine`, `takenUp` and `nodePlaced` alone ask `setOf`, for the field `set` alone.
+-- A step, with the sets left out of what it leaves. That it is the step from before 2026-06, but for what later requests changed, is read off the definitions: of a step, `fed_line`, `taken_up` and `node_placed` alone ask `set_of`, for the field `set` alone.
 unfoldable pub answer_without_sets : Line → List ℕ → Answer
 unfolding step
 answer_without_sets l f = let a = step l f in record { number = a.number; line = without_sets a.line }

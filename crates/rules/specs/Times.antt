@@ -24,7 +24,7 @@ QuietFeed =
     → n < node_count l.plan → is_source l.plan n ≡ true → record_fits r ≡ true → counts l.plan n (record_layout.read r) ≡ false
     → step l f ≡ record { number = 0; line = counted (frame_console f) l }
 
--- A line where console c has taken the first message of channel b, and none of the receiver's channels takes the record: it "raises the clock as before but gets no time of its own"; "its log entry stays"; "it carries the node's present time and an empty set of belts". (A replaying node's Take is as it was: `takenReplaying`.)
+-- A line where console c has taken the first message of channel b, and none of the receiver's channels takes the record: it "raises the clock as before but gets no time of its own"; "its log entry stays"; "it carries the node's present time and an empty set of belts". (A replaying node's Take is as it was: `taken_replaying`.)
 abbrev pub taken_silently : ℕ → ℕ → Message → List Message → Line → Line
 taken_silently c b m rest l =
     let n = receiver_of l b in

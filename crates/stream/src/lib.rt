@@ -13,10 +13,10 @@ use buffer::Line;
 
 mod frames;
 
-// A plan or a frame of 65,535 bytes fits the window, and one byte more (`windowSize`).
+// A plan or a frame of 65,535 bytes fits the window, and one byte more (`window_size`).
 pub const WINDOW: usize = 65_536;
 
-// What a window's frames give fits the output, and the nodes behind it (`outSize`): at most 34 bytes for each 5 read, one answer more, and the nodes' text (`textMost` in the crate `report`). These are 539,806 bytes; 132 pages of 4,096 hold them.
+// What a window's frames give fits the output, and the nodes behind it (`out_size`): at most 34 bytes for each 5 read, one answer more, and the nodes' text (`text_most` in the crate `report`). These are 539,806 bytes; 132 pages of 4,096 hold them.
 pub const OUT: usize = 540_672;
 
 #[derive(Clone, Copy)]
