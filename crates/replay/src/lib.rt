@@ -10,6 +10,7 @@ ghost use Rattle.rules.specs.Recover.{row_goal};
 ghost use Rattle.rules.specs.Replay.{passed_on, entry_at};
 ghost use Rattle.rules.specs.Step.{replaying, end_down};
 ghost use Rattle.rules.specs.Trim.{with_log};
+ghost use Rattle.answers.specs.Number.{number};
 ghost use Rattle.state.specs.State.{line_of};
 ghost use Rattle.buffer.specs.Nothing.{no_held};
 ghost use Rattle.buffer.specs.Sets.{Begin};
@@ -18,6 +19,7 @@ ghost use Rattle.slots.specs.Slots.{message_is, entry_is, held_is};
 ghost use Rattle.buffer.specs.Rows.{Rows};
 ghost use Rattle.replay.specs.After.{row_after, rows_after, would_hold, First, taken_now, held_more, end_log, ended_node, Enters, Loggable, Open};
 
+use answers::Refusal;
 use buffer::{Line, bytes, look, sets};
 use plan::Record;
 use recover::rows;
@@ -176,7 +178,7 @@ fn end(s: &mut [u8], n: usize, b: usize, m: Sent, last: Waiting, out: &[u32; 128
     node_fields::set_status(s, n, 0);
 }
 
-// What is left of a Take once neither 20 nor 21 is the answer: 24 or 0.
+// What is left of a Take once neither 20 nor 21 is the answer: 24, or it is done.
 fn take_on(
     s: &mut [u8],
     n: usize,
@@ -185,27 +187,27 @@ fn take_on(
     m: Sent,
     goes: bool,
     last: Waiting,
-) -> u32
+) -> Result<(), Refusal>
     requires { Open s.old b n (message_is m) (held_is last) goes × Rows goals.now (row_goal (node_at (line_of s.old) n).targets) }
-    ensures { Did s.old (frames.take b) s.new result }
+    ensures { Did s.old (frames.take b) s.new (number result) }
 {
     if !rows_after(s, n, goals, b, m.time) {
         hold(s, n, b, m, goes, last);
-        return 0;
+        return Ok(());
     }
     let mut out: [u32; 128] = [0; 128];
     let count = replay_table::placed(s, n, goes, last, &mut out);
     if LOG_LIMIT < count {
-        return 24;
+        return Err(Refusal::NoPlacing);
     }
     end(s, n, b, m, last, &out, count);
-    0
+    Ok(())
 }
 
-// Take, where the receiver replays, both ends are not down and the channel has a message: 20, 21, 24 or 0.
-pub fn take_replaying(s: &mut [u8], b: usize) -> u32
+// Take, where the receiver replays, both ends are not down and the channel has a message: 20, 21 and 24 refuse it.
+pub fn take_replaying(s: &mut [u8], b: usize) -> Result<(), Refusal>
     requires { Undamaged s.old × (b < plan_channels s.old) × (end_down (line_of s.old) b ≡ false) × (0 < length (lane_at (line_of s.old) b).queue) × (replaying (line_of s.old) (receiver_of (line_of s.old) b) ≡ true) }
-    ensures { Did s.old (frames.take b) s.new result }
+    ensures { Did s.old (frames.take b) s.new (number result) }
 {
     let n = look::receiver_of(s, b);
     let mut goals: [u32; 12] = [0; 12];
@@ -213,14 +215,14 @@ pub fn take_replaying(s: &mut [u8], b: usize) -> u32
     let parent = look::sender_of(s, b);
     let goal = goals[parent];
     if goal <= channel_fields::taken_of(s, b) {
-        return 20;
+        return Err(Refusal::RowComplete);
     }
     let m = channel_fields::first_of(s, b);
     let last = waiting_of(s, n, b, m);
     let goes = goes_on(s, n, b, last.what);
     let full = HELD_LIMIT <= node_fields::held_count(s, n);
     if goes & full {
-        return 21;
+        return Err(Refusal::NoSpace);
     }
     take_on(s, n, &goals, b, m, goes, last)
 }
