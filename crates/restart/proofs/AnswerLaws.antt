@@ -9,6 +9,8 @@ use native.Mathlib.Omega.{arith}
 use borrow.Author.Tests.{leb-false, not-false}
 use lib.ListN.{length}
 use lib.Dec.{leb, ltb}
+use Rattle.answers.specs.declared.Refusal.{Refusal}
+use Rattle.answers.specs.Number.{refusal_number}
 use Rattle.plan.specs.Plan.{node_count}
 use Rattle.rules.specs.Lists.{is_empty, all_of}
 use Rattle.rules.specs.Line.{target_limit, Target, Node, Line, node_at}
@@ -20,6 +22,9 @@ use Rattle.rules.proofs.Invariant.Inv.{Shape, Ordered}
 use Rattle.rules.proofs.Undamaged.Restored.{restored_node, recovered_is, restored-node, restored_complete_lem}
 use Rattle.recover.specs.Found.{rows_in, no_outcome}
 use Rattle.restart.specs.Answers.{first_of, is_end, crash_answer, restart_asked, commit_answer}
+
+pub refused : (r : Refusal) → refusal_number r ≢ 0
+refused r e = grind arith
 
 -- A test that refuses, one that does not, and what follows where none does.
 pub first_here : (t : Bool) (n rest : ℕ) → t ≡ true → n ≡ first_of t n rest

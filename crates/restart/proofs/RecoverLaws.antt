@@ -1,7 +1,6 @@
 -- Recover, Ask and Commit: what they leave is the rules' line.
 use Prim.Native.Nat.{ℕ, suc, ◌≤◌, ◌<◌}
 use mathlib.Core.Path.{◌≡◌, refl, sym, ap, subst, ◌∙◌}
-use mathlib.Core.Logic.{◌≢◌}
 use mathlib.Core.Bool.{Bool, true, false, not, ◌||◌}
 use mathlib.Core.List.{List, [], ◌∷◌}
 use mathlib.Core.Option.{Option, none, some, map}
@@ -9,6 +8,10 @@ use native.Mathlib.Omega.{arith}
 use borrow.Author.Tests.{lt-ltb, le-ltb, not-false, not-true}
 use lib.ListN.{length, get_or, replicate}
 use lib.Dec.{ltb}
+use Rattle.std.specs.declared.result.Result.TheVariants.{Ok, Err}
+use Rattle.answers.specs.declared.Refusal.{Refusal}
+use Rattle.answers.specs.declared.Refusal.TheVariants.{NoSpace, NoPlacing}
+use Rattle.answers.specs.Number.{refusal_number}
 use Rattle.plan.specs.Lawful.{Each}
 use Rattle.plan.specs.Plan.{plan_of, plan_nodes, channel_at, node_count, entering}
 use Rattle.rules.specs.Line.{target_limit, made, Target, Status, down, Asked, Node, Line, node_at, lane_at, with_node, fresh_lane, is_down}
@@ -35,10 +38,10 @@ use Rattle.buffer.specs.Holds.{Holds, AtNode, NodeNow, Undamaged, Did}
 use Rattle.buffer.proofs.HoldsLaws.{node_fits, node_then, node-after, node_log_counted}
 use Rattle.buffer.specs.Nothing.{no_target}
 use Rattle.buffer.specs.Rows.{Rows}
-use Rattle.recover.specs.Found.{target_at, targets_in, LogsCounted, Found, no_outcome}
+use Rattle.recover.specs.Found.{target_at, targets_in, LogsCounted, Found as FoundIn, no_outcome}
 use Rattle.recover.proofs.ListedLaws.{answer_four}
 use Rattle.recover.proofs.TargetLaws.{targets_length, targets_at_lem}
-use Rattle.restart.specs.declared.Outcome.{Outcome}
+use Rattle.restart.specs.declared.Found.{Found}
 use Rattle.restart.specs.Answers.{first_of, restart_asked}
 use Rattle.restart.specs.Finds.{Restores, Finds, KeptRows}
 use Rattle.restart.specs.Lanes.{with_entry, marked, restored_lanes}
@@ -47,7 +50,7 @@ use Rattle.restart.proofs.FitsLaws.{ordered_of, shape_of, lane_fresh}
 use Rattle.buffer.proofs.ReadyLaws.{line-nodes}
 use Rattle.restart.proofs.StateLaws.{at-node}
 use Rattle.restart.proofs.SweepLaws.{swept_same}
-use Rattle.restart.proofs.AnswerLaws.{asked_inside, asked_down, asked_number, found_number, effect-none, effect_some, commit_number, commit_asked, commit_kept}
+use Rattle.restart.proofs.AnswerLaws.{refused, asked_inside, asked_down, asked_number, found_number, effect-none, effect_some, commit_number, commit_asked, commit_kept}
 
 -- ---- lists by their members
 
@@ -127,8 +130,8 @@ module _ (s : List ℕ) (n : ℕ) (whole : Undamaged s) where
   standing = (undamaged_sound line whole.undamaged).standing
 
   -- What is found.
-  pub asked_refused : (r : ℕ) → r ≡ restart_asked line n → r ≢ 0 → (xs entries : List ℕ) → Finds s n (record { number = r; low = 0; count = 0 }) xs entries
-  asked_refused r is d xs entries = record { number = asked_number line n r is d; restores = λ z. absurd (d z) }
+  pub asked_refused : (r : Refusal) → refusal_number r ≡ restart_asked line n → (xs entries : List ℕ) → Finds s n (Err r) xs entries
+  asked_refused r is xs entries = record { number = asked_number line n (refusal_number r) is (refused r); restores = tt }
 
   module _ (asked : restart_asked line n ≡ 0) where
     inside : n < node_count line.plan
@@ -143,17 +146,17 @@ module _ (s : List ℕ) (n : ℕ) (whole : Undamaged s) where
     stopped : (node_at line n).status ≡ down
     stopped = is_down_lem (node_at line n).status (asked_down line n asked)
 
-    module _ (xs : List ℕ) (count : ℕ) (found : Found xs count (targets_of line n)) (low : ℕ) (entries : List ℕ) where
+    module _ (xs : List ℕ) (count : ℕ) (found : FoundIn xs count (targets_of line n)) (low : ℕ) (entries : List ℕ) where
       abbrev ts : List Target
       ts = targets_of line n
 
       number_is : (full empty : Bool) (r : ℕ) → ltb target_limit (length ts) ≡ full → is_nothing (effect line (recover n)) ≡ empty → first_of full 21 (first_of empty 24 0) ≡ r → line_refusal line (recover n) ≡ r
       number_is full empty r a b q = found_number line n asked ∙ (λ j. first_of (a j) 21 (first_of (b j) 24 0)) ∙ q
 
-      pub find_full : 64 < count → Finds s n (record { number = 21; low = low; count = count }) xs entries
+      pub find_full : 64 < count → Finds s n (Err NoSpace) xs entries
       find_full h =
           let full : ltb target_limit (length ts) ≡ true = lt-ltb target_limit (length ts) (omega (arith, found.holds.counted)) in
-          record { number = number_is true (is_nothing (effect line (recover n))) 21 full refl refl; restores = λ z. (let no : ⊥ = omega arith in absurd no) }
+          record { number = number_is true (is_nothing (effect line (recover n))) 21 full refl refl; restores = tt }
 
       module _ (few : count ≤ 64) where
         room : ltb target_limit (length ts) ≡ false
@@ -162,84 +165,83 @@ module _ (s : List ℕ) (n : ℕ) (whole : Undamaged s) where
         held : targets_in xs count ≡ ts
         held = found.holds.held (omega arith)
 
-        pub find_none : no_outcome line n (targets_in xs count) ≡ true → Finds s n (record { number = 24; low = low; count = count }) xs entries
+        pub find_none : no_outcome line n (targets_in xs count) ≡ true → Finds s n (Err NoPlacing) xs entries
         find_none e =
             let gone = effect-none line n (ordered_of line whole.holds.fits) (shape_of line whole.holds.fits) inside (ap (no_outcome line n) (sym held) ∙ e) in
-            record { number = number_is false true 24 room (ap is_nothing gone) refl; restores = λ z. (let no : ⊥ = omega arith in absurd no) }
+            record { number = number_is false true 24 room (ap is_nothing gone) refl; restores = tt }
 
-        pub find_some : no_outcome line n (targets_in xs count) ≡ false → low ≡ low_of line n → Rows entries (restored line n) → Finds s n (record { number = 0; low = low; count = count }) xs entries
+        pub find_some : no_outcome line n (targets_in xs count) ≡ false → low ≡ low_of line n → Rows entries (restored line n) → Finds s n (Ok (record { low = low; count = count })) xs entries
         find_some e is rows =
             let leads = effect_some line n (ordered_of line whole.holds.fits) (shape_of line whole.holds.fits) inside (ap (no_outcome line n) (sym held) ∙ e) in
             record {
               number = number_is false false 0 room (ap is_nothing leads) refl;
-              restores = λ z. record { inside = inside; stopped = stopped; leads = leads; low = is; few = few; long = found.long; targets = held; rows = rows };
+              restores = record { inside = inside; stopped = stopped; leads = leads; low = is; few = few; long = found.long; targets = held; rows = rows };
             }
 
   -- Recover and Ask, refused and done.
-  module _ (found : Outcome) (xs entries : List ℕ) (finds : Finds s n found xs entries) where
-    pub recover_refused : found.number ≢ 0 → Did s (recover n) s found.number
-    recover_refused d = record { number = finds.number; refused = λ q. refl; done = λ q. absurd (d q) }
+  pub recover_refused : (r : Refusal) {xs entries : List ℕ} → Finds s n (Err r) xs entries → Did s (recover n) s (refusal_number r)
+  recover_refused r finds = record { number = finds.number; refused = λ q. refl; done = λ q. absurd (refused r q) }
 
-    pub ask_refused : found.number ≢ 0 → Did s (ask n) s found.number
-    ask_refused d = record { number = asks_as_recover line n ∙ finds.number; refused = λ q. refl; done = λ q. absurd (d q) }
+  pub ask_refused : (r : Refusal) {xs entries : List ℕ} → Finds s n (Err r) xs entries → Did s (ask n) s (refusal_number r)
+  ask_refused r finds = record { number = asks_as_recover line n ∙ finds.number; refused = λ q. refl; done = λ q. absurd (refused r q) }
 
-    module _ (zero_is : found.number ≡ 0) where
-      restores : Restores s n found xs entries
-      restores = finds.restores zero_is
+  module _ (found : Found) (xs entries : List ℕ) (finds : Finds s n (Ok found) xs entries) where
+    restores : Restores s n found xs entries
+    restores = finds.restores
 
-      pub found_on : AtNode s n
-      found_on = at-node whole.holds n restores.inside
+    pub found_on : AtNode s n
+    found_on = at-node whole.holds n restores.inside
 
-      pub found_four : (es : List ℕ) → es ≡ (answer_of line n).entries → get_or es 0 0 ∷ get_or es 1 0 ∷ get_or es 2 0 ∷ get_or es 3 0 ∷ [] ≡ (answer_of line n).entries
-      found_four es e = four_entries es (ap length e ∙ answer_four s n whole.holds.ready (omega (arith, restores.inside, line-nodes s))) ∙ e
+    pub found_four : (es : List ℕ) → es ≡ (answer_of line n).entries → get_or es 0 0 ∷ get_or es 1 0 ∷ get_or es 2 0 ∷ get_or es 3 0 ∷ [] ≡ (answer_of line n).entries
+    found_four es e = four_entries es (ap length e ∙ answer_four s n whole.holds.ready (omega (arith, restores.inside, line-nodes s))) ∙ e
 
-      pub found_inside : n < plan_nodes s
-      found_inside = omega (arith, restores.inside, line-nodes s)
+    pub found_inside : n < plan_nodes s
+    found_inside = omega (arith, restores.inside, line-nodes s)
 
-      -- The targets that it had are gone before those found are written.
-      pub found_fillable : {t : List ℕ} → NodeNow s n (with_targets []) t → Fillable t n xs found.count
-      found_fillable {t} empty =
+    -- The targets that it had are gone before those found are written.
+    pub found_fillable : {t : List ℕ} → NodeNow s n (with_targets []) t → Fillable t n xs found.count
+    found_fillable {t} empty =
+        record {
+          on = empty.on;
+          none = ap (λ (x : Node). x.targets) (node-after found_on (with_targets [] (node_at line n)) empty.holds);
+          long = restores.long;
+          few = restores.few;
+          parents = λ i h.
+              (let us = targets_of line n in
+              let same : get_or us i no_target ≡ target_at xs i = ap (λ (vs : List Target). get_or vs i no_target) (sym restores.targets) ∙ targets_at_lem xs found.count i no_target h in
+              let among : i < length us = omega (arith, h, sym (ap length restores.targets) ∙ targets_length xs found.count) in
+              subst (λ (u : Target). u.parent < 256) same (target_small line whole.holds.fits n (get_or us i no_target) (in_at us i no_target among)));
+        }
+
+    module _ {t : List ℕ} (targets : NodeNow s n (with_targets (targets_in xs found.count)) t) where
+      pub recover_done : {u v : List ℕ} → NodeNow t n (settled found.low) u → Holds v (restored_lanes n entries (line_of u)) → Did s (recover n) v 0
+      unfolding recovered
+      recover_done {v = v} node lanes =
+          let both = node_then found_on targets node in
+          let few : node_count line.plan ≤ 12 = omega (arith, whole.holds.ready.nodes, line-nodes s) in
+          let ordered = ordered_of line whole.holds.fits in
+          let same = ap (restored_lanes n entries) both.holds.same
+          ∙ line_is line whole.holds.fits standing n restores.inside restores.stopped found.low (targets_in xs found.count) (λ (c : ℕ). restored line n (channel_at line.plan c).sender) entries
+          (λ c e. restores.rows.each (channel_at line.plan c).sender (omega (arith, few, ordered.forward c e.0, ordered.inside c e.0)))
+          ∙ (λ j. restored_to (restores.low j) (restores.targets j) (λ (c : ℕ). restored line n (channel_at line.plan c).sender) n line) in
+          record { number = finds.number; refused = λ q. absurd (q refl); done = λ q. (recovered n line, (restores.leads, subst (Holds v) same lanes)) }
+
+      pub ask_done : {u : List ℕ} (high : ℕ) (es : List ℕ) → high ≡ high_of line n → es ≡ (answer_of line n).entries → NodeNow t n (with_asked (some (record { low = found.low; high = high; entries = es }))) u → Did s (ask n) u 0
+      unfolding effect asked_line asking answer_of
+      ask_done {u} high es is entries-are kept =
+          let both = node_then found_on targets kept in
+          let x = node_at line n in
+          let node : Asked → List Target → Node = λ a vs. record { status = x.status; crashed = x.crashed; time = x.time; log = x.log; held = x.held; targets = vs; asked = some a } in
+          let same : node (record { low = found.low; high = high; entries = es }) (targets_in xs found.count) ≡ asking (answer_of line n) (targets_of line n) x = λ j. node (record { low = restores.low j; high = is j; entries = entries-are j }) (restores.targets j) in
           record {
-            on = empty.on;
-            none = ap (λ (x : Node). x.targets) (node-after found_on (with_targets [] (node_at line n)) empty.holds);
-            long = restores.long;
-            few = restores.few;
-            parents = λ i h.
-                (let us = targets_of line n in
-                let same : get_or us i no_target ≡ target_at xs i = ap (λ (vs : List Target). get_or vs i no_target) (sym restores.targets) ∙ targets_at_lem xs found.count i no_target h in
-                let among : i < length us = omega (arith, h, sym (ap length restores.targets) ∙ targets_length xs found.count) in
-                subst (λ (u : Target). u.parent < 256) same (target_small line whole.holds.fits n (get_or us i no_target) (in_at us i no_target among)));
+            number = asks_as_recover line n ∙ finds.number;
+            refused = λ q. absurd (q refl);
+            done = λ q. (asked_line n line, (ap (map (λ (k : Line). asked_line n line)) restores.leads, subst (λ (y : Node). Holds u (with_node n y line)) same both.holds));
           }
 
-      module _ {t : List ℕ} (targets : NodeNow s n (with_targets (targets_in xs found.count)) t) where
-        pub recover_done : {u v : List ℕ} → NodeNow t n (settled found.low) u → Holds v (restored_lanes n entries (line_of u)) → Did s (recover n) v 0
-        unfolding recovered
-        recover_done {v = v} node lanes =
-            let both = node_then found_on targets node in
-            let few : node_count line.plan ≤ 12 = omega (arith, whole.holds.ready.nodes, line-nodes s) in
-            let ordered = ordered_of line whole.holds.fits in
-            let same = ap (restored_lanes n entries) both.holds.same
-            ∙ line_is line whole.holds.fits standing n restores.inside restores.stopped found.low (targets_in xs found.count) (λ (c : ℕ). restored line n (channel_at line.plan c).sender) entries
-            (λ c e. restores.rows.each (channel_at line.plan c).sender (omega (arith, few, ordered.forward c e.0, ordered.inside c e.0)))
-            ∙ (λ j. restored_to (restores.low j) (restores.targets j) (λ (c : ℕ). restored line n (channel_at line.plan c).sender) n line) in
-            record { number = finds.number ∙ zero_is; refused = λ q. absurd (q refl); done = λ q. (recovered n line, (restores.leads, subst (Holds v) same lanes)) }
-
-        pub ask_done : {u : List ℕ} (high : ℕ) (es : List ℕ) → high ≡ high_of line n → es ≡ (answer_of line n).entries → NodeNow t n (with_asked (some (record { low = found.low; high = high; entries = es }))) u → Did s (ask n) u 0
-        unfolding effect asked_line asking answer_of
-        ask_done {u} high es is entries-are kept =
-            let both = node_then found_on targets kept in
-            let x = node_at line n in
-            let node : Asked → List Target → Node = λ a vs. record { status = x.status; crashed = x.crashed; time = x.time; log = x.log; held = x.held; targets = vs; asked = some a } in
-            let same : node (record { low = found.low; high = high; entries = es }) (targets_in xs found.count) ≡ asking (answer_of line n) (targets_of line n) x = λ j. node (record { low = restores.low j; high = is j; entries = entries-are j }) (restores.targets j) in
-            record {
-              number = asks_as_recover line n ∙ finds.number ∙ zero_is;
-              refused = λ q. absurd (q refl);
-              done = λ q. (asked_line n line, (ap (map (λ (k : Line). asked_line n line)) restores.leads, subst (λ (y : Node). Holds u (with_node n y line)) same both.holds));
-            }
-
   -- Commit.
-  pub commit_refused : (r : ℕ) → r ≡ restart_asked line n → r ≢ 0 → Did s (commit n) s r
-  commit_refused r is d = record { number = commit_number line n ∙ commit_asked line n r is d; refused = λ q. refl; done = λ q. absurd (d q) }
+  pub commit_refused : (r : Refusal) → refusal_number r ≡ restart_asked line n → Did s (commit n) s (refusal_number r)
+  commit_refused r is = record { number = commit_number line n ∙ commit_asked line n (refusal_number r) is (refused r); refused = λ q. refl; done = λ q. absurd (refused r q) }
 
   module _ (asked : restart_asked line n ≡ 0) where
     commit_none : (node_at line n).asked ≡ none → Did s (commit n) s 27

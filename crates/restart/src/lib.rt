@@ -7,6 +7,7 @@ ghost use Rattle.plan.specs.Plan.{plan_of, plan_nodes};
 ghost use Rattle.rules.specs.Line.{Asked, node_at};
 ghost use Rattle.rules.specs.Step.{neighbour_crashed};
 ghost use Rattle.rules.specs.Frame.{crash, recover, ask, commit};
+ghost use Rattle.answers.specs.Number.{number};
 ghost use Rattle.state.specs.Changes.{with_targets};
 ghost use Rattle.state.specs.State.{line_of};
 ghost use Rattle.buffer.specs.Ready.{Ready, OnChannel};
@@ -18,6 +19,7 @@ ghost use Rattle.restart.specs.Finds.{Finds, KeptRows};
 ghost use Rattle.restart.specs.Lanes.{wiped, cleared, with_entry, marked, crashed_on, restored_on, crashed_lanes, restored_lanes};
 ghost use Rattle.restart.specs.Nodes.{emptied, settled, Fillable};
 
+use answers::Refusal;
 use buffer::{Line, look};
 
 const MOST: usize = Line::TARGET_LIMIT as usize;
@@ -56,40 +58,39 @@ fn beside_crashed(s: &[u8], n: usize) -> bool
     found
 }
 
-fn crash_refusal(s: &[u8], n: usize) -> u32
+fn may_crash(s: &[u8], n: usize) -> Result<(), Refusal>
     requires { Ready s.now }
-    ensures { result ≡ crash_answer (line_of s.now) n }
+    ensures { number result ≡ crash_answer (line_of s.now) n }
 {
     if look::node_count(s) <= n {
-        return 13;
+        return Err(Refusal::NoSuchPlace);
     }
     if is_end(s, n) {
-        return 14;
+        return Err(Refusal::WrongPlace);
     }
     if look::is_down(s, n) {
-        return 15;
+        return Err(Refusal::WrongStatus);
     }
     if beside_crashed(s, n) {
-        return 16;
+        return Err(Refusal::CrashedNeighbour);
     }
-    0
+    Ok(())
 }
 
-// Of a node that is to be restarted.
-fn restart_refusal(s: &[u8], n: usize) -> u32
+fn may_restart(s: &[u8], n: usize) -> Result<(), Refusal>
     requires { Ready s.now }
-    ensures { result ≡ restart_asked (line_of s.now) n }
+    ensures { number result ≡ restart_asked (line_of s.now) n }
 {
     if look::node_count(s) <= n {
-        return 13;
+        return Err(Refusal::NoSuchPlace);
     }
     if is_end(s, n) {
-        return 14;
+        return Err(Refusal::WrongPlace);
     }
     if !look::is_down(s, n) {
-        return 15;
+        return Err(Refusal::WrongStatus);
     }
-    0
+    Ok(())
 }
 
 // ---- Crash
@@ -154,63 +155,40 @@ fn crash_channels(s: &mut [u8], n: usize)
 }
 
 // Kind 4.
-pub fn crash(s: &mut [u8], n: usize) -> u32
+pub fn crash(s: &mut [u8], n: usize) -> Result<(), Refusal>
     requires { Undamaged s.old }
-    ensures { Did s.old (crash n) s.new result }
+    ensures { Did s.old (crash n) s.new (number result) }
 {
-    let refusal = crash_refusal(s, n);
-    if refusal != 0 {
-        return refusal;
-    }
+    may_crash(s, n)?;
     empty_node(s, n);
     crash_channels(s, n);
-    0
+    Ok(())
 }
 
 // ---- Recover, Ask and Commit
 
-// What Recover finds of a node: the number that it answers, and where it is 0 low and how many targets.
+// What Recover finds of a node that it doesn't refuse: low, and how many targets.
 #[derive(Clone, Copy)]
-pub struct Outcome {
-    pub number: u32,
+pub struct Found {
     pub low: u32,
     pub count: usize,
 }
 
 // It leaves the targets in xs and the restored entries, by parent, in rows that are 0 before.
-fn find(s: &[u8], n: usize, xs: &mut [u32], entries: &mut [u32; 12]) -> Outcome
+fn find(s: &[u8], n: usize, xs: &mut [u32], entries: &mut [u32; 12]) -> Result<Found, Refusal>
     requires { Undamaged s.now × (length xs.old ≡ slots_long) × Rows entries.old (λ q. 0) }
     ensures { Finds s.now n result xs.new entries.new }
 {
-    let refusal = restart_refusal(s, n);
-    if refusal != 0 {
-        return Outcome {
-            number: refusal,
-            low: 0,
-            count: 0,
-        };
-    }
+    may_restart(s, n)?;
     let low = recover::told::low_of(s, n);
     let count = recover::told::told_of(s, n, low, xs, entries);
     if MOST < count {
-        return Outcome {
-            number: 21,
-            low,
-            count,
-        };
+        return Err(Refusal::NoSpace);
     }
     if recover::rows::no_outcome(s, n, xs, count, entries) {
-        return Outcome {
-            number: 24,
-            low,
-            count,
-        };
+        return Err(Refusal::NoPlacing);
     }
-    Outcome {
-        number: 0,
-        low,
-        count,
-    }
+    Ok(Found { low, count })
 }
 
 // The targets found, into a node that has none.
@@ -288,34 +266,28 @@ fn restore_channels(s: &mut [u8], n: usize, entries: &[u32; 12])
 }
 
 // Kind 5.
-pub fn recover(s: &mut [u8], n: usize) -> u32
+pub fn recover(s: &mut [u8], n: usize) -> Result<(), Refusal>
     requires { Undamaged s.old }
-    ensures { Did s.old (recover n) s.new result }
+    ensures { Did s.old (recover n) s.new (number result) }
 {
     let mut xs = [0u32; 3 * MOST];
     let mut entries: [u32; 12] = [0; 12];
-    let found = find(s, n, &mut xs, &mut entries);
-    if found.number != 0 {
-        return found.number;
-    }
+    let found = find(s, n, &mut xs, &mut entries)?;
     node_fields::clear_targets(s, n);
     put_targets(s, n, &xs, found.count);
     settle(s, n, found.low);
     restore_channels(s, n, &entries);
-    0
+    Ok(())
 }
 
 // Kind 7: "works out what Recover would and keeps it with the down node".
-pub fn ask(s: &mut [u8], n: usize) -> u32
+pub fn ask(s: &mut [u8], n: usize) -> Result<(), Refusal>
     requires { Undamaged s.old }
-    ensures { Did s.old (ask n) s.new result }
+    ensures { Did s.old (ask n) s.new (number result) }
 {
     let mut xs = [0u32; 3 * MOST];
     let mut entries: [u32; 12] = [0; 12];
-    let answer = find(s, n, &mut xs, &mut entries);
-    if answer.number != 0 {
-        return answer.number;
-    }
+    let answer = find(s, n, &mut xs, &mut entries)?;
     let high = recover::told::high_of(s, n);
     let mut parents: [u32; 4] = [0; 4];
     recover::rows::listed(s, n, &entries, &mut parents);
@@ -324,7 +296,7 @@ pub fn ask(s: &mut [u8], n: usize) -> u32
     node_fields::set_kept(
         s, n, answer.low, high, parents[0], parents[1], parents[2], parents[3],
     );
-    0
+    Ok(())
 }
 
 // The kept entry of each parent, by the parent's number.
@@ -344,21 +316,18 @@ fn kept_entries(s: &[u8], n: usize, entries: &mut [u32; 12])
 }
 
 // Kind 8: "applies it". Nothing is worked out.
-pub fn commit(s: &mut [u8], n: usize) -> u32
+pub fn commit(s: &mut [u8], n: usize) -> Result<(), Refusal>
     requires { Undamaged s.old }
-    ensures { Did s.old (commit n) s.new result }
+    ensures { Did s.old (commit n) s.new (number result) }
 {
-    let refusal = restart_refusal(s, n);
-    if refusal != 0 {
-        return refusal;
-    }
+    may_restart(s, n)?;
     if !node_fields::has_kept(s, n) {
-        return 27;
+        return Err(Refusal::NothingKept);
     }
     let mut kept: [u32; 12] = [0; 12];
     kept_entries(s, n, &mut kept);
     let low = node_fields::kept_number(s, n, 0);
     settle(s, n, low);
     restore_channels(s, n, &kept);
-    0
+    Ok(())
 }

@@ -1,11 +1,12 @@
-use mathlib.Core.Path.{refl, sym, ◌∙◌}
+use mathlib.Core.Path.{refl, sym, ap, ◌∙◌}
+use mathlib.Core.Bool.{not}
 use native.Mathlib.Omega.{arith}
 use borrow.Author.Tests.{le-leb, lt-leb}
 use Rattle.plan.specs.Plan.{node_count}
 use Rattle.state.specs.State.{line_of}
 use Rattle.buffer.proofs.ReadyLaws.{line-nodes}
 use Rattle.restart.proofs.AnswerLaws.{first_here, first_past}
-use Rattle.restart.proofs.crash_refusal.Goals as goal
+use Rattle.restart.proofs.may_restart.Goals as goal
 
 pub returns-then-node_count-n : goal.returns-then-node_count-n
 returns-then-node_count-n c =
@@ -20,22 +21,13 @@ returns-then-is_end c =
     first_past _ 13 _ 14 (lt-leb (node_count (line_of s).plan) a.n (omega (arith, c.if-node_count-n.false, c.node_count.ensures.0, line-nodes s)))
     (first_here _ 14 _ (sym c.is_end.ensures ∙ c.if-is_end.true))
 
-pub returns-then-is_down : goal.returns-then-is_down
-returns-then-is_down c =
+pub returns-then-not-is_down : goal.returns-then-not-is_down
+returns-then-not-is_down c =
     let a = c.args in
     let s = a.s.now in
     first_past _ 13 _ 15 (lt-leb (node_count (line_of s).plan) a.n (omega (arith, c.if-node_count-n.false, c.node_count.ensures.0, line-nodes s)))
     (first_past _ 14 _ 15 (sym c.is_end.ensures ∙ c.if-is_end.false)
-    (first_here _ 15 _ (sym c.is_down.ensures ∙ c.if-is_down.true)))
-
-pub returns-then-beside_crashed : goal.returns-then-beside_crashed
-returns-then-beside_crashed c =
-    let a = c.args in
-    let s = a.s.now in
-    first_past _ 13 _ 16 (lt-leb (node_count (line_of s).plan) a.n (omega (arith, c.if-node_count-n.false, c.node_count.ensures.0, line-nodes s)))
-    (first_past _ 14 _ 16 (sym c.is_end.ensures ∙ c.if-is_end.false)
-    (first_past _ 15 _ 16 (sym c.is_down.ensures ∙ c.if-is_down.false)
-    (first_here _ 16 _ (sym c.beside_crashed.ensures ∙ c.if-beside_crashed.true))))
+    (first_here _ 15 _ (ap not (sym c.is_down.ensures) ∙ ap not c.if-not-is_down.true)))
 
 pub returns : goal.returns
 returns c =
@@ -43,5 +35,4 @@ returns c =
     let s = a.s.now in
     first_past _ 13 _ 0 (lt-leb (node_count (line_of s).plan) a.n (omega (arith, c.if-node_count-n.false, c.node_count.ensures.0, line-nodes s)))
     (first_past _ 14 _ 0 (sym c.is_end.ensures ∙ c.if-is_end.false)
-    (first_past _ 15 _ 0 (sym c.is_down.ensures ∙ c.if-is_down.false)
-    (first_past _ 16 _ 0 (sym c.beside_crashed.ensures ∙ c.if-beside_crashed.false) refl)))
+    (first_past _ 15 _ 0 (ap not (sym c.is_down.ensures) ∙ ap not c.if-not-is_down.false) refl))
