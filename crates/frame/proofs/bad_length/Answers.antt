@@ -10,4 +10,4 @@ returns-then-frame-lt-HEAD c = rw (lt-ltb (length c.args.frame.now) 5 c.if-frame
 
 pub returns : goal.returns
 unfolding bad_frame_length
-returns c = rw (c.count_of.ensures, c.get16.ensures, le-ltb (length c.args.frame.now) 5 c.if-frame-lt-HEAD.false, size_field c.args.frame.now)
+returns c = rw (c.from.ensures, c.get16.ensures, le-ltb (length c.args.frame.now) 5 c.if-frame-lt-HEAD.false, size_field c.args.frame.now)
