@@ -7,5 +7,6 @@ pub mod LookLaws
 pub mod SetLaws
 pub mod OriginLaws
 pub mod TableLaws
+pub mod JoinLaws
 pub mod HoldsLaws
 pub mod MaskWalk

@@ -14,7 +14,7 @@ use Rattle.plan.proofs.AcceptedLaws.{four_at}
 use Rattle.plan.proofs.FitsLaws.{fitting}
 use Rattle.plan.proofs.PlanLaws.{node_count_lem, channel_count_lem}
 use Rattle.plan.proofs.ReadLaws.{byte_field}
-use Rattle.rules.specs.Line.{node_at, lane_at, is_down, is_replay, parents, console_count, steps_from}
+use Rattle.rules.specs.Line.{replay, node_at, lane_at, is_down, is_replay, parents, console_count, steps_from}
 use Rattle.rules.specs.Step.{is_nothing, node_down, replaying}
 use Rattle.rules.proofs.Steps.PlanOrder.{ordered_channels}
 use Rattle.state.specs.Sizes.{page_at, kept_at, steps_of_at}
@@ -60,12 +60,17 @@ replay_byte zero = refl
 replay_byte (suc zero) = refl
 replay_byte (suc (suc n)) = lt-ltb 1 (suc (suc n)) (omega arith)
 
+pub replaying_more : (n : ℕ) → (n ≡ 0 → ⊥) → (n ≡ 1 → ⊥) → replay ≡ status_of n
+replaying_more zero h k = absurd (h refl)
+replaying_more (suc zero) h k = absurd (k refl)
+replaying_more (suc (suc n)) h k = refl
+
 crash_byte : (n : ℕ) → ltb 0 n ≡ crash_of n
 crash_byte zero = refl
 crash_byte (suc n) = lt-ltb 0 (suc n) (omega arith)
 
 module _ (s : List ℕ) (ready : Ready s) (n : ℕ) (inside : n < plan_nodes s) where
-  status_byte : status_of (spelled 0 (take 1 (drop (page_at n) s))) ≡ (node_at (line_of s) n).status
+  pub status_byte : status_of (spelled 0 (take 1 (drop (page_at n) s))) ≡ (node_at (line_of s) n).status
   status_byte = ap status_of (byte_field (page_at n) s ∙ ap (λ (a : ℕ). get_or s a 0) (sym (add-zero (page_at n)))) ∙ sym (line_status s (counted ready) n inside)
 
   pub down_at : eqb (spelled 0 (take 1 (drop (page_at n) s))) 1 ≡ node_down (line_of s) n

@@ -90,7 +90,7 @@ module _ (s : List ℕ) (ready : Ready s) where
       let i = ordered.inside b below in
       (omega (arith, few_nodes), omega (arith, few_nodes))
 
-  few_enter : (b : ℕ) → b < plan_channels s → length (entering p (channel_at p b).receiver) ≤ 4
+  pub few_enter : (b : ℕ) → b < plan_channels s → length (entering p (channel_at p b).receiver) ≤ 4
   few_enter b h = (four_at p (node_count p) (channel_at p b).receiver (fitting p ready.fits).degrees (ordered.inside b (rw channel_count_lem h))).0
 
   -- ---- filling it

@@ -7,7 +7,9 @@ ghost use Rattle.rules.specs.Line.{console_count, steps_from, node_at};
 ghost use Rattle.rules.specs.Step.{node_down, replaying};
 ghost use Rattle.state.specs.State.{line_of};
 ghost use Rattle.buffer.specs.Ready.{Ready, OnChannel};
+ghost use Rattle.buffer.specs.Status.{status_is};
 
+use crate::status::Status;
 use crate::{bytes, layout};
 use plan::Channel;
 
@@ -113,6 +115,18 @@ pub fn is_sink(s: &[u8], node: usize) -> bool
     ensures { result ≡ is_sink (plan_of s.now) node }
 {
     plan::masks::leaving_mask(s, node) == 0
+}
+
+// A node's status.
+pub fn status_of(s: &[u8], n: usize) -> Status
+    requires { Ready s.now × (n < plan_nodes s.now) }
+    ensures { status_is result ≡ (node_at (line_of s.now) n).status }
+{
+    match bytes::get8(s, layout::PAGE * (1 + n)) {
+        0 => Status::Up,
+        1 => Status::Down,
+        _ => Status::Replaying,
+    }
 }
 
 // Whether a node is down.

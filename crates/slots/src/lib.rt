@@ -4,18 +4,48 @@
 ghost use Rattle.std.specs.Prelude.{◌≡◌, ◌++◌, ◌+◌, ◌*◌, ◌≤◌, ◌<◌, length, take, drop, replicate};
 ghost use Rattle.basics.specs.Put.{put};
 ghost use Rattle.plan.specs.Record.{record_layout};
+ghost use Rattle.rules.specs.Line.{fed, made};
 ghost use Rattle.state.specs.Pieces.{origin_layout, message_layout, entry_layout, held_layout, target_layout};
 ghost use Rattle.buffer.specs.Check.{record_in};
-ghost use Rattle.slots.specs.Slots.{time_of, origin_is, message_is, entry_is, held_is, target_is};
+ghost use Rattle.slots.specs.Slots.{SenderIs, time_of, origin_is, message_is, entry_is, held_is, target_is};
 
 use buffer::{bytes, layout, record};
 use plan::Record;
 
 // What something was made from: 0 for nothing, else the sender and 1; and the sender's time.
-#[derive(Clone, Copy)]
+#[derive(Clone, Copy, Debug, PartialEq, Eq)]
 pub struct Made {
     pub from: u8,
     pub time: u32,
+}
+
+impl Made {
+    pub fn nothing() -> Made
+        ensures { origin_is result ≡ fed }
+    {
+        Made { from: 0, time: 0 }
+    }
+
+    // From a sender's message, which has its time.
+    pub fn by(sender: u8, time: u32) -> Made
+        requires { sender < 255 }
+        ensures { origin_is result ≡ made sender time }
+    {
+        Made {
+            from: sender + 1,
+            time,
+        }
+    }
+
+    // The sender, if it was made from something; its time is the field's.
+    pub fn sender(self) -> Option<usize>
+        ensures { SenderIs self result }
+    {
+        if self.from == 0 {
+            return None;
+        }
+        Some(usize::from(self.from - 1))
+    }
 }
 
 // A message on a channel.
@@ -45,8 +75,8 @@ pub struct Waiting {
     pub before: Made,
 }
 
-// A target: the node's time, the parent and the parent's time.
-#[derive(Clone, Copy)]
+// A target: the node's time, the parent and the parent's time, which order targets in turn.
+#[derive(Clone, Copy, Debug, PartialEq, Eq, PartialOrd, Ord)]
 pub struct Goal {
     pub time: u32,
     pub parent: u32,
