@@ -1,6 +1,7 @@
 -- Masks of rising lists of channels: what their ones and their trailing zeros are, and how a mask grows channel by channel.
 use Prim.Native.Nat.{ℕ, zero, suc, ◌+◌, ◌-◌, ◌*◌, ◌/◌, ◌%◌, ◌^◌, ◌≤◌, ◌<◌}
 use mathlib.Core.Path.{◌≡◌, refl, sym, ap, ◌∙◌}
+use mathlib.Core.Logic.{◌≢◌}
 use mathlib.Core.Bool.{Bool, true, false, cond, ◌&&◌}
 use mathlib.Core.List.{List, [], ◌∷◌}
 use native.Mathlib.Nat.{add-mul, mul_assoc, mul-one, zero-mul, lt_of_not-le, add-zero, pow-suc, pow-succ', div-add-mod'}
@@ -25,7 +26,7 @@ pub rising_lower : (j k : ℕ) (bs : List ℕ) → j ≤ k → Rising k bs → R
 rising_lower j k [] l h = tt
 rising_lower j k (b ∷ bs) l h = (omega arith, h.1)
 
-rising_kept : (t : Bool) (k : ℕ) (ks : List ℕ) → Rising (suc k) ks → Rising k (keep_if t k ks)
+pub rising_kept : (t : Bool) (k : ℕ) (ks : List ℕ) → Rising (suc k) ks → Rising k (keep_if t k ks)
 rising_kept true k ks h = (omega arith, h)
 rising_kept false k ks h = rising_lower k (suc k) ks (omega arith) h
 
@@ -141,6 +142,30 @@ channels_listed mask small bs h e =
     let own : mask_of (channels_in mask) ≡ mask = channels_mask mask small in
     mask_unique (channels_in mask) bs (channels_rise mask) h (rw own small) (own ∙ e)
 
+-- A mask's first channel, and those behind it.
+pub record Next (mask b : ℕ) : Type 0 where
+  pub small : b < 32
+  pub bit : 2 ^ b ≤ mask
+  pub channels : channels_in mask ≡ b ∷ channels_in (mask - 2 ^ b)
+
+pub next : (mask b : ℕ) → mask < 2 ^ 32 → mask ≢ 0 → FirstOf mask b → Next mask b
+next mask b low some first = go (channels_in mask) refl (channels_rise mask) (sym (channels_mask mask low))
+  where
+    go : (bs : List ℕ) → channels_in mask ≡ bs → Rising 0 bs → mask ≡ mask_of bs → Next mask b
+    go [] same rise is = absurd (some is)
+    go (c ∷ cs) same rise is =
+        let first_is : b ≡ c = first.listed (c ∷ cs) rise is in
+        let bit : 2 ^ b ≡ 2 ^ c = ap (λ (x : ℕ). 2 ^ x) first_is in
+        let behind : channels_in (mask - 2 ^ b) ≡ cs = channels_listed (mask - 2 ^ b) (omega arith) cs (rising_lower 0 (suc c) cs (omega arith) rise.1) (omega arith) in
+        record {
+          small = lt_of_not-le (λ (k : 32 ≤ b). let p : 2 ^ 32 ≤ 2 ^ b = pow_mono k in omega arith);
+          bit = omega arith;
+          channels = same ∙ rw (first_is, sym (rw first_is at behind)) refl;
+        }
+
+pub channels_none : channels_in 0 ≡ []
+channels_none = channels_listed 0 (lit< tt) [] tt refl
+
 -- ---- a mask, channel by channel
 
 pub mask_more : {A : Type 0} (f : A → Bool) (d : A) (xs : List A) (b : ℕ) → b < length xs
@@ -174,10 +199,20 @@ pub mask_many : (s : List ℕ) → 24 < plan_channels s → (bs : List ℕ) → 
 unfolding plan_mask
 mask_many s h bs = rw (lt-leb (plan_channels s) 24 h)
 
+-- The channels of the mask of some of a plan's.
+pub listed_few : (s : List ℕ) (mask : ℕ) → mask < 2 ^ 32 → (bs : List ℕ) → Rising 0 bs → mask ≡ plan_mask s bs → plan_channels s ≤ 24 → channels_in mask ≡ bs
+listed_few s mask low bs rise e few = channels_listed mask low bs rise (e ∙ mask_few s few bs)
+
+pub listed_many : (s : List ℕ) (mask : ℕ) (bs : List ℕ) → mask ≡ plan_mask s bs → 24 < plan_channels s → channels_in mask ≡ []
+listed_many s mask bs e many = ap channels_in (e ∙ mask_many s many bs) ∙ channels_none
+
 -- A mask is 0 exactly where no channel is in it.
 pub mask_none : (bs : List ℕ) → eqb (mask_of bs) 0 ≡ is_none bs
 mask_none [] = refl
 mask_none (b ∷ bs) = ne_eqb (2 ^ b + mask_of bs) 0 (λ e. omega (arith, e, pow_pos b))
+
+pub channels_empty : (mask : ℕ) → mask < 2 ^ 32 → eqb mask 0 ≡ is_none (channels_in mask)
+channels_empty mask low = ap (λ (m : ℕ). eqb m 0) (sym (channels_mask mask low)) ∙ mask_none (channels_in mask)
 
 -- ---- a mask that grows along a list of channels
 

@@ -16,7 +16,7 @@ use Rattle.plan.specs.declared.Channel.{Channel}
 use Rattle.plan.specs.Channel.{takes}
 use Rattle.plan.specs.Plan.{Plan, plan_of, plan_channels, no_channel, keep_if, numbers_from, is_none, leaving}
 use Rattle.plan.specs.Mask.{mask_of, Rising, channels_in, among, taking, takes_at, some_takes, plan_mask, FirstOf, TakingOf}
-use Rattle.plan.proofs.MaskLaws.{rising_lower, mask_kept, channels_rise, channels_mask, channels_listed, bit_at_most, leaving_rise, mask_few, mask_many, mask_none}
+use Rattle.plan.proofs.MaskLaws.{rising_lower, rising_kept, mask_kept, channels_rise, channels_mask, channels_listed, bit_at_most, leaving_rise, mask_few, mask_many, mask_none}
 
 both_kept : (g h : Bool) (f : ℕ → Bool) (k : ℕ) (ks : List ℕ) → f k ≡ h → keep_if (g && h) k (among f ks) ≡ among f (keep_if g k ks)
 both_kept true h f k ks e = rw e
@@ -34,6 +34,39 @@ unfolding taking leaving
 taking-among p n r =
     numbers_among (λ (c : Channel). eqb c.sender n) (λ (c : Channel). takes c r) no_channel (takes_at p r) 0 p.channels
     (λ j l. ap (takes_at p r) (zero-add j))
+
+-- ---- channels, asked one by one
+
+among_rise : (f : ℕ → Bool) (k : ℕ) (bs : List ℕ) → Rising k bs → Rising k (among f bs)
+among_rise f k [] h = tt
+among_rise f k (b ∷ bs) h = rising_lower k b (keep_if (f b) b (among f bs)) h.0 (rising_kept (f b) b (among f bs) (among_rise f (suc b) bs h.1))
+
+-- Some channels of a mask are left to ask; the mask of those that passed so far.
+pub record Passed (f : ℕ → Bool) (all left : List ℕ) (found : ℕ) : Type 0 where
+  pub below : found + mask_of left ≤ mask_of all
+  pub whole : mask_of (among f all) ≡ found + mask_of (among f left)
+
+module _ (f : ℕ → Bool) where
+  pub passed_start : (all : List ℕ) → Passed f all all 0
+  passed_start all = record { below = omega arith; whole = omega arith }
+
+  module _ (mask found b : ℕ) (left rest : List ℕ) (low : mask < 2 ^ 32) (so_far : Passed f (channels_in mask) left found) (next : left ≡ b ∷ rest) where
+    pub passed_bit : (b < 32) × (found + 2 ^ b < 2 ^ 32)
+    passed_bit =
+        let below = rw (next, channels_mask mask low) at so_far.below in
+        (lt_of_not-le (λ (k : 32 ≤ b). let p : 2 ^ 32 ≤ 2 ^ b = pow_mono k in omega arith), omega arith)
+
+    pub passed_more : Passed f (channels_in mask) rest (found + cond (f b) (2 ^ b) 0)
+    passed_more =
+        let below = rw next at so_far.below in
+        let whole = rw next at so_far.whole in
+        record { below = omega (arith, bit_at_most (f b) (2 ^ b)); whole = omega (arith, mask_kept (f b) b (among f rest)) }
+
+  pub passed_end : (mask found : ℕ) (left : List ℕ) → mask < 2 ^ 32 → Passed f (channels_in mask) left found → left ≡ [] → channels_in found ≡ among f (channels_in mask)
+  passed_end mask found left low so_far none =
+      let below = rw (none, channels_mask mask low) at so_far.below in
+      let whole = rw none at so_far.whole in
+      channels_listed found (omega arith) (among f (channels_in mask)) (among_rise f 0 (channels_in mask) (channels_rise mask)) (omega arith)
 
 -- ---- a mask's channels, asked one by one
 

@@ -3,6 +3,7 @@ use Rattle.std.specs.Prelude.{ℕ, zero, suc, ◌+◌, ◌*◌, ◌/◌, ◌%◌
 use Rattle.std.specs.Int.Count.{ones, count_trailing_zeros}
 use Rattle.plan.specs.declared.Record.{Record}
 use Rattle.plan.specs.declared.Channel.{Channel}
+use Rattle.plan.specs.declared.masks.Channels.{Channels}
 use Rattle.plan.specs.declared.Pick.{Pick}
 use Rattle.plan.specs.declared.Pick.TheVariants.{Entering, Leaving}
 use Rattle.plan.specs.Channel.{takes}
@@ -25,6 +26,10 @@ ones_from k (suc w) mask = keep_if (eqb (mask % 2) 1) k (ones_from (suc k) w (ma
 
 unfoldable pub channels_in : ℕ → List ℕ
 channels_in mask = ones_from 0 32 mask
+
+-- The channels of a set of them, which lies in a mask.
+abbrev pub listed : Channels → List ℕ
+listed c = channels_in c.mask
 
 -- Those of a list that pass a test.
 abbrev pub among : (ℕ → Bool) → List ℕ → List ℕ

@@ -1,8 +1,11 @@
 // Records, rules, channels and plans (document 01, "The line").
 #![tactic(auto)]
 
-ghost use Rattle.std.specs.Prelude.{◌≡◌};
+ghost use Rattle.std.specs.Prelude.{◌≡◌, cond, Ok, Err};
+ghost use Rattle.answers.specs.Number.{number};
 ghost use Rattle.plan.specs.Check.{plan_refusal};
+
+use answers::Refusal;
 
 pub mod bytes;
 pub mod channels;
@@ -46,30 +49,21 @@ pub enum Pick {
     Leaving(usize),
 }
 
-// The first of document 01's refusals 1 to 7 that applies to a plan, 0 if none does.
-pub fn plan_check(plan: &[u8]) -> u32
-    ensures { result ≡ plan_refusal plan.now }
+fn refused_if(bad: bool, refusal: Refusal) -> Result<(), Refusal>
+    ensures { result ≡ cond bad (Err refusal) (Ok tt) }
 {
-    if checks::bad_length(plan) {
-        return 1;
-    }
-    if checks::bad_version(plan) {
-        return 2;
-    }
-    if checks::bad_counts(plan) {
-        return 3;
-    }
-    if checks::bad_size(plan) {
-        return 4;
-    }
-    if checks::bad_rules(plan) {
-        return 5;
-    }
-    if checks::bad_channels(plan) {
-        return 6;
-    }
-    if checks::bad_degrees(plan) {
-        return 7;
-    }
-    0
+    if bad { Err(refusal) } else { Ok(()) }
+}
+
+// The first of document 01's refusals 1 to 7 that applies to a plan.
+pub fn plan_check(plan: &[u8]) -> Result<(), Refusal>
+    ensures { number result ≡ plan_refusal plan.now }
+{
+    refused_if(checks::bad_length(plan), Refusal::PlanLength)?;
+    refused_if(checks::bad_version(plan), Refusal::PlanVersion)?;
+    refused_if(checks::bad_counts(plan), Refusal::PlanCounts)?;
+    refused_if(checks::bad_size(plan), Refusal::PlanSize)?;
+    refused_if(checks::bad_rules(plan), Refusal::PlanRule)?;
+    refused_if(checks::bad_channels(plan), Refusal::PlanChannel)?;
+    refused_if(checks::bad_degrees(plan), Refusal::PlanDegree)
 }

@@ -1,9 +1,88 @@
 // Sets of channels as masks: ones count them, trailing zeros give the next.
-ghost use Rattle.std.specs.Prelude.{◌≡◌, cond, ◌+◌, ◌-◌, ◌^◌, ◌≤◌, ◌<◌};
-ghost use Rattle.plan.specs.Plan.{plan_of, plan_channels, channel_at, numbers_from, entering, leaving};
-ghost use Rattle.plan.specs.Mask.{picked, some_takes, plan_mask, CountOf, FirstOf, TakingOf};
+ghost use Rattle.std.specs.Prelude.{◌≡◌, [], cond, not, ◌+◌, ◌-◌, ◌^◌, ◌≤◌, ◌<◌};
+ghost use Rattle.std.specs.Iterator.{YieldsFirst, item_count};
+ghost use Rattle.plan.specs.Plan.{plan_of, plan_channels, channel_at, numbers_from, is_none, entering, leaving};
+ghost use Rattle.plan.specs.Mask.{listed, among, takes_at, picked, some_takes, plan_mask, CountOf, FirstOf, TakingOf};
 
 use crate::{Pick, Record, bytes, channels};
+
+// Some of a plan's channels, rising (`listed`): a mask, bit b for channel b.
+#[derive(Clone, Copy)]
+pub struct Channels {
+    mask: u32,
+}
+
+impl Iterator for Channels {
+    type Item = usize;
+
+    ghost next_gives = { YieldsFirst listed };
+
+    ghost remaining = { item_count listed };
+
+    // The lowest channel, which then goes.
+    fn next(&mut self) -> Option<usize> {
+        if self.mask == 0 {
+            return None;
+        }
+        let b = mask_next(self.mask);
+        self.mask -= bit_of(b);
+        Some(b as usize)
+    }
+}
+
+impl Channels {
+    pub fn is_empty(self) -> bool
+        ensures { result ≡ is_none (listed self) }
+    {
+        self.mask == 0
+    }
+
+    // Those that take a record.
+    pub fn taking(self, plan: &[u8], r: Record) -> Channels
+        ensures { listed result ≡ among (takes_at (plan_of plan.now) r) (listed self) }
+    {
+        let mut mask: u32 = 0;
+        for b in self {
+            mask += bit_if(
+                channels::channel_takes(channels::channel_at(plan, b), r),
+                bit_of(b as u32),
+            );
+        }
+        Channels { mask }
+    }
+
+    // Whether one of them takes a record, by its fields.
+    pub fn some_takes(self, plan: &[u8], piece: u32, material: u8, mass: u16) -> bool
+        ensures { result ≡ not (is_none (among (takes_at (plan_of plan.now) (record { piece = piece; material = material; mass = mass })) (listed self))) }
+    {
+        for b in self {
+            if channels::takes_fields(channels::channel_at(plan, b), piece, material, mass) {
+                return true;
+            }
+        }
+        false
+    }
+}
+
+// The channels that enter a node; none where the plan has more than 24.
+pub fn entering(plan: &[u8], node: usize) -> Channels
+    ensures few { plan_channels plan.now ≤ 24 → listed result ≡ entering (plan_of plan.now) node }
+    ensures many { 24 < plan_channels plan.now → listed result ≡ [] }
+{
+    Channels {
+        mask: entering_mask(plan, node),
+    }
+}
+
+// The channels that leave a node; none where the plan has more than 24.
+pub fn leaving(plan: &[u8], node: usize) -> Channels
+    ensures few { plan_channels plan.now ≤ 24 → listed result ≡ leaving (plan_of plan.now) node }
+    ensures many { 24 < plan_channels plan.now → listed result ≡ [] }
+{
+    Channels {
+        mask: leaving_mask(plan, node),
+    }
+}
 
 // How many channels a mask has.
 pub fn mask_count(mask: u32) -> u32
