@@ -74,12 +74,12 @@ module _ (mark : ℕ) (log : List Entry) where
         subst (Each (λ (e : Entry). mark < e.time)) (sym (drop-cons log (k - 1) no_entry (omega arith)))
         (subst (λ (x : Entry). mark < x.time) q t, subst Late (sym before) late)
 
-    pub later_from : {p : Plan} {n : ℕ} → LogRises p n 0 log → e.time ≤ mark → LaterFrom mark log k
+    pub later_from : {p : Plan} {n : ℕ} → LogRises p n 0 log → e.time ≤ mark → LaterFrom mark log (k - 1 + 1)
     later_from {p} {n} rises t =
         record {
-          within = within;
-          early = subst (λ (j : ℕ). Each (λ (e : Entry). e.time ≤ mark) (take j log)) before (up_to p n mark 0 (k - 1) log rises (omega arith) (subst (λ (x : Entry). x.time ≤ mark) q t)).1;
-          late = late;
+          within = omega (arith, within);
+          early = subst (λ (j : ℕ). Each (λ (e : Entry). e.time ≤ mark) (take j log)) (sym (add-one (k - 1))) (up_to p n mark 0 (k - 1) log rises (omega arith) (subst (λ (x : Entry). x.time ≤ mark) q t)).1;
+          late = subst Late (sym (add-one (k - 1) ∙ before)) late;
         }
 
   pub all_later : (k : ℕ) → k ≤ 0 → Each (λ (e : Entry). mark < e.time) (drop k log) → LaterFrom mark log 0

@@ -13,12 +13,6 @@ use Rattle.buffer.specs.Holds.{NodeNow}
 use Rattle.passing.proofs.FeedLaws.{timed_in}
 use Rattle.passing.proofs.log_taken.Goals as goal
 
-pub set_of-set-requires : goal.set_of-set-requires
-set_of-set-requires c = (c.requires.0.at.holds.ready, c.requires.0.at.inside, c.leaving_from-first.ensures)
-
-pub time_for-time-requires : goal.time_for-time-requires
-time_for-time-requires c = (c.requires.0, c.leaving_from-first.ensures)
-
 pub returns : goal.returns
 returns c =
     let a = c.args in
@@ -28,6 +22,3 @@ returns c =
     let time : c.time_for-time.result ≡ time_for (line_of s).plan a.n a.what now = c.time_for-time.ensures ∙ ap (λ (t : Bool). cond t (suc now) now) (timed_in s a.n c.set_of-set.result a.what c.set_of-set.ensures) in
     let now-logged : NodeNow s a.n (logged c.time_for-time.result c.set_of-set.result a.what (origin_is a.made) (origin_is a.before)) c.log_made.new.s = c.log_made.ensures in
     rw (time, chosen) at now-logged
-
-pub leaving_from-first-requires : goal.leaving_from-first-requires
-leaving_from-first-requires c = ((c.requires.0.at.holds.ready, c.requires.1))
