@@ -17,8 +17,10 @@ use lib.Count.{ones, ones_cat, count_trailing_zeros, trailing_of_zero}
 use Rattle.plan.specs.declared.Record.{Record}
 use Rattle.plan.specs.declared.Channel.{Channel}
 use Rattle.plan.specs.Channel.{takes}
-use Rattle.plan.specs.Plan.{Plan, plan_channels, no_channel, keep_if, numbers_from, is_none, entering, leaving}
-use Rattle.plan.specs.Mask.{mask_of, Rising, ones_from, channels_in, taking, plan_mask, CountOf, FirstOf}
+use Rattle.plan.specs.Lawful.{Each}
+use Rattle.plan.specs.Plan.{Plan, plan_of, plan_channels, no_channel, keep_if, numbers_from, is_none, entering, leaving}
+use Rattle.plan.specs.Mask.{mask_of, Rising, ones_from, channels_in, among, taking, plan_mask, CountOf, FirstOf}
+use Rattle.plan.proofs.PlanLaws.{channel_count_lem}
 
 -- ---- rising lists
 
@@ -190,6 +192,27 @@ leaving_rise p n = numbers_rise 0 (λ (c : Channel). eqb c.sender n) p.channels
 pub taking_rise : (p : Plan) (n : ℕ) (r : Record) → Rising 0 (taking p n r)
 unfolding taking
 taking_rise p n r = numbers_rise 0 (λ (c : Channel). eqb c.sender n && takes c r) p.channels
+
+-- Each of them is a channel of the plan.
+kept_below : (t : Bool) (m k : ℕ) (ks : List ℕ) → k < m → Each (λ (b : ℕ). b < m) ks → Each (λ (b : ℕ). b < m) (keep_if t k ks)
+kept_below true m k ks l h = (l, h)
+kept_below false m k ks l h = h
+
+numbers_below : {A : Type 0} (m k : ℕ) (f : A → Bool) (xs : List A) → k + length xs ≤ m → Each (λ (b : ℕ). b < m) (numbers_from k f xs)
+numbers_below m k f [] l = tt
+numbers_below m k f (x ∷ xs) l = kept_below (f x) m k (numbers_from (suc k) f xs) (omega arith) (numbers_below m (suc k) f xs (omega arith))
+
+pub entering_below : (s : List ℕ) (n : ℕ) → Each (λ (b : ℕ). b < plan_channels s) (entering (plan_of s) n)
+unfolding entering
+entering_below s n = numbers_below (plan_channels s) 0 (λ (c : Channel). eqb c.receiver n) (plan_of s).channels (omega (arith, channel_count_lem s))
+
+pub leaving_below : (s : List ℕ) (n : ℕ) → Each (λ (b : ℕ). b < plan_channels s) (leaving (plan_of s) n)
+unfolding leaving
+leaving_below s n = numbers_below (plan_channels s) 0 (λ (c : Channel). eqb c.sender n) (plan_of s).channels (omega (arith, channel_count_lem s))
+
+pub among_below : (m : ℕ) (f : ℕ → Bool) (bs : List ℕ) → Each (λ (b : ℕ). b < m) bs → Each (λ (b : ℕ). b < m) (among f bs)
+among_below m f [] h = tt
+among_below m f (b ∷ bs) h = kept_below (f b) m b (among f bs) h.0 (among_below m f bs h.1)
 
 pub mask_few : (s : List ℕ) → plan_channels s ≤ 24 → (bs : List ℕ) → plan_mask s bs ≡ mask_of bs
 unfolding plan_mask
