@@ -6,8 +6,9 @@ use Rattle.placing.specs.Table.{most_items, greatest, row_count}
 use Rattle.placing.specs.Walk.{Waiting, Candidate, in_row, last_column, walked, none_wait}
 use Rattle.placing.specs.declared.Offer.{Offer}
 use Rattle.placing.specs.declared.Offer.TheVariants.{Fixed, Free, Passed, Nothing}
+use Rattle.std.specs.declared.option.Option as rust
+use Rattle.std.specs.declared.option.Option.TheVariants.{None, Some}
 use Rattle.placing.specs.declared.Pick.{Pick}
-use Rattle.placing.specs.declared.Pick.TheVariants.{Row, Empty}
 
 abbrev pub row_at : List Item → ℕ → ℕ
 row_at table k = (item_at table k).row
@@ -90,9 +91,9 @@ unfoldable pub offer_at : List ℕ → List ℕ → ℕ → ℕ → ℕ → Offe
 offer_at fixed lasts shut i c = offer_by (ltb shut c) (eqb (get_or fixed i 0) c) (eqb (get_or fixed i 0) 0) (get_or lasts i 0)
 
 -- The candidate that the code's pick stands for.
-abbrev pub candidate_of : Pick → Option Candidate
-candidate_of (Row row last) = some (record { row = row; last = last })
-candidate_of Empty = none
+abbrev pub candidate_of : rust.Option Pick → Option Candidate
+candidate_of None = none
+candidate_of (Some p) = some (record { row = p.row; last = p.last })
 
 -- What `walk` asks: last columns and next places as `prepare` leaves them, and no column yet.
 pub record WalkAsks (low high : ℕ) (rows fixed floors lasts next work : List ℕ) : Type 0 where
