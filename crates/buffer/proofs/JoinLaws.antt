@@ -90,3 +90,12 @@ module _ (s : List ℕ) (ready : Ready s) {q n : ℕ} {j : Joint} (is : Joining 
 pub parent_joined : (s : List ℕ) (q n : ℕ) (o : Maybe Joint) → JoinOf s q n o → is_some o ≡ if_found (from_sender (line_of s).plan q (entering (line_of s).plan n)) (λ (b : ℕ). true)
 parent_joined s q n None is = rw (line-plan s, is.found) refl
 parent_joined s q n (Some j) is = rw (line-plan s, is.found) refl
+
+-- A later state whose plan is the same.
+pub ends_kept : {s t codes counts : List ℕ} → plan_of t ≡ plan_of s → EndsOf s codes counts → EndsOf t codes counts
+ends_kept e k = record {
+  long = k.long;
+  wide = k.wide;
+  joins = λ q n h i. rw e (k.joins q n h i);
+  counts_are = λ n h. rw e (k.counts_are n h);
+}

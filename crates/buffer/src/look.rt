@@ -24,7 +24,7 @@ pub fn node_count(s: &[u8]) -> usize
     requires { Ready s.now }
     ensures { (result ≡ plan_nodes s.now) × (result ≤ 12) }
 {
-    index(s[3])
+    usize::from(s[3])
 }
 
 // How many channels the plan has.
@@ -32,7 +32,7 @@ pub fn channel_count(s: &[u8]) -> usize
     requires { Ready s.now }
     ensures { (result ≡ plan_channels s.now) × (result ≤ 24) }
 {
-    index(s[4])
+    usize::from(s[4])
 }
 
 // These four read as `plan` does, but do not look for the end of the bytes, which is far behind a ready state's plan.
@@ -90,7 +90,7 @@ pub fn sender_of(s: &[u8], b: usize) -> usize
     ensures { (result ≡ (channel_at (plan_of s.now) b).sender) × (result < plan_nodes s.now) }
 {
     let at = channel_from(s, b);
-    index(s[at])
+    usize::from(s[at])
 }
 
 pub fn receiver_of(s: &[u8], b: usize) -> usize
@@ -98,7 +98,7 @@ pub fn receiver_of(s: &[u8], b: usize) -> usize
     ensures { (result ≡ (channel_at (plan_of s.now) b).receiver) × (result < plan_nodes s.now) }
 {
     let at = channel_from(s, b);
-    index(s[at + 1])
+    usize::from(s[at + 1])
 }
 
 // Whether no channel enters a node.
@@ -134,7 +134,7 @@ pub fn is_down(s: &[u8], n: usize) -> bool
     requires { Ready s.now × (n < plan_nodes s.now) }
     ensures { result ≡ node_down (line_of s.now) n }
 {
-    bytes::get8(s, layout::PAGE * (1 + n)) == 1
+    status_of(s, n) == Status::Down
 }
 
 // Whether a node replays.
@@ -142,7 +142,7 @@ pub fn is_replaying(s: &[u8], n: usize) -> bool
     requires { Ready s.now × (n < plan_nodes s.now) }
     ensures { result ≡ replaying (line_of s.now) n }
 {
-    1 < bytes::get8(s, layout::PAGE * (1 + n))
+    status_of(s, n) == Status::Replaying
 }
 
 // Whether a node bears a crash mark.

@@ -3,9 +3,9 @@ use mathlib.Core.Path.{◌≡◌, sym, ◌∙◌}
 use native.Mathlib.Numerals.{add-one}
 use native.Mathlib.Omega.{arith}
 use Rattle.plan.specs.Plan.{plan_of, channel_count, channel_at}
-use Rattle.plan.proofs.MaskLaws.{bit_at_most}
+use Rattle.plan.specs.Channel.{takes}
 use Rattle.plan.proofs.PlanLaws.{node_count_lem, channel_count_lem}
-use Rattle.buffer.proofs.SetLaws.{found_start, found_room, found_more, found_all, found_last}
+use Rattle.buffer.proofs.SetLaws.{taken_bit, found_start, found_more, found_all, found_last}
 use Rattle.buffer.proofs.sets.set_of.Goals as goal
 
 pub loop-b-init : goal.loop-b-init
@@ -13,50 +13,24 @@ loop-b-init c =
     let a = c.args in
     found_start (plan_of a.s.now) a.n c.requires.0.fits (record { piece = a.piece; material = a.material; mass = a.mass }) a.first c.requires.2 (omega (arith, c.requires.1, node_count_lem a.s.now))
 
-pub sender_of-requires : goal.sender_of-requires
-sender_of-requires c = record { ready = c.requires.0; below = omega (arith, c.channel_count-m.ensures.0) }
-
 pub returns-then-sender_of-n : goal.returns-then-sender_of-n
 returns-then-sender_of-n c =
     let a = c.args in
     let turn = c.loop-b in
     found_last (plan_of a.s.now) a.n c.requires.0.fits (record { piece = a.piece; material = a.material; mass = a.mass }) a.first turn.b turn.set turn.bit turn.invariant c.requires.2
-    (omega (arith, channel_count_lem a.s.now, c.channel_count-m.ensures.0)) (λ e. c.if-sender_of-n.true (c.sender_of.ensures.0 ∙ e))
-
-pub channel_of-c-requires : goal.channel_of-c-requires
-channel_of-c-requires c = record { ready = c.requires.0; below = omega (arith, c.channel_count-m.ensures.0) }
-
-pub overflow_add-set : goal.overflow_add-set
-overflow_add-set c =
-    let a = c.args in
-    let turn = c.loop-b in
-    let here : turn.b < channel_count (plan_of a.s.now) = omega (arith, channel_count_lem a.s.now, c.channel_count-m.ensures.0) in
-    let leaves : (channel_at (plan_of a.s.now) turn.b).sender ≡ a.n = sym c.sender_of.ensures.0 ∙ c.if-sender_of-n.false in
-    let room = found_room (plan_of a.s.now) a.n c.requires.0.fits (record { piece = a.piece; material = a.material; mass = a.mass }) a.first turn.b turn.set turn.bit turn.invariant here leaves in
-    omega (arith, turn.invariant.below, room, c.bit_if-set.ensures, bit_at_most c.takes_fields.result turn.bit)
-
-pub overflow_mul-bit : goal.overflow_mul-bit
-overflow_mul-bit c =
-    let a = c.args in
-    let turn = c.loop-b in
-    let here : turn.b < channel_count (plan_of a.s.now) = omega (arith, channel_count_lem a.s.now, c.channel_count-m.ensures.0) in
-    let leaves : (channel_at (plan_of a.s.now) turn.b).sender ≡ a.n = sym c.sender_of.ensures.0 ∙ c.if-sender_of-n.false in
-    omega (arith, found_room (plan_of a.s.now) a.n c.requires.0.fits (record { piece = a.piece; material = a.material; mass = a.mass }) a.first turn.b turn.set turn.bit turn.invariant here leaves)
+    (omega (arith, channel_count_lem a.s.now, c.channel_count-b-end.ensures.0)) (λ e. c.if-sender_of-n.true (c.sender_of.ensures.0 ∙ e))
 
 pub loop-b-preserved : goal.loop-b-preserved
 loop-b-preserved c =
     let a = c.args in
     let turn = c.loop-b in
-    let here : turn.b < channel_count (plan_of a.s.now) = omega (arith, channel_count_lem a.s.now, c.channel_count-m.ensures.0) in
+    let here : turn.b < channel_count (plan_of a.s.now) = omega (arith, channel_count_lem a.s.now, c.channel_count-b-end.ensures.0) in
     let leaves : (channel_at (plan_of a.s.now) turn.b).sender ≡ a.n = sym c.sender_of.ensures.0 ∙ c.if-sender_of-n.false in
-    rw (c.bit_if-set.ensures, c.takes_fields.ensures, c.channel_of-c.ensures, add-one turn.b)
+    rw (c.from.ensures, c.takes_fields.ensures, c.channel_of-c.ensures, add-one turn.b, taken_bit (takes (channel_at (plan_of a.s.now) turn.b) (record { piece = a.piece; material = a.material; mass = a.mass })) turn.bit)
     (found_more (plan_of a.s.now) a.n c.requires.0.fits (record { piece = a.piece; material = a.material; mass = a.mass }) a.first turn.b turn.set turn.bit turn.invariant here leaves)
 
 pub returns : goal.returns
 returns c =
     let a = c.args in
     let turn = c.loop-b in
-    found_all (plan_of a.s.now) a.n c.requires.0.fits (record { piece = a.piece; material = a.material; mass = a.mass }) a.first turn.b turn.set turn.bit turn.invariant (omega (arith, channel_count_lem a.s.now, c.channel_count-m.ensures.0))
-
-pub channel_count-m-requires : goal.channel_count-m-requires
-channel_count-m-requires c = c.requires.0
+    found_all (plan_of a.s.now) a.n c.requires.0.fits (record { piece = a.piece; material = a.material; mass = a.mass }) a.first turn.b turn.set turn.bit turn.invariant (omega (arith, channel_count_lem a.s.now, c.channel_count-b-end.ensures.0))
