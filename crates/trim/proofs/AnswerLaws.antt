@@ -1,16 +1,22 @@
 -- What Trim answers is the rules' number.
 use Prim.Native.Nat.{ℕ, suc, ◌+◌, ◌-◌, ◌≤◌, ◌<◌}
 use mathlib.Core.Path.{◌≡◌, refl, sym, ap, ◌∙◌}
+use mathlib.Core.Logic.{◌≢◌}
 use mathlib.Core.Bool.{Bool, true, false, not, ◌||◌, or_assoc, or-false}
 use native.Mathlib.Omega.{arith}
 use lib.Dec.{leb}
 use borrow.Author.Tests.{leb-false, le-leb, lt-leb}
+use Rattle.answers.specs.declared.Refusal.{Refusal}
+use Rattle.answers.specs.Number.{refusal_number}
 use Rattle.plan.specs.Plan.{node_count}
 use Rattle.rules.specs.Lists.{any_of, up_to}
 use Rattle.rules.specs.Line.{Status, up, down, replay, Line, node_at, is_up, is_down, is_replay}
 use Rattle.rules.specs.Frame.{trim}
 use Rattle.rules.specs.Step.{not_all_up, node_down, replaying, no_placing, effect, line_refusal}
 use Rattle.trim.specs.Trimmed.{trim_answer}
+
+pub refused : (r : Refusal) → refusal_number r ≢ 0
+refused r e = grind arith
 
 not_up : (s : Status) → (is_down s || is_replay s) ≡ not (is_up s)
 not_up up = refl

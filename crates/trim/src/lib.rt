@@ -14,7 +14,9 @@ ghost use Rattle.buffer.specs.Holds.{Holds, AtNode, AtLane, LaneNow, Undamaged, 
 ghost use Rattle.slots.specs.Slots.{origin_is, entry_is};
 ghost use Rattle.buffer.specs.Rows.{Rows};
 ghost use Rattle.trim.specs.Trimmed.{trim_answer, heard_lowers, channel_lowers, sender_within, entry_within, raised_on};
+ghost use Rattle.answers.specs.Number.{number};
 
+use answers::Refusal;
 use buffer::{look, table};
 use slots::{Logged, Made};
 
@@ -35,17 +37,18 @@ fn not_all_up(s: &[u8]) -> bool
     found
 }
 
-fn refusal(s: &[u8], n: usize) -> u32
+// Whether node n may be trimmed now.
+fn asked(s: &[u8], n: usize) -> Result<(), Refusal>
     requires { Ready s.now }
-    ensures { result ≡ trim_answer (line_of s.now) n }
+    ensures { number result ≡ trim_answer (line_of s.now) n }
 {
     if look::node_count(s) <= n {
-        return 13;
+        return Err(Refusal::NoSuchPlace);
     }
     if not_all_up(s) {
-        return 26;
+        return Err(Refusal::NotAllUp);
     }
-    0
+    Ok(())
 }
 
 // ---- floor times, one for each of at most 12 nodes
@@ -198,23 +201,19 @@ fn raise_channels(s: &mut [u8], t: &[u8; 156], n: usize, count: usize)
 }
 
 // Kind 6.
-pub fn trim(s: &mut [u8], n: usize) -> u32
+pub fn trim(s: &mut [u8], n: usize) -> Result<(), Refusal>
     requires { Undamaged s.old }
-    ensures { Did s.old (trim n) s.new result }
+    ensures { Did s.old (trim n) s.new (number result) }
 {
-    let number = refusal(s, n);
-    if number != 0 {
-        return number;
-    }
+    asked(s, n)?;
     let mut joins = [255u8; 156];
     table::fill(s, &mut joins);
-    let mut floors = [0u32; 12];
+    let mut floors = [0; 12];
     floors_of(s, &joins, &mut floors);
     let count = run_of(s, n, &floors);
-    if count == 0 {
-        return 0;
+    if count != 0 {
+        raise_channels(s, &joins, n, count);
+        node_fields::drop_entries(s, n, count);
     }
-    raise_channels(s, &joins, n, count);
-    node_fields::drop_entries(s, n, count);
-    0
+    Ok(())
 }

@@ -4,7 +4,7 @@ use native.Mathlib.Omega.{arith}
 use Rattle.state.specs.State.{line_of}
 use Rattle.buffer.proofs.ReadyLaws.{line-nodes}
 use Rattle.trim.proofs.AnswerLaws.{none_such, not_now}
-use Rattle.trim.proofs.refusal.Goals as goal
+use Rattle.trim.proofs.asked.Goals as goal
 
 pub returns-then-node_count-n : goal.returns-then-node_count-n
 returns-then-node_count-n c = let a = c.args in none_such (line_of a.s.now) a.n (omega (arith, c.if-node_count-n.true, c.node_count.ensures.0, line-nodes a.s.now))
