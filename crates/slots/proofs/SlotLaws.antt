@@ -1,23 +1,23 @@
 -- What stands in a slot, written part by part; and slots moved.
-use Prim.Native.Nat.{ℕ, zero, suc, ◌+◌, ◌*◌, ◌-◌, ◌≤◌, ◌<◌}
-use mathlib.Core.Path.{◌≡◌, refl, sym, ap, ◌∙◌}
-use mathlib.Core.List.{List, [], ◌∷◌, ◌++◌, append_assoc, append-nil}
-use native.Mathlib.Nat.{add_assoc, mul-zero, mul-one, mul-add}
+use Prim.Native.Nat.{ℕ, zero, suc, ◌+◌, ◌-◌, ◌≤◌, ◌<◌}
+use mathlib.Core.Path.{◌≡◌, refl, ap, ◌∙◌}
+use mathlib.Core.List.{List, [], ◌∷◌, ◌++◌, append_assoc}
 use native.Mathlib.Omega.{arith}
 use lib.ListN.{length, take, drop, replicate}
-use lib.Seq.{take-add, drop-drop}
-use Rattle.basics.specs.Put.{put, put-none, puts, puts-joined}
-use Rattle.plan.specs.Layout.{bytes_of, spelled}
-use Rattle.plan.specs.Lawful.{Bytes}
+use lib.Seq.{paste}
+use Rattle.basics.specs.Put.{put, put-parts, puts, puts-joined}
+use Rattle.plan.specs.Layout.{bytes_of}
 use Rattle.plan.specs.Record.{record_layout}
 use Rattle.rules.specs.Line.{Origin, Message, Entry, Held, Target}
 use Rattle.state.specs.Pieces.{origin_from, origin_layout, message_layout, entry_layout, held_layout, target_layout}
 use Rattle.state.proofs.PieceLaws.{origin_sound}
 use Rattle.state.proofs.RightAt.{part_long}
-use Rattle.buffer.specs.Words.{number64}
-use Rattle.buffer.proofs.BytesLaws.{gap_turn, gap_closed}
-use Rattle.buffer.proofs.WordLaws.{part_written}
+use Rattle.buffer.proofs.BytesLaws.{gap_closed}
 use Rattle.slots.specs.Slots.{time_of}
+
+pub time_none : (from time : ℕ) → from ≡ 0 → 0 ≡ time_of from time
+time_none zero time h = refl
+time_none (suc f) time h = let no : ⊥ = omega arith in absurd no
 
 pub time_some : (from time : ℕ) → 0 < from → time ≡ time_of from time
 time_some zero time h = let no : ⊥ = omega arith in absurd no
@@ -29,7 +29,7 @@ module _ (at : ℕ) where
   made_parts from time = (at, bytes_of 1 from) ∷ (at + 1, bytes_of 4 (time_of from time)) ∷ []
 
   abbrev message_parts : Message → List (ℕ × List ℕ)
-  message_parts m = (at, record_layout.write m.what) ∷ (at + 8, bytes_of 4 m.time) ∷ (at + 12, origin_layout.write m.origin) ∷ (at + 17, bytes_of 1 0) ∷ (at + 18, bytes_of 2 0) ∷ []
+  message_parts m = (at, record_layout.write m.what) ∷ (at + 8, bytes_of 4 m.time) ∷ (at + 12, origin_layout.write m.origin) ∷ (at + 17, bytes_of 2 0) ∷ (at + 19, bytes_of 1 0) ∷ []
 
   abbrev entry_parts : Entry → List (ℕ × List ℕ)
   entry_parts e =
@@ -74,47 +74,11 @@ module _ (s : List ℕ) (at : ℕ) (h : at ≤ length s) where
   unfolding target_layout
   target-written t = puts-joined s at (target_parts at t) h (refl, (omega arith, (omega arith, (omega arith, (omega arith, tt)))))
 
--- A slot of two words of eight bytes and one more, written elsewhere word by word.
-pub slot_copied : (w : ℕ) (s : List ℕ) (from to : ℕ) → Bytes s → from + (8 + (8 + w)) ≤ length s → to ≤ length s
-    → puts s ((to, bytes_of 8 (number64 from s)) ∷ (to + 8, bytes_of 8 (number64 (from + 8) s)) ∷ (to + 16, bytes_of w (spelled 0 (take w (drop (from + 16) s)))) ∷ []) ≡ put s to (take (8 + (8 + w)) (drop from s))
-slot_copied w s from to k h l =
-    let slot : List ℕ = drop from s in
-    let first : List ℕ = take 8 slot in
-    let second : List ℕ = take 8 (drop (from + 8) s) in
-    let third : List ℕ = take w (drop (from + 16) s) in
-    let long : length first ≡ 8 = part_long from 8 s (omega arith) in
-    let long_second : length second ≡ 8 = part_long (from + 8) 8 s (omega arith) in
-    let whole : first ++ (second ++ (third ++ [])) ≡ take (8 + (8 + w)) slot =
-    rw (append-nil, take-add 8 (8 + w) slot, drop-drop 8 from s, take-add 8 w (drop (from + 8) s), drop-drop 8 (from + 8) s, add_assoc from 8 8)
-    in
-    rw (part_written 8 from s k (omega arith), part_written 8 (from + 8) s k (omega arith), part_written w (from + 16) s k (omega arith))
-    (puts-joined s to ((to, first) ∷ (to + 8, second) ∷ (to + 16, third) ∷ []) l (refl, (omega arith, (omega arith, tt))) ∙ ap (put s to) whole)
+-- ---- slots moved to the front over a gap, and what they leave
 
--- ---- slots moved to the front, over a gap
-
-module _ (s₀ : List ℕ) (at gap size count : ℕ) where
-  -- The first i of those behind the gap have moved.
-  pub record Moved (s : List ℕ) (i : ℕ) : Type 0 where
-    pub within : i ≤ count
-    pub same : length s ≡ length s₀
-    pub now : s ≡ put s₀ at (take (size * i) (drop (at + gap) s₀))
-
-  pub none-moved : Moved s₀ 0
-  none-moved = record { within = omega arith; same = refl; now = rw mul-zero (sym (put-none s₀ at)) }
-
-  pub one_moved : {s t : List ℕ} {i : ℕ} → Moved s i → i < count → at + gap + size * i + size ≤ length s₀ → length t ≡ length s
-      → t ≡ put s (at + size * i) (take size (drop (at + size * i + gap) s)) → Moved t (i + 1)
-  one_moved {s} {i = i} m below h long e =
-      let place : at + size * i + gap ≡ at + gap + size * i = omega arith in
-      record {
-        within = omega arith;
-        same = long ∙ m.same;
-        now = e ∙ rw (place, m.now, mul-add, mul-one) (gap_turn s₀ at gap (size * i) size h);
-      }
-
-  pub all_moved : {s t : List ℕ} {i : ℕ} → Moved s i → count ≤ i → at + gap + size * count ≤ length s₀
-      → t ≡ take (at + size * count) s ++ replicate (at + size * count + gap - (at + size * count)) 0 ++ drop (at + size * count + gap) s
-      → t ≡ put s₀ at (take (size * count) (drop (at + gap) s₀) ++ replicate gap 0)
-  all_moved {i = i} m done h e =
-      let all : i ≡ count = omega (arith, m.within) in
-      e ∙ rw (m.now, all) (gap_closed s₀ at gap (size * count) (at + size * count + gap) h refl)
+pub gap_moved : (s₀ s t : List ℕ) (at gap size : ℕ) → at + gap + size ≤ length s₀ → s ≡ paste s₀ at (drop (at + gap) s₀) (at + gap + size - (at + gap))
+    → t ≡ take (at + size) s ++ replicate (at + size + gap - (at + size)) 0 ++ drop (at + size + gap) s → t ≡ put s₀ at (take size (drop (at + gap) s₀) ++ replicate gap 0)
+gap_moved s₀ s t at gap size h e f =
+    let many : at + gap + size - (at + gap) ≡ size = omega arith in
+    let moved : s ≡ put s₀ at (take size (drop (at + gap) s₀)) = e ∙ rw many (put-parts s₀ at (take size (drop (at + gap) s₀)) (at + size) (ap (λ (n : ℕ). at + n) (part_long (at + gap) size s₀ h))) in
+    f ∙ rw moved (gap_closed s₀ at gap size (at + size + gap) h refl)

@@ -1,2 +1,3 @@
 -- What stands in the slots.
 pub mod Slots
+pub mod Sizes
