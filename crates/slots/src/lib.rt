@@ -3,17 +3,17 @@
 
 ghost use Rattle.std.specs.Prelude.{◌≡◌, ℕ, List, ◌++◌, ◌+◌, ◌*◌, ◌≤◌, ◌<◌, length, take, drop, replicate};
 ghost use Rattle.basics.specs.Put.{put};
-ghost use Rattle.plan.specs.Layout.{bytes_of};
 ghost use Rattle.plan.specs.Record.{record_layout};
 ghost use Rattle.rules.specs.Line.{fed, made};
 ghost use Rattle.state.specs.Pieces.{origin_layout, message_layout, entry_layout, held_layout, target_layout};
-ghost use Rattle.state.specs.Right.{word_at};
 ghost use Rattle.buffer.specs.Check.{record_in};
 ghost use Rattle.slots.specs.Sizes.{record-long, origin-long, message-long, entry-long, held-long, target-long};
 ghost use Rattle.slots.specs.Slots.{SenderIs, origin_is, message_is, entry_is, held_is, target_is};
 
 use buffer::{bytes, layout, record};
 use plan::Record;
+
+pub mod list;
 
 // What something was made from: 0 for nothing, else the sender and 1; and the sender's time.
 #[derive(Clone, Copy, Debug, PartialEq, Eq)]
@@ -286,34 +286,7 @@ impl Piece for Goal {
     ghost sized = { λ g. target-long (target_is g) };
 }
 
-// ---- lists of slots behind their counts
-
-// Slot i of the list whose count stands at a place.
-pub fn nth<T: Piece>(s: &[u8], list: usize, i: usize) -> T
-    requires { list + 4 + (T.SIZE * i + T.SIZE) ≤ length s.now }
-    ensures { T.is_read result (take T.SIZE (drop (list + 4 + T.SIZE * i) s.now)) }
-{
-    T::read(s, list + layout::COUNT + T::SIZE * i)
-}
-
-// The list emptied: its count and the slots used become 0.
-pub fn clear<T: Piece>(s: &mut [u8], list: usize)
-    requires { (list + 4 ≤ length s.old) × (list + 4 + T.SIZE * word_at list s.old ≤ length s.old) }
-    ensures { s.new ≡ put s.old list (replicate (4 + T.SIZE * word_at list s.old) 0) }
-{
-    let count = bytes::get32(s, list) as usize;
-    bytes::fill_zero(s, list, list + layout::COUNT + T::SIZE * count);
-}
-
-// One more slot behind the others.
-pub fn append<T: Piece>(s: &mut [u8], list: usize, x: T)
-    requires { (list + 4 + (T.SIZE * word_at list s.old + T.SIZE) ≤ length s.old) × (word_at list s.old < 4_294_967_295) × T.fits x }
-    ensures { s.new ≡ put (put s.old list (bytes_of 4 (word_at list s.old + 1))) (list + 4 + T.SIZE * word_at list s.old) (T.written x) }
-{
-    let count = bytes::get32(s, list);
-    bytes::put32(s, list, count + 1);
-    x.write(s, list + layout::COUNT + T::SIZE * (count as usize));
-}
+// ---- moved
 
 // So many slots move up over as many as are gone before them; those freed behind become 0.
 pub fn close_up<T: Piece>(s: &mut [u8], at: usize, gone: usize, count: usize)
