@@ -106,7 +106,7 @@ pub fn is_source(s: &[u8], node: usize) -> bool
     requires { Ready s.now }
     ensures { result ≡ is_source (plan_of s.now) node }
 {
-    plan::masks::entering_mask(s, node) == 0
+    plan::masks::entering(s, node).is_empty()
 }
 
 // Whether no channel leaves a node.
@@ -114,7 +114,7 @@ pub fn is_sink(s: &[u8], node: usize) -> bool
     requires { Ready s.now }
     ensures { result ≡ is_sink (plan_of s.now) node }
 {
-    plan::masks::leaving_mask(s, node) == 0
+    plan::masks::leaving(s, node).is_empty()
 }
 
 // A node's status.
