@@ -9,6 +9,7 @@ ghost use Rattle.frame.specs.Reading.{AsksOf, ReadAs, Versioned};
 use answers::Refusal;
 use buffer::{Line, bytes, origin};
 use plan::Record;
+use slots::Piece;
 
 // What a frame asks of a node or a channel, by its kind. A Feed has its record, if its bytes are a record's.
 #[derive(Clone, Copy)]
@@ -65,7 +66,7 @@ fn record_of(s: &[u8], at: usize) -> Option<Record>
     requires { at + 8 ≤ length s.now }
     ensures { MatchOption result (record_fits (drop at s.now) ≡ false) (λ r. (record_layout.read (drop at s.now) ≡ r) × (record_fits (drop at s.now) ≡ true)) }
 {
-    origin::record_ok(s, at).then_some(slots::record_at(s, at))
+    origin::record_ok(s, at).then_some(Record::read(s, at))
 }
 
 // What a Feed asks, by what stands behind its console.

@@ -20,4 +20,4 @@ returns c =
     let a = c.args in
     let behind = drop a.at a.s.now in
     let bytes = bytes_known a.s.now (λ i. (c.shared_slice_known-1.given i).fits) in
-    rw c.then_some.ensures (by_test (record_fits behind) c.record_ok.result (record_layout.read behind) c.record_at.result (fits_front behind ∙ record_tested a.at a.s.now bytes c.requires ∙ sym c.record_ok.ensures) (record_front behind ∙ sym c.record_at.ensures))
+    rw c.then_some.ensures (by_test (record_fits behind) c.record_ok.result (record_layout.read behind) c.read.result (fits_front behind ∙ record_tested a.at a.s.now bytes c.requires ∙ sym c.record_ok.ensures) (record_front behind ∙ sym c.read.ensures))
