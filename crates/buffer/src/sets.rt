@@ -1,11 +1,12 @@
 // The set of the channels that leave a node and take a record (document 02, 2026-06), by the plan at a state's front. Channels rise by their sender, so those of a node stand together.
-ghost use Rattle.std.specs.Prelude.{◌≡◌, cond, ◌<◌};
+ghost use Rattle.std.specs.Prelude.{◌≡◌, ◌<◌};
 ghost use Rattle.plan.specs.Plan.{plan_of, plan_nodes, is_sink};
 ghost use Rattle.plan.specs.Mask.{set_of};
 ghost use Rattle.buffer.specs.Ready.{Ready, OnChannel};
 ghost use Rattle.buffer.specs.Sets.{LeaveFrom, Begin, BitOf};
 
 use crate::look;
+use plan::Record;
 
 // Where the channels that leave a node begin: at a channel before which none does, or behind it.
 pub fn leaving_from(s: &[u8], n: usize, from: usize) -> usize
@@ -32,10 +33,10 @@ pub fn none_leaves(s: &[u8], n: usize, first: usize) -> bool
     look::sender_of(s, first) != n
 }
 
-// The set of the channels that leave a node and take a record, by its fields; the first of them is given.
-pub fn set_of(s: &[u8], n: usize, first: usize, piece: u32, material: u8, mass: u16) -> u8
+// The set of the channels that leave a node and take a record; the first of them is given.
+pub fn set_for(s: &[u8], n: usize, first: usize, r: Record) -> u8
     requires { Ready s.now × (n < plan_nodes s.now) × Begin (plan_of s.now) n first }
-    ensures { result ≡ set_of (plan_of s.now) n (record { piece = piece; material = material; mass = mass }) }
+    ensures { result ≡ set_of (plan_of s.now) n r }
 {
     let mut set: u8 = 0;
     let mut bit: u8 = 1;
@@ -43,11 +44,28 @@ pub fn set_of(s: &[u8], n: usize, first: usize, piece: u32, material: u8, mass: 
         if look::sender_of(s, b) != n {
             return set;
         }
-        let c = look::channel_of(s, b);
-        set += u8::from(plan::channels::takes_fields(c, piece, material, mass)) * bit;
+        let takes = plan::channels::channel_takes(look::channel_of(s, b), r);
+        set += u8::from(takes) * bit;
         bit *= 2;
     }
     set
+}
+
+// The same by the record's fields.
+pub fn set_of(s: &[u8], n: usize, first: usize, piece: u32, material: u8, mass: u16) -> u8
+    requires { Ready s.now × (n < plan_nodes s.now) × Begin (plan_of s.now) n first }
+    ensures { result ≡ set_of (plan_of s.now) n (record { piece = piece; material = material; mass = mass }) }
+{
+    set_for(
+        s,
+        n,
+        first,
+        Record {
+            piece,
+            material,
+            mass,
+        },
+    )
 }
 
 // Which bit of its sender's sets is a channel's: the number of channels of the same sender that stand before it.
