@@ -6,7 +6,6 @@ ghost use Rattle.basics.specs.Put.{put};
 ghost use Rattle.plan.specs.Record.{record_layout};
 ghost use Rattle.rules.specs.Line.{fed, made};
 ghost use Rattle.state.specs.Pieces.{origin_layout, message_layout, entry_layout, held_layout, target_layout};
-ghost use Rattle.buffer.specs.Check.{record_in};
 ghost use Rattle.slots.specs.Sizes.{record-long, origin-long, message-long, entry-long, held-long, target-long};
 ghost use Rattle.slots.specs.Slots.{SenderIs, origin_is, message_is, entry_is, held_is, target_is};
 
@@ -286,8 +285,6 @@ impl Piece for Goal {
     ghost sized = { λ g. target-long (target_is g) };
 }
 
-// ---- moved
-
 // So many slots move up over as many as are gone before them; those freed behind become 0.
 pub fn close_up<T: Piece>(s: &mut [u8], at: usize, gone: usize, count: usize)
     requires { at + T.SIZE * gone + T.SIZE * count ≤ length s.old }
@@ -297,83 +294,4 @@ pub fn close_up<T: Piece>(s: &mut [u8], at: usize, gone: usize, count: usize)
     let size = T::SIZE * count;
     s.copy_within(at + gap..at + gap + size, at);
     bytes::fill_zero(s, at + size, at + size + gap);
-}
-
-// ---- the same of each kind, by its name
-
-pub fn record_at(s: &[u8], at: usize) -> Record
-    requires { at + 8 ≤ length s.now }
-    ensures { result ≡ record_in at s.now }
-{
-    Record::read(s, at)
-}
-
-pub fn message_at(s: &[u8], at: usize) -> Sent
-    requires { at + 20 ≤ length s.now }
-    ensures { message_is result ≡ message_layout.read (take 20 (drop at s.now)) }
-{
-    Sent::read(s, at)
-}
-
-pub fn entry_at(s: &[u8], at: usize) -> Logged
-    requires { at + 24 ≤ length s.now }
-    ensures { entry_is result ≡ entry_layout.read (take 24 (drop at s.now)) }
-{
-    Logged::read(s, at)
-}
-
-pub fn held_at(s: &[u8], at: usize) -> Waiting
-    requires { at + 20 ≤ length s.now }
-    ensures { held_is result ≡ held_layout.read (take 20 (drop at s.now)) }
-{
-    Waiting::read(s, at)
-}
-
-pub fn target_at(s: &[u8], at: usize) -> Goal
-    requires { at + 12 ≤ length s.now }
-    ensures { target_is result ≡ target_layout.read (take 12 (drop at s.now)) }
-{
-    Goal::read(s, at)
-}
-
-pub fn put_message(s: &mut [u8], at: usize, m: Sent)
-    requires { at + 20 ≤ length s.old }
-    ensures { s.new ≡ put s.old at (message_layout.write (message_is m)) }
-{
-    m.write(s, at);
-}
-
-pub fn put_entry(s: &mut [u8], at: usize, e: Logged)
-    requires { at + 24 ≤ length s.old }
-    ensures { s.new ≡ put s.old at (entry_layout.write (entry_is e)) }
-{
-    e.write(s, at);
-}
-
-pub fn put_held(s: &mut [u8], at: usize, h: Waiting)
-    requires { at + 20 ≤ length s.old }
-    ensures { s.new ≡ put s.old at (held_layout.write (held_is h)) }
-{
-    h.write(s, at);
-}
-
-pub fn put_target(s: &mut [u8], at: usize, g: Goal)
-    requires { (at + 12 ≤ length s.old) × (g.parent < 256) }
-    ensures { s.new ≡ put s.old at (target_layout.write (target_is g)) }
-{
-    g.write(s, at);
-}
-
-pub fn close_gap(s: &mut [u8], at: usize, count: usize)
-    requires { at + 20 + 20 * count ≤ length s.old }
-    ensures { s.new ≡ put s.old at (take (20 * count) (drop (at + 20) s.old) ++ replicate 20 0) }
-{
-    close_up::<Sent>(s, at, 1, count);
-}
-
-pub fn close_entries(s: &mut [u8], at: usize, gone: usize, count: usize)
-    requires { at + 24 * gone + 24 * count ≤ length s.old }
-    ensures { s.new ≡ put s.old at (take (24 * count) (drop (at + 24 * gone) s.old) ++ replicate (24 * gone) 0) }
-{
-    close_up::<Logged>(s, at, gone, count);
 }
