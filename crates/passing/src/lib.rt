@@ -43,20 +43,39 @@ pub fn made_by(s: &[u8], n: usize, what: Record) -> Record
     plan::nodes::apply(plan::nodes::node_rule(s, n), what)
 }
 
-// Whether a record that a node made gets a time of its own: some channel takes it, by its set, or none leaves the node (document 02, 2026-08).
-fn gets_time(s: &[u8], n: usize, first: usize, set: u8) -> bool
-    requires { Ready s.now × Begin (plan_of s.now) n first }
-    ensures { result ≡ (is_sink (plan_of s.now) n || not (eqb set 0)) }
-{
-    set != 0 || sets::none_leaves(s, n, first)
+// The channels that take a record from a node that made it: where those that leave the node begin, and the set of those that take it.
+#[derive(Clone, Copy)]
+struct Takers {
+    first: usize,
+    set: u8,
 }
 
-// Its time: the node's next one, or else its present one.
-fn time_for(s: &[u8], n: usize, first: usize, set: u8) -> u32
-    requires { Loggable s.now n × Begin (plan_of s.now) n first }
-    ensures { result ≡ cond (is_sink (plan_of s.now) n || not (eqb set 0)) (suc (node_at (line_of s.now) n).time) (node_at (line_of s.now) n).time }
-{
-    node_fields::time_of(s, n) + u32::from(gets_time(s, n, first, set))
+impl Takers {
+    // None of the channels before `from` leaves the node.
+    fn of(s: &[u8], n: usize, from: usize, what: Record) -> Takers
+        requires { Ready s.now × (n < plan_nodes s.now) × LeaveFrom (plan_of s.now) n from }
+        ensures { Begin (plan_of s.now) n result.first × (result.set ≡ set_of (plan_of s.now) n what) }
+    {
+        let first = sets::leaving_from(s, n, from);
+        let set = sets::set_of(s, n, first, what.piece, what.material, what.mass);
+        Takers { first, set }
+    }
+
+    // Whether the record gets a time of its own: some channel takes it, or none leaves the node (document 02, 2026-08).
+    fn give_time(self, s: &[u8], n: usize) -> bool
+        requires { Ready s.now × Begin (plan_of s.now) n self.first }
+        ensures { result ≡ (is_sink (plan_of s.now) n || not (eqb self.set 0)) }
+    {
+        self.set != 0 || sets::none_leaves(s, n, self.first)
+    }
+
+    // The record's time: the node's next one, or else its present one.
+    fn time(self, s: &[u8], n: usize) -> u32
+        requires { Loggable s.now n × Begin (plan_of s.now) n self.first }
+        ensures { result ≡ cond (is_sink (plan_of s.now) n || not (eqb self.set 0)) (suc (node_at (line_of s.now) n).time) (node_at (line_of s.now) n).time }
+    {
+        node_fields::time_of(s, n) + u32::from(self.give_time(s, n))
+    }
 }
 
 // What a node made is logged, and its time is then the node's.
@@ -81,21 +100,19 @@ pub fn feed(s: &mut [u8], n: usize, what: Option<Record>) -> Result<(), Refusal>
     }
     let fed = what.ok_or(Refusal::WrongRecord)?;
     let made = made_by(s, n, fed);
-    let first = sets::leaving_from(s, n, 0);
-    let set = sets::set_of(s, n, first, made.piece, made.material, made.mass);
-    if !gets_time(s, n, first, set) {
+    let takers = Takers::of(s, n, 0, made);
+    if !takers.give_time(s, n) {
         return Ok(());
     }
     if LOG <= node_fields::log_count(s, n) {
         return Err(Refusal::NoSpace);
     }
-    let nothing = Made { from: 0, time: 0 };
     let e = Logged {
         what: made,
         time: node_fields::time_of(s, n) + 1,
-        made: nothing,
-        before: nothing,
-        set,
+        made: Made::nothing(),
+        before: Made::nothing(),
+        set: takers.set,
     };
     log_made(s, n, e);
     Ok(())
@@ -176,9 +193,8 @@ fn log_taken(s: &mut [u8], n: usize, from: usize, what: Record, made: Made, befo
     requires { Loggable s.old n × LeaveFrom (plan_of s.old) n from }
     ensures { let p = (line_of s.old).plan in NodeNow s.old n (logged (time_for p n what (node_at (line_of s.old) n).time) (set_of p n what) what (origin_is made) (origin_is before)) s.new }
 {
-    let first = sets::leaving_from(s, n, from);
-    let set = sets::set_of(s, n, first, what.piece, what.material, what.mass);
-    let time = time_for(s, n, first, set);
+    let takers = Takers::of(s, n, from, what);
+    let time = takers.time(s, n);
     log_made(
         s,
         n,
@@ -187,7 +203,7 @@ fn log_taken(s: &mut [u8], n: usize, from: usize, what: Record, made: Made, befo
             time,
             made,
             before,
-            set,
+            set: takers.set,
         },
     );
 }
@@ -205,10 +221,6 @@ pub fn take_up(s: &mut [u8], b: usize) -> Result<(), Refusal>
     let m = channel_fields::first_of(s, b);
     channel_fields::take_first(s, b, m);
     let what = made_by(s, n, m.what);
-    let made = Made {
-        from: c.sender + 1,
-        time: m.time,
-    };
-    log_taken(s, n, b + 1, what, made, m.made);
+    log_taken(s, n, b + 1, what, Made::by(c.sender, m.time), m.made);
     Ok(())
 }

@@ -19,7 +19,7 @@ use Rattle.buffer.proofs.SetLaws.{leave_all}
 use Rattle.passing.specs.Passing.{Loggable}
 use Rattle.passing.proofs.StateLaws.{at-node, time_within}
 use Rattle.passing.proofs.FeedLaws.{timed_in, is_timed, feed_past, feed_between, feed_unfit, feed_quiet, feed_full, feed_done}
-use Rattle.passing.proofs.feed.Goals.{After-gets_time, After-leaving_from-first, After-set_of-set, After-time_of}
+use Rattle.passing.proofs.feed.Goals.{After-give_time, After-time_of}
 use Rattle.passing.proofs.feed.Goals as goal
 
 pub returns-then-node_count-n : goal.returns-then-node_count-n
@@ -41,18 +41,18 @@ returns-in_err-fed c bytes known =
     (rw c.in_err-fed.ensures.ok_part at known) in
     search rules
 
-pub leaving_from-first-requires : goal.leaving_from-first-requires
-leaving_from-first-requires c = (c.requires.holds.ready, leave_all (plan_of c.args.s.now) c.args.n)
+pub of-takers-requires : goal.of-takers-requires
+of-takers-requires c = (c.requires.holds.ready, omega (arith, c.node_count.ensures.0), leave_all (plan_of c.args.s.now) c.args.n)
 
 -- What is known where a record's time is asked for.
-record Asked (g : goal.After-gets_time) (bytes : List ℕ) : Type 0 where
+record Asked (g : goal.After-give_time) (bytes : List ℕ) : Type 0 where
   inside : g.args.n < plan_nodes g.args.s.now
   source : is_source (plan_of g.args.s.now) g.args.n ≡ true
   fits : record_fits bytes ≡ true
   made : g.made_by-made.result ≡ made_by (line_of g.args.s.now) g.args.n (record_layout.read bytes)
-  timed : g.gets_time.result ≡ is_timed (line_of g.args.s.now) g.args.n bytes
+  timed : g.give_time.result ≡ is_timed (line_of g.args.s.now) g.args.n bytes
 
-asked : (g : goal.After-gets_time) (bytes : List ℕ) → MatchOption g.args.what (record_fits bytes ≡ false) (λ r. (record_layout.read bytes ≡ r) × (record_fits bytes ≡ true)) → Asked g bytes
+asked : (g : goal.After-give_time) (bytes : List ℕ) → MatchOption g.args.what (record_fits bytes ≡ false) (λ r. (record_layout.read bytes ≡ r) × (record_fits bytes ≡ true)) → Asked g bytes
 asked g bytes known =
     let a = g.args in
     let l = line_of a.s.now in
@@ -63,20 +63,20 @@ asked g bytes known =
       source = sym g.is_source.ensures ∙ g.if-not-is_source.false;
       fits = fit.1;
       made = is;
-      timed = g.gets_time.ensures ∙ timed_in a.s.now a.n g.set_of-set.result g.made_by-made.result g.set_of-set.ensures ∙ ap (timed l.plan a.n) is;
+      timed = g.give_time.ensures ∙ timed_in a.s.now a.n g.of-takers.result.set g.made_by-made.result g.of-takers.ensures.1 ∙ ap (timed l.plan a.n) is;
     }
 
-pub returns-then-not-gets_time : goal.returns-then-not-gets_time
-returns-then-not-gets_time c bytes known =
+pub returns-then-not-give_time : goal.returns-then-not-give_time
+returns-then-not-give_time c bytes known =
     let a = c.args in
-    let k = asked (goal.at.returns-then-not-gets_time c).After-gets_time bytes known in
-    feed_quiet a.s.now a.n bytes c.requires.holds k.inside k.source k.fits (sym k.timed ∙ c.if-not-gets_time.true)
+    let k = asked (goal.at.returns-then-not-give_time c).After-give_time bytes known in
+    feed_quiet a.s.now a.n bytes c.requires.holds k.inside k.source k.fits (sym k.timed ∙ c.if-not-give_time.true)
 
 pub returns-then-log_count-ge-LOG : goal.returns-then-log_count-ge-LOG
 returns-then-log_count-ge-LOG c bytes known =
     let a = c.args in
-    let k = asked (goal.at.returns-then-log_count-ge-LOG c).After-gets_time bytes known in
-    feed_full a.s.now a.n bytes c.requires.holds k.inside k.source k.fits (sym k.timed ∙ c.if-not-gets_time.false) (omega (arith, c.log_count.ensures.0, c.if-log_count-ge-LOG.true))
+    let k = asked (goal.at.returns-then-log_count-ge-LOG c).After-give_time bytes known in
+    feed_full a.s.now a.n bytes c.requires.holds k.inside k.source k.fits (sym k.timed ∙ c.if-not-give_time.false) (omega (arith, c.log_count.ensures.0, c.if-log_count-ge-LOG.true))
 
 loggable : (c : goal.After-time_of) → Loggable c.args.s.now c.args.n
 loggable c =
@@ -91,11 +91,11 @@ returns c bytes known =
     let a = c.args in
     let s = a.s.now in
     let l = line_of s in
-    let k = asked (goal.at.returns c).After-gets_time bytes known in
+    let k = asked (goal.at.returns c).After-give_time bytes known in
     let time : c.time_of.result + 1 ≡ suc (node_at l a.n).time = add-one c.time_of.result ∙ ap suc c.time_of.ensures in
-    let chosen : c.set_of-set.result ≡ set_of l.plan a.n (made_by l a.n (record_layout.read bytes)) = c.set_of-set.ensures ∙ (λ i. set_of (sym (line-plan s) i) a.n (k.made i)) in
-    let now-logged : NodeNow s a.n (logged (c.time_of.result + 1) c.set_of-set.result c.made_by-made.result fed fed) c.log_made.new.s = c.log_made.ensures in
-    feed_done s a.n bytes c.requires.holds k.inside k.source k.fits (sym k.timed ∙ c.if-not-gets_time.false) c.log_made.new.s (omega (arith, c.log_count.ensures.0, c.if-log_count-ge-LOG.false))
+    let chosen : c.of-takers.result.set ≡ set_of l.plan a.n (made_by l a.n (record_layout.read bytes)) = c.of-takers.ensures.1 ∙ (λ i. set_of (sym (line-plan s) i) a.n (k.made i)) in
+    let now-logged : NodeNow s a.n (logged (c.time_of.result + 1) c.of-takers.result.set c.made_by-made.result fed fed) c.log_made.new.s = rw (c.nothing.ensures, c.nothing-2.ensures) at c.log_made.ensures in
+    feed_done s a.n bytes c.requires.holds k.inside k.source k.fits (sym k.timed ∙ c.if-not-give_time.false) c.log_made.new.s (omega (arith, c.log_count.ensures.0, c.if-log_count-ge-LOG.false))
     (rw (time, chosen, k.made) at now-logged)
 
 pub log_made-requires : goal.log_made-requires

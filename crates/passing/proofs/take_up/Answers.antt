@@ -32,8 +32,8 @@ made_by-what-requires c =
     let q = (lane_at (line_of c.args.s.now) c.args.b).queue in
     (c.take_first.ensures (drop 1 q) (first_is q (message_is c.first_of-m.result) c.requires.waiting c.first_of-m.ensures)).ready
 
-pub overflow_add-made : goal.overflow_add-made
-overflow_add-made c =
+pub by-requires : goal.by-requires
+by-requires c =
     let a = c.args in
     let u = c.requires.undamaged in
     let inside : c.channel_of-c.result.sender < plan_nodes a.s.now = rw c.channel_of-c.ensures (sender_inside a.s.now a.b (on_channel (at-lane u c.requires.below))) in
@@ -63,4 +63,4 @@ returns c =
     (rw (← is) (omega (arith, c.log_count.ensures.0, c.if-log_count-ge-LOG.false)))
     first
     (taken_up_lem a.s.now c.take_first.new.s a.b (message_is c.first_of-m.result) (drop 1 q) (c.take_first.ensures (drop 1 q) first)
-    c.log_taken.new.s c.channel_of-c.result c.from-n.result c.made_by-what.result c.channel_of-c.ensures c.from-n.ensures c.made_by-what.ensures c.log_taken.ensures)
+    c.log_taken.new.s c.channel_of-c.result c.from-n.result c.made_by-what.result c.channel_of-c.ensures c.from-n.ensures c.made_by-what.ensures (rw c.by.ensures at c.log_taken.ensures))
