@@ -1,5 +1,7 @@
 -- What holds of a plan that no check refuses.
 use Prim.Native.Nat.{ℕ, ◌≤◌}
+use Rattle.std.specs.Option.{MatchOption, is_some}
+use Rattle.std.proofs.Common.{Option, Some, None}
 use Rattle.std.specs.declared.result.Result.{Result}
 use Rattle.std.specs.declared.result.Result.TheVariants.{Ok, Err}
 use Rattle.answers.specs.Number.{refusal_number, number}
@@ -12,6 +14,9 @@ use native.Mathlib.Omega.{arith}
 use borrow.Author.Tests.{eqb-true, leb-true, ltb-false, not-false, eq-eqb, le-leb, le-ltb}
 use lib.Dec.{leb, ltb, eqb}
 use lib.ListN.{length, drop}
+use Rattle.plan.specs.declared.Version.{Version}
+use Rattle.plan.specs.declared.Version.TheVariants.{One, Two}
+use Rattle.plan.specs.Named.{version_number}
 use Rattle.plan.specs.Layout.{read_slots}
 use Rattle.plan.specs.Rule.{rule_fields}
 use Rattle.plan.specs.Plan.{plan_of, plan_length, plan_version, plan_nodes, plan_channels, size_by_head}
@@ -44,6 +49,14 @@ first_of a b c d e f g =
 pub refusal_first : (s : List ℕ) → plan_refusal s ≡ first_of (bad_length s) (bad_version s) (bad_counts s) (bad_size s) (bad_rules s) (bad_channels s) (bad_degrees s)
 unfolding plan_refusal first_of
 refusal_first s = refl
+
+-- A version is refused where there is none of that number.
+pub unnamed : (v : ℕ) (named : Option Version) → MatchOption named (version_fits v ≡ false) (λ o. v ≡ version_number o) → (none : Bool) → is_some named ≡ not none → none ≡ not (version_fits v)
+unnamed v None is true e = rw is
+unnamed v (Some One) is false e = rw is
+unnamed v (Some Two) is false e = rw is
+unnamed v None is false e = absurd (cc)
+unnamed v (Some o) is true e = absurd (cc)
 
 -- A check that refuses where its test says so, and what is known where it has refused or not.
 abbrev outcome : Bool → Refusal → Result (Unit {0}) Refusal

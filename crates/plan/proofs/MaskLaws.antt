@@ -4,14 +4,14 @@ use mathlib.Core.Path.{◌≡◌, refl, sym, ap, ◌∙◌}
 use mathlib.Core.Logic.{◌≢◌}
 use mathlib.Core.Bool.{Bool, true, false, cond, ◌&&◌}
 use mathlib.Core.List.{List, [], ◌∷◌}
-use native.Mathlib.Nat.{add-mul, mul_assoc, mul-one, zero-mul, lt_of_not-le, add-zero, pow-suc, pow-succ', div-add-mod'}
-use native.Mathlib.Numerals.{add-one}
+use native.Mathlib.Nat.{add-mul, mul_assoc, mul-one, one-mul, zero-mul, lt_of_not-le, add-zero, pow-suc, pow-succ', div-add-mod'}
 use native.Mathlib.Omega.{arith}
 use borrow.Author.Tests.{le-leb, lt-leb, ne_eqb}
 use lib.Dec.{lit<, eqb}
+use Rattle.std.specs.Int.{from_bool}
 use lib.ListN.{length, get_or, drop, drop_of_length-le}
 use lib.Seq.{drop-cons}
-use lib.Pow.{pow-add, pow_pos, pow_mono}
+use lib.Pow.{shl_exact, pow-add, pow_pos, pow_mono}
 use lib.Bits.{shifted_half, shifted_even}
 use lib.Count.{ones, ones_cat, count_trailing_zeros, trailing_of_zero}
 use Rattle.plan.specs.declared.Record.{Record}
@@ -19,7 +19,7 @@ use Rattle.plan.specs.declared.Channel.{Channel}
 use Rattle.plan.specs.Channel.{takes}
 use Rattle.plan.specs.Lawful.{Each}
 use Rattle.plan.specs.Plan.{Plan, plan_of, plan_channels, no_channel, keep_if, numbers_from, is_none, entering, leaving}
-use Rattle.plan.specs.Mask.{mask_of, Rising, ones_from, channels_in, among, taking, plan_mask, CountOf, FirstOf}
+use Rattle.plan.specs.Mask.{mask_of, Rising, ones_from, channels_in, among, taking, plan_mask, Passing, CountOf, FirstOf}
 use Rattle.plan.proofs.PlanLaws.{channel_count_lem}
 
 -- ---- rising lists
@@ -144,6 +144,14 @@ channels_listed mask small bs h e =
     let own : mask_of (channels_in mask) ≡ mask = channels_mask mask small in
     mask_unique (channels_in mask) bs (channels_rise mask) h (rw own small) (own ∙ e)
 
+-- A channel's bit, and the bit of one that passes, as they are shifted.
+pub bit_here : (b : ℕ) → b < 32 → 1 * 2 ^ b % 4294967296 ≡ 2 ^ b
+bit_here b h = shl_exact {a = 1} 1 b 32 (lit< tt) (omega arith) ∙ one-mul _
+
+pub bit_passed : (t : Bool) (b : ℕ) → b < 32 → from_bool t * 2 ^ b % 4294967296 ≡ cond t (2 ^ b) 0
+bit_passed true b h = bit_here b h
+bit_passed false b h = ap (λ (x : ℕ). x % 4294967296) (zero-mul (2 ^ b))
+
 -- A mask's first channel, and those behind it.
 pub record Next (mask b : ℕ) : Type 0 where
   pub small : b < 32
@@ -222,13 +230,6 @@ pub mask_many : (s : List ℕ) → 24 < plan_channels s → (bs : List ℕ) → 
 unfolding plan_mask
 mask_many s h bs = rw (lt-leb (plan_channels s) 24 h)
 
--- The channels of the mask of some of a plan's.
-pub listed_few : (s : List ℕ) (mask : ℕ) → mask < 2 ^ 32 → (bs : List ℕ) → Rising 0 bs → mask ≡ plan_mask s bs → plan_channels s ≤ 24 → channels_in mask ≡ bs
-listed_few s mask low bs rise e few = channels_listed mask low bs rise (e ∙ mask_few s few bs)
-
-pub listed_many : (s : List ℕ) (mask : ℕ) (bs : List ℕ) → mask ≡ plan_mask s bs → 24 < plan_channels s → channels_in mask ≡ []
-listed_many s mask bs e many = ap channels_in (e ∙ mask_many s many bs) ∙ channels_none
-
 -- A mask is 0 exactly where no channel is in it.
 pub mask_none : (bs : List ℕ) → eqb (mask_of bs) 0 ≡ is_none bs
 mask_none [] = refl
@@ -237,34 +238,66 @@ mask_none (b ∷ bs) = ne_eqb (2 ^ b + mask_of bs) 0 (λ e. omega (arith, e, pow
 pub channels_empty : (mask : ℕ) → mask < 2 ^ 32 → eqb mask 0 ≡ is_none (channels_in mask)
 channels_empty mask low = ap (λ (m : ℕ). eqb m 0) (sym (channels_mask mask low)) ∙ mask_none (channels_in mask)
 
--- ---- a mask that grows along a list of channels
+-- ---- a mask that grows along a list of channels, from its end
 
--- The mask so far, the next channel's bit, and the next channel.
-pub record Grown (f : Channel → Bool) (cs : List Channel) (mask bit b : ℕ) : Type 0 where
-  pub within : b ≤ length cs
-  pub few : length cs ≤ 24
-  pub power : bit ≡ 2 ^ b
-  pub small : bit ≤ 16777216
-  pub below : mask < bit
-  pub whole : mask_of (numbers_from 0 f cs) ≡ mask + mask_of (numbers_from b f (drop b cs))
+-- Of the channels from b on those that pass are in it, whatever test it is that was made of them.
+pub record Grown (cs : List Channel) (made : (Channel → Bool) → Type 0) (mask b : ℕ) : Type 0 where
+  pub within : b ≤ 24
+  pub below : mask < 2 ^ (24 - b)
+  pub small : mask < 16777216
+  pub whole : (f : Channel → Bool) → made f → mask * 2 ^ b ≡ mask_of (numbers_from b f (drop b cs))
 
-pub grown_start : (f : Channel → Bool) (cs : List Channel) → length cs ≤ 24 → Grown f cs 0 1 0
-grown_start f cs h = record { within = omega arith; few = h; power = refl; small = omega arith; below = omega arith; whole = omega arith }
+module _ (cs : List Channel) (made : (Channel → Bool) → Type 0) where
+  pub grown_start : (b : ℕ) → length cs ≤ b → b ≤ 24 → Grown cs made 0 b
+  grown_start b l h =
+      record {
+        within = h;
+        below = pow_pos (24 - b);
+        small = omega arith;
+        whole = λ f m. zero-mul (2 ^ b) ∙ rw (drop_of_length-le cs l);
+      }
 
-pub grown_more : (f : Channel → Bool) (cs : List Channel) (mask bit b : ℕ) → Grown f cs mask bit b → b < length cs
-    → Grown f cs (mask + cond (f (get_or cs b no_channel)) bit 0) (bit * 2) (b + 1)
-grown_more f cs mask bit b g l =
-    let t : Bool = f (get_or cs b no_channel) in
-    let double : bit * 2 ≡ 2 ^ suc b = rw g.power (sym (pow-suc 2 b)) in
-    let most : 2 ^ suc b ≤ 2 ^ 24 = pow_mono {i = suc b} {j = 24} (omega (arith, g.few)) in
-    rw (add-one b) (record {
-      within = l;
-      few = g.few;
-      power = double;
-      small = omega arith;
-      below = omega (arith, bit_at_most t bit, g.below);
-      whole = omega (arith, g.whole, mask_more f no_channel cs b l, ap (λ (x : ℕ). cond t x 0) g.power);
-    })
+  pub grown_more : (mask b : ℕ) (t : Bool) → Grown cs made mask (suc b) → b < length cs → ((f : Channel → Bool) → made f → t ≡ f (get_or cs b no_channel)) → Grown cs made (2 * mask + from_bool t) b
+  grown_more mask b t g l asked =
+      let double : 2 ^ (24 - b) ≡ 2 ^ (24 - suc b) * 2 = ap (λ (k : ℕ). 2 ^ k) (omega (arith, g.within)) ∙ pow-suc 2 (24 - suc b) in
+      let most : 2 ^ (24 - b) ≤ 2 ^ 24 = pow_mono {i = 24 - b} {j = 24} (omega arith) in
+      let below : 2 * mask + from_bool t < 2 ^ (24 - b) = omega (arith, one_at_most t, g.below) in
+      record {
+        within = omega (arith, g.within);
+        below = below;
+        small = omega arith;
+        whole = λ f m. add-mul (2 * mask) (from_bool t) (2 ^ b) ∙ omega (
+          arith,
+          g.whole f m,
+          mask_more f no_channel cs b l,
+          ap (λ (u : Bool). cond u (2 ^ b) 0) (asked f m),
+          one_bit t (2 ^ b),
+          ap (λ (x : ℕ). mask * x) (pow-succ' 2 b),
+          mul_assoc mask 2 (2 ^ b),
+          ap (λ (x : ℕ). x * 2 ^ b) (twice mask),
+        );
+      }
+    where
+      one_at_most : (u : Bool) → from_bool u ≤ 1
+      one_at_most true = omega arith
+      one_at_most false = omega arith
 
-pub grown_end : (f : Channel → Bool) (cs : List Channel) (mask bit b : ℕ) → Grown f cs mask bit b → length cs ≤ b → mask ≡ mask_of (numbers_from 0 f cs)
-grown_end f cs mask bit b g l = sym (g.whole ∙ rw (drop_of_length-le cs l) (add-zero mask))
+      one_bit : (u : Bool) (x : ℕ) → from_bool u * x ≡ cond u x 0
+      one_bit true x = omega arith
+      one_bit false x = zero-mul x
+
+      twice : (x : ℕ) → 2 * x ≡ x * 2
+      twice x = omega arith
+
+  pub grown_end : (mask b : ℕ) → Grown cs made mask b → b ≡ 0 → (f : Channel → Bool) → made f → mask ≡ mask_of (numbers_from 0 f cs)
+  grown_end mask b g none f m = sym (mul-one mask) ∙ rw none at (g.whole f m)
+
+pub passing_few : (s : List ℕ) (f : Channel → Bool) (mask : ℕ) → mask < 2 ^ 32 → plan_channels s ≤ 24 → mask ≡ mask_of (numbers_from 0 f (plan_of s).channels) → Passing s f (record { mask = mask })
+passing_few s f mask low few is =
+    record {
+      few = λ _. channels_listed mask low (numbers_from 0 f (plan_of s).channels) (numbers_rise 0 f (plan_of s).channels) is;
+      many = λ many. let no : ⊥ = omega arith in absurd no;
+    }
+
+pub passing_none : (s : List ℕ) (f : Channel → Bool) → 24 < plan_channels s → Passing s f (record { mask = 0 })
+passing_none s f many = record { few = λ few. let no : ⊥ = omega arith in absurd no; many = λ _. channels_none }

@@ -30,8 +30,23 @@ pub enum Rule {
     Cap(u16),
 }
 
-// A channel (document 01: belt), and the least and the greatest mass that it takes (document 02, 2026-02).
+// A rule's kinds.
 #[derive(Clone, Copy)]
+pub enum Kind {
+    Keep,
+    Relabel,
+    Cap,
+}
+
+// A plan's versions: document 01's, and document 02's (2026-02), whose channels have a window of masses.
+#[derive(Clone, Copy)]
+pub enum Version {
+    One,
+    Two,
+}
+
+// A channel (document 01: belt), and the least and the greatest mass that it takes (document 02, 2026-02).
+#[derive(Clone, Copy, Default)]
 pub struct Channel {
     pub sender: u8,
     pub receiver: u8,
@@ -40,13 +55,6 @@ pub struct Channel {
     pub remainder: u8,
     pub least: u16,
     pub greatest: u16,
-}
-
-// Which of a plan's channels are asked for: those that enter a node, or that leave it.
-#[derive(Clone, Copy)]
-pub enum Pick {
-    Entering(usize),
-    Leaving(usize),
 }
 
 fn refused_if(bad: bool, refusal: Refusal) -> Result<(), Refusal>

@@ -1,10 +1,12 @@
-use Rattle.plan.specs.Plan.{plan_of, leaving}
-use Rattle.plan.proofs.MaskLaws.{leaving_rise, listed_few, listed_many}
-use native.Mathlib.Omega.{arith}
+use Rattle.std.proofs.Common.{rules}
+use lib.Dec.{eqb}
+use Rattle.plan.specs.declared.Channel.{Channel}
+use Rattle.plan.specs.Plan.{leaving}
 use Rattle.plan.proofs.masks.leaving.Goals as goal
 
 pub returns-clause-few : goal.returns-clause-few
-returns-clause-few c = listed_few c.args.plan.now c.leaving_mask.result (omega arith) (leaving (plan_of c.args.plan.now) c.args.node) (leaving_rise (plan_of c.args.plan.now) c.args.node) c.leaving_mask.ensures
+unfolding leaving
+returns-clause-few c = (c.channels_where.ensures (λ (d : Channel). eqb d.sender c.args.node) (λ d t answered. search rules)).few
 
 pub returns-clause-many : goal.returns-clause-many
-returns-clause-many c = listed_many c.args.plan.now c.leaving_mask.result (leaving (plan_of c.args.plan.now) c.args.node) c.leaving_mask.ensures
+returns-clause-many c = (c.channels_where.ensures (λ (d : Channel). eqb d.sender c.args.node) (λ d t answered. search rules)).many
