@@ -1,18 +1,22 @@
 -- What stands in a slot, written part by part; and slots moved.
-use Prim.Native.Nat.{ℕ, zero, suc, ◌+◌, ◌-◌, ◌≤◌, ◌<◌}
-use mathlib.Core.Path.{◌≡◌, refl, ap, ◌∙◌}
+use Prim.Native.Nat.{ℕ, zero, suc, ◌+◌, ◌*◌, ◌-◌, ◌≤◌, ◌<◌}
+use mathlib.Core.Path.{◌≡◌, refl, sym, ap, ◌∙◌}
 use mathlib.Core.List.{List, [], ◌∷◌, ◌++◌, append_assoc}
+use native.Mathlib.Nat.{mul-zero, mul-one, mul-add}
 use native.Mathlib.Omega.{arith}
 use lib.ListN.{length, take, drop, replicate}
 use lib.Seq.{paste}
-use Rattle.basics.specs.Put.{put, put-parts, puts, puts-joined}
+use Rattle.basics.specs.Put.{put, put-none, put-parts, puts, puts-joined}
 use Rattle.plan.specs.Layout.{bytes_of}
+use Rattle.plan.specs.Lawful.{Bytes}
 use Rattle.plan.specs.Record.{record_layout}
 use Rattle.rules.specs.Line.{Origin, Message, Entry, Held, Target}
 use Rattle.state.specs.Pieces.{origin_from, origin_layout, message_layout, entry_layout, held_layout, target_layout}
 use Rattle.state.proofs.PieceLaws.{origin_sound}
 use Rattle.state.proofs.RightAt.{part_long}
-use Rattle.buffer.proofs.BytesLaws.{gap_closed}
+use Rattle.buffer.specs.Words.{number64}
+use Rattle.buffer.proofs.BytesLaws.{gap_turn, gap_closed}
+use Rattle.buffer.proofs.WordLaws.{part_written}
 use Rattle.slots.specs.Slots.{time_of}
 
 pub time_none : (from time : ℕ) → from ≡ 0 → 0 ≡ time_of from time
@@ -74,11 +78,64 @@ module _ (s : List ℕ) (at : ℕ) (h : at ≤ length s) where
   unfolding target_layout
   target-written t = puts-joined s at (target_parts at t) h (refl, (omega arith, (omega arith, (omega arith, (omega arith, tt)))))
 
--- ---- slots moved to the front over a gap, and what they leave
+-- ---- a slot moved to one before it, eight bytes at a time
 
-pub gap_moved : (s₀ s t : List ℕ) (at gap size : ℕ) → at + gap + size ≤ length s₀ → s ≡ paste s₀ at (drop (at + gap) s₀) (at + gap + size - (at + gap))
-    → t ≡ take (at + size) s ++ replicate (at + size + gap - (at + size)) 0 ++ drop (at + size + gap) s → t ≡ put s₀ at (take size (drop (at + gap) s₀) ++ replicate gap 0)
-gap_moved s₀ s t at gap size h e f =
-    let many : at + gap + size - (at + gap) ≡ size = omega arith in
-    let moved : s ≡ put s₀ at (take size (drop (at + gap) s₀)) = e ∙ rw many (put-parts s₀ at (take size (drop (at + gap) s₀)) (at + size) (ap (λ (n : ℕ). at + n) (part_long (at + gap) size s₀ h))) in
-    f ∙ rw moved (gap_closed s₀ at gap size (at + size + gap) h refl)
+module _ (s₀ : List ℕ) (from to : ℕ) where
+  -- The first i bytes have moved.
+  pub record Gone (s : List ℕ) (i : ℕ) : Type 0 where
+    pub bytes : Bytes s
+    pub same : length s ≡ length s₀
+    pub now : s ≡ put s₀ to (take i (drop from s₀))
+
+  pub none_gone : Bytes s₀ → Gone s₀ 0
+  none_gone h = record { bytes = h; same = refl; now = sym (put-none s₀ to) }
+
+  part_gone : (s t : List ℕ) (i w : ℕ) → to ≤ from → Gone s i → from + i + w ≤ length s₀ → t ≡ put s (to + i) (take w (drop (from + i) s)) → t ≡ put s₀ to (take (i + w) (drop from s₀))
+  part_gone s t i w down m below e =
+      let (gap, is) : (gap : ℕ) × (to + gap ≡ from) = (from - to, omega arith) in
+      e ∙ rw m.now (rw is at (gap_turn s₀ to gap i w (omega arith)))
+
+  -- Eight bytes more.
+  pub word_gone : (s t : List ℕ) (i v : ℕ) → to ≤ from → Gone s i → from + i + 8 ≤ length s₀ → v ≡ number64 (from + i) s → Bytes t → length t ≡ length s → t ≡ put s (to + i) (bytes_of 8 v) → Gone t (i + 8)
+  word_gone s t i v down m below read h long e =
+      let word : bytes_of 8 v ≡ take 8 (drop (from + i) s) = ap (bytes_of 8) read ∙ part_written 8 (from + i) s m.bytes (omega (arith, m.same)) in
+      record { bytes = h; same = long ∙ m.same; now = part_gone s t i 8 down m below (e ∙ ap (put s (to + i)) word) }
+
+  -- And what is left.
+  pub rest_gone : (s t : List ℕ) (i size : ℕ) → to ≤ from → Gone s i → i ≤ size → from + size ≤ length s₀ → t ≡ paste s (to + i) (drop (from + i) s) (from + size - (from + i)) → t ≡ put s₀ to (take size (drop from s₀))
+  rest_gone s t i size down m h below e =
+      let n = from + size - (from + i) in
+      let all : i + n ≡ size = omega arith in
+      let here : t ≡ put s (to + i) (take n (drop (from + i) s)) =
+      e ∙ put-parts s (to + i) (take n (drop (from + i) s)) (to + i + n) (ap (λ (k : ℕ). to + i + k) (part_long (from + i) n s (omega (arith, m.same))))
+      in
+      rw all at (part_gone s t i n down m (omega arith) here)
+
+-- ---- slots moved to the front, over a gap
+
+module _ (s₀ : List ℕ) (at gap size count : ℕ) where
+  -- The first i of those behind the gap have moved.
+  pub record Moved (s : List ℕ) (i : ℕ) : Type 0 where
+    pub within : i ≤ count
+    pub same : length s ≡ length s₀
+    pub now : s ≡ put s₀ at (take (size * i) (drop (at + gap) s₀))
+
+  pub none-moved : Moved s₀ 0
+  none-moved = record { within = omega arith; same = refl; now = rw mul-zero (sym (put-none s₀ at)) }
+
+  pub one_moved : {s t : List ℕ} {i : ℕ} → Moved s i → i < count → at + gap + size * i + size ≤ length s₀ → length t ≡ length s
+      → t ≡ put s (at + size * i) (take size (drop (at + size * i + gap) s)) → Moved t (i + 1)
+  one_moved {s} {i = i} m below h long e =
+      let place : at + size * i + gap ≡ at + gap + size * i = omega arith in
+      record {
+        within = omega arith;
+        same = long ∙ m.same;
+        now = e ∙ rw (place, m.now, mul-add, mul-one) (gap_turn s₀ at gap (size * i) size h);
+      }
+
+  pub all_moved : {s t : List ℕ} {i : ℕ} → Moved s i → count ≤ i → at + gap + size * count ≤ length s₀
+      → t ≡ take (at + size * count) s ++ replicate (at + size * count + gap - (at + size * count)) 0 ++ drop (at + size * count + gap) s
+      → t ≡ put s₀ at (take (size * count) (drop (at + gap) s₀) ++ replicate gap 0)
+  all_moved {i = i} m done h e =
+      let all : i ≡ count = omega (arith, m.within) in
+      e ∙ rw (m.now, all) (gap_closed s₀ at gap (size * count) (at + size * count + gap) h refl)

@@ -285,13 +285,30 @@ impl Piece for Goal {
     ghost sized = { λ g. target-long (target_is g) };
 }
 
+// A slot to one before it, eight bytes at a time, so that its record goes as one number (document 02, 2026-03), and what is left of it.
+fn move_slot(s: &mut [u8], from: usize, to: usize, size: usize)
+    requires { (to ≤ from) × (from + size ≤ length s.old) }
+    ensures { s.new ≡ put s.old to (take size (drop from s.old)) }
+{
+    let words = size / 8;
+    for k in 0..words {
+        let word = bytes::get64(s, from + 8 * k);
+        bytes::put64(s, to + 8 * k, word);
+    }
+    s.copy_within(from + 8 * words..from + size, to + 8 * words);
+}
+
 // So many slots move up over as many as are gone before them; those freed behind become 0.
 pub fn close_up<T: Piece>(s: &mut [u8], at: usize, gone: usize, count: usize)
     requires { at + T.SIZE * gone + T.SIZE * count ≤ length s.old }
     ensures { s.new ≡ put s.old at (take (T.SIZE * count) (drop (at + T.SIZE * gone) s.old) ++ replicate (T.SIZE * gone) 0) }
 {
-    let gap = T::SIZE * gone;
-    let size = T::SIZE * count;
-    s.copy_within(at + gap..at + gap + size, at);
-    bytes::fill_zero(s, at + size, at + size + gap);
+    let size = T::SIZE;
+    let gap = size * gone;
+    for i in 0..count {
+        let to = at + size * i;
+        move_slot(s, to + gap, to, size);
+    }
+    let last = at + size * count;
+    bytes::fill_zero(s, last, last + gap);
 }
