@@ -57,7 +57,7 @@ impl Takers {
         ensures { Begin (plan_of s.now) n result.first × (result.set ≡ set_of (plan_of s.now) n what) }
     {
         let first = sets::leaving_from(s, n, from);
-        let set = sets::set_of(s, n, first, what.piece, what.material, what.mass);
+        let set = sets::set_for(s, n, first, what);
         Takers { first, set }
     }
 
