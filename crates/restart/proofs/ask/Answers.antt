@@ -1,6 +1,6 @@
 use Rattle.std.proofs.lemmas.Result.{err_from_is_err_and}
 use Rattle.buffer.proofs.HoldsLaws.{node_then}
-use Rattle.restart.proofs.RecoverLaws.{ask_refused, found_on, found_inside, found_fillable, found_four, ask_done}
+use Rattle.restart.proofs.RecoverLaws.{ask_refused, found_on, found_inside, found_fillable, ask_done}
 use Rattle.restart.proofs.ask.Goals as goal
 
 pub returns-in_err-answer : goal.returns-in_err-answer
@@ -8,24 +8,19 @@ returns-in_err-answer c =
     let p = err_from_is_err_and c.from_residual.result c.from_residual.ensures.1 in
     rw (p.1, p.2) (ask_refused c.args.s.now c.args.n c.requires c.in_err-answer.field-0.0 c.in_err-answer.ensures)
 
-pub listed-requires : goal.listed-requires
-listed-requires c =
-    let s = c.args.s.now in
-    let n = c.args.n in
-    (c.requires.holds.ready, found_inside s n c.requires c.in_ok-answer.answer c.find.new.xs c.find.new.entries c.in_ok-answer.ensures, c.in_ok-answer.ensures.restores.rows)
+pub answer-kept-requires : goal.answer-kept-requires
+answer-kept-requires c =
+    (c.requires.holds.ready, found_inside c.args.s.now c.args.n c.requires c.in_ok-answer.answer c.in_ok-answer.ensures, c.in_ok-answer.ensures.restores.finds)
 
 pub clear_targets-requires : goal.clear_targets-requires
-clear_targets-requires c = found_on c.args.s.now c.args.n c.requires c.in_ok-answer.answer c.find.new.xs c.find.new.entries c.in_ok-answer.ensures
+clear_targets-requires c = found_on c.args.s.now c.args.n c.requires c.in_ok-answer.answer c.in_ok-answer.ensures
 
 pub put_targets-requires : goal.put_targets-requires
-put_targets-requires c =
-    found_fillable c.args.s.now c.args.n c.requires c.in_ok-answer.answer c.find.new.xs c.find.new.entries c.in_ok-answer.ensures c.clear_targets.ensures
+put_targets-requires c = found_fillable c.args.s.now c.args.n c.requires c.in_ok-answer.answer c.in_ok-answer.ensures c.all.result.now c.all.ensures.0 c.all.ensures.1 c.clear_targets.ensures
 
 pub returns : goal.returns
 returns c =
     let s = c.args.s.now in
     let n = c.args.n in
-    let on = found_on s n c.requires c.in_ok-answer.answer c.find.new.xs c.find.new.entries c.in_ok-answer.ensures in
-    let four = found_four s n c.requires c.in_ok-answer.answer c.find.new.xs c.find.new.entries c.in_ok-answer.ensures c.listed.new.out c.listed.ensures in
-    ask_done s n c.requires c.in_ok-answer.answer c.find.new.xs c.find.new.entries c.in_ok-answer.ensures (node_then on c.clear_targets.ensures c.put_targets.ensures)
-    c.high_of-high.result _ c.high_of-high.ensures four c.set_kept.ensures
+    let on = found_on s n c.requires c.in_ok-answer.answer c.in_ok-answer.ensures in
+    ask_done s n c.requires c.in_ok-answer.answer c.in_ok-answer.ensures c.all.result.now c.all.ensures.0 (node_then on c.clear_targets.ensures c.put_targets.ensures) c.answer-kept.result c.answer-kept.ensures c.set_kept.ensures

@@ -1,38 +1,28 @@
-use Prim.Native.Nat.{◌<◌}
-use native.Mathlib.Omega.{arith}
-use lib.ListN.{length}
+use Rattle.std.proofs.Common.{arith, ◌<◌, length}
+use Rattle.std.proofs.lemmas.Result.{err_from_is_err_and}
 use Rattle.rules.specs.Line.{node_at}
 use Rattle.state.specs.State.{line_of}
-use Rattle.recover.proofs.ToldLaws.{told_nothing, log_turn, log_end}
+use Rattle.slots.specs.Slots.{target_is}
+use Rattle.recover.proofs.ToldLaws.{log_turn, log_other, log_full}
 use Rattle.recover.proofs.told.told_in.Goals as goal
+use Rattle.recover.proofs.told.told_in.Goals.{in-Some+in_ok-told_by, in_default}
 
-pub log_count-entries-requires : goal.log_count-entries-requires
-log_count-entries-requires c = let p = c.requires in (p.0, p.1, p.3)
-
-pub loop-i-init : goal.loop-i-init
-loop-i-init c =
+pub returns-in_err-told_by : goal.returns-in_err-told_by
+returns-in_err-told_by c =
     let a = c.args in
-    record { within = omega arith; told = told_nothing a.low a.xs.now a.start a.rows.now c.requires.4 c.requires.5 }
-
-pub triple_at-f-requires : goal.triple_at-f-requires
-triple_at-f-requires c =
-    let p = c.requires in
-    let e = c.log_count-entries.ensures in
-    (p.0, p.1, p.2, p.3, omega (arith, e.1), omega (arith, e.0))
-
-pub told_by-count-requires : goal.told_by-count-requires
-told_by-count-requires c = let told = c.loop-i.invariant.told in (told.changed.kept, told.raised.long)
+    let t = c.loop-i in
+    let log = (node_at (line_of a.s.now) a.k).log in
+    let inside : t.i < length log = omega (arith, c.log_count-i-end.ensures.0) in
+    let p = err_from_is_err_and c.from_residual.result c.from_residual.ensures.1 in
+    rw (p.1, p.2) (log_full a.n a.low log a.targets.now a.rows.now t.i t.targets t.rows inside t.invariant (target_is c.in-Some.g) c.in_err-told_by.field-0.0 c.in-Some.ensures c.in_err-told_by.ensures)
 
 pub loop-i-preserved : goal.loop-i-preserved
 loop-i-preserved c =
-    let t = c.loop-i in
     let a = c.args in
+    let t = c.loop-i in
     let log = (node_at (line_of a.s.now) a.k).log in
-    let h : t.i < length log = omega (arith, c.log_count-entries.ensures.0) in
-    log_turn a.n a.low log a.xs.now a.start a.rows.now t.i t.xs t.count t.rows c.triple_at-f.result c.told_by-count.new.xs c.told_by-count.result c.told_by-count.new.rows h c.triple_at-f.ensures c.told_by-count.ensures t.invariant
-
-pub returns : goal.returns
-returns c =
-    let t = c.loop-i in
-    let a = c.args in
-    log_end a.n a.low (node_at (line_of a.s.now) a.k).log a.xs.now a.start a.rows.now t.i t.xs t.count t.rows (omega (arith, c.log_count-entries.ensures.0)) t.invariant
+    let inside : t.i < length log = omega (arith, c.log_count-i-end.ensures.0) in
+    elim c.match-told_at.branch [
+      | in-Some+in_ok-told_by w ↦ rw (w.targets-is, w.rows-is) (log_turn a.n a.low log a.targets.now a.rows.now t.i t.targets t.rows inside t.invariant (target_is w.in-Some.g) w.in-Some.ensures w.in_ok-told_by.ensures)
+      | in_default w ↦ rw (w.targets-is, w.rows-is) (log_other a.n a.low log a.targets.now a.rows.now t.i t.targets t.rows inside t.invariant w.in_default.ensures)
+    ]
