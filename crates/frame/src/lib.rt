@@ -41,10 +41,7 @@ const FED: usize = 9;
 fn bad_length(frame: &[u8]) -> bool
     ensures { result ≡ bad_frame_length frame.now }
 {
-    if frame.len() < HEAD {
-        return true;
-    }
-    usize::from(bytes::get16(frame, 0)) != frame.len()
+    frame.len() < HEAD || usize::from(bytes::get16(frame, 0)) != frame.len()
 }
 
 fn version_of(frame: &[u8]) -> u8
