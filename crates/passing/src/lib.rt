@@ -20,7 +20,7 @@ ghost use Rattle.passing.specs.Passing.{next_is, LaterFrom, Loggable, Taking};
 
 use answers::Refusal;
 use buffer::{Line, look, sets};
-use plan::{Channel, Record};
+use plan::Record;
 use slots::{Logged, Made, Sent};
 
 const LOG: usize = Line::LOG_LIMIT as usize;
