@@ -103,17 +103,10 @@ pub record Gained (low : ℕ) (ts before : List Target) (rows : List ℕ) (after
   pub targets : after ≡ add_above low ts before
   pub raised : Rows next (raised_by rows (λ q. restored_over low q ts))
 
--- So it is, or the targets are too many.
-abbrev pub Told : {A : Type 0} → ℕ → List Target → List Target → List ℕ → Result A Refusal → List Target → List ℕ → Type 0
-Told low ts before rows r after next = MatchResult r (λ _. Gained low ts before rows after next) (TooMany (add_above low ts before))
-
 -- What channel b tells of node n: its triples, and in the parents' rows what its low clock holds, too.
 pub record GainedOn (s : List ℕ) (n b low : ℕ) (before : List Target) (rows : List ℕ) (after : List Target) (next : List ℕ) : Type 0 where
   pub targets : after ≡ add_above low (triples_on s n b) before
   pub raised : Rows next (raised_by rows (λ q. max (child_low s n b q) (restored_over low q (triples_on s n b))))
-
-abbrev pub ToldOn : {A : Type 0} → List ℕ → ℕ → ℕ → ℕ → List Target → List ℕ → Result A Refusal → List Target → List ℕ → Type 0
-ToldOn s n b low before rows r after next = MatchResult r (λ _. GainedOn s n b low before rows after next) (TooMany (add_above low (triples_on s n b) before))
 
 -- ---- rows
 

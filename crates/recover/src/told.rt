@@ -8,8 +8,8 @@ ghost use Rattle.buffer.specs.Ready.{Ready, OnChannel};
 ghost use Rattle.buffer.specs.Rows.{rows_long, Rows};
 ghost use Rattle.slots.specs.Slots.{target_is};
 ghost use Rattle.node_fields.specs.Kept.{kept_is};
-ghost use Rattle.recover.specs.Found.{LogsCounted, entry_at, triple_of, goal_list, TooMany, Told, ToldOn, no_outcome};
-ghost use Rattle.recover.specs.Finds.{Finds};
+ghost use Rattle.recover.specs.Found.{LogsCounted, entry_at, triple_of, goal_list, TooMany, no_outcome};
+ghost use Rattle.recover.specs.Finds.{Finds, Told, ToldOn};
 
 use crate::targets::Targets;
 use crate::{lows, rows};
@@ -54,6 +54,7 @@ impl Found {
     }
 }
 
+// Low and high are two loops, since low is of the channels that there are and high is 0 without any: with one over a closure the clauses would be longer than both.
 // "Low is the least [..] clock entry for B among its children."
 pub fn low_of(s: &[u8], n: usize) -> u32
     requires { Ready s.now }
@@ -112,55 +113,43 @@ fn told_at(s: &[u8], n: usize, k: usize, i: usize) -> Option<Goal>
 
 // ---- what the children tell
 
-// By an entry: its time in the parent's row if it is up to low, a target if it is above low.
-fn told_by(g: Goal, low: u32, targets: &mut Targets, rows: &mut [u32; 12]) -> Result<(), Refusal>
-    requires { length rows.old ≡ rows_long }
-    ensures { Told low (target_is g ∷ []) targets.old rows.old result targets.new rows.new }
-{
-    if g.time <= low {
-        rows::raise(rows, g.parent, g.sent);
-        return Ok(());
-    }
-    targets.add(g)
-}
-
-// In node k's log: by all its entries.
-fn told_in(
-    s: &[u8],
-    n: usize,
-    k: usize,
-    low: u32,
-    targets: &mut Targets,
-    rows: &mut [u32; 12],
-) -> Result<(), Refusal>
-    requires { Ready s.now × LogsCounted s.now × (n < plan_nodes s.now) × (k < plan_nodes s.now) × (length rows.old ≡ rows_long) }
-    ensures { Told low (triples n (node_at (line_of s.now) k).log) targets.old rows.old result targets.new rows.new }
-{
-    for i in 0..log_count(s, k) {
-        if let Some(g) = told_at(s, n, k, i) {
-            told_by(g, low, targets, rows)?;
+impl Found {
+    // By an entry: its time in the parent's row if it is up to low, a target if it is above low.
+    fn hear(&mut self, g: Goal) -> Result<(), Refusal>
+        requires { length self.old.entries ≡ rows_long }
+        ensures { Told (target_is g ∷ []) self.old result self.new }
+    {
+        if g.time <= self.low {
+            rows::raise(&mut self.entries, g.parent, g.sent);
+            return Ok(());
         }
+        self.targets.add(g)
     }
-    Ok(())
-}
 
-// On channel b: by the low clock and in the log at its end, if the channel leaves the node.
-fn told_on(
-    s: &[u8],
-    n: usize,
-    b: usize,
-    low: u32,
-    targets: &mut Targets,
-    rows: &mut [u32; 12],
-) -> Result<(), Refusal>
-    requires { OnChannel s.now b × LogsCounted s.now × (n < plan_nodes s.now) × (length rows.old ≡ rows_long) }
-    ensures { ToldOn s.now n b low targets.old rows.old result targets.new rows.new }
-{
-    if look::sender_of(s, b) != n {
-        return Ok(());
+    // In node k's log: by all its entries.
+    fn hear_log(&mut self, s: &[u8], n: usize, k: usize) -> Result<(), Refusal>
+        requires { Ready s.now × LogsCounted s.now × (n < plan_nodes s.now) × (k < plan_nodes s.now) × (length self.old.entries ≡ rows_long) }
+        ensures { Told (triples n (node_at (line_of s.now) k).log) self.old result self.new }
+    {
+        for i in 0..log_count(s, k) {
+            if let Some(g) = told_at(s, n, k, i) {
+                self.hear(g)?;
+            }
+        }
+        Ok(())
     }
-    lows::lows_on(s, n, b, rows);
-    told_in(s, n, look::receiver_of(s, b), low, targets, rows)
+
+    // On channel b: by the low clock and in the log at its end, if the channel leaves the node.
+    fn hear_channel(&mut self, s: &[u8], n: usize, b: usize) -> Result<(), Refusal>
+        requires { OnChannel s.now b × LogsCounted s.now × (n < plan_nodes s.now) × (length self.old.entries ≡ rows_long) }
+        ensures { ToldOn s.now n b self.old result self.new }
+    {
+        if look::sender_of(s, b) != n {
+            return Ok(());
+        }
+        lows::lows_on(s, n, b, &mut self.entries);
+        self.hear_log(s, n, look::receiver_of(s, b))
+    }
 }
 
 // Of a node. "Targets are the distinct triples (B-time, A, A-time) with B-time above low, over all children": refused if there are more than 64.
@@ -169,15 +158,13 @@ pub fn find(s: &[u8], n: usize) -> Result<Found, Refusal>
     requires { Ready s.now × LogsCounted s.now × (n < plan_nodes s.now) }
     ensures { MatchResult result (Finds s.now n) (TooMany (targets_of (line_of s.now) n)) }
 {
-    let low = low_of(s, n);
-    let mut targets = Targets::new();
-    let mut entries: [u32; 12] = [0; 12];
+    let mut found = Found {
+        low: low_of(s, n),
+        targets: Targets::new(),
+        entries: [0; 12],
+    };
     for b in 0..look::channel_count(s) {
-        told_on(s, n, b, low, &mut targets, &mut entries)?;
+        found.hear_channel(s, n, b)?;
     }
-    Ok(Found {
-        low,
-        targets,
-        entries,
-    })
+    Ok(found)
 }

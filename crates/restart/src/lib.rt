@@ -15,7 +15,7 @@ ghost use Rattle.buffer.specs.Rows.{rows_long};
 ghost use Rattle.buffer.specs.Status.{status_is};
 ghost use Rattle.node_fields.specs.Kept.{kept_is};
 ghost use Rattle.recover.specs.Found.{targets_in};
-ghost use Rattle.restart.specs.Answers.{is_end, beside_on, crash_answer, restart_asked};
+ghost use Rattle.restart.specs.Answers.{is_end, beside_on, reach_answer, crash_answer, restart_asked};
 ghost use Rattle.restart.specs.Finds.{Restoring, KeptRows};
 ghost use Rattle.restart.specs.Lanes.{wiped, cleared, with_entry, marked, crashed_on, restored_on, crashed_lanes, restored_lanes};
 ghost use Rattle.restart.specs.Nodes.{emptied, settled, Fillable};
@@ -59,9 +59,10 @@ fn beside_crashed(s: &[u8], n: usize) -> bool
     found
 }
 
-fn may_crash(s: &[u8], n: usize) -> Result<(), Refusal>
+// Of a node that is to be crashed or restarted: it is there, and no source or sink.
+fn may_reach(s: &[u8], n: usize) -> Result<(), Refusal>
     requires { Ready s.now }
-    ensures { number result ≡ crash_answer (line_of s.now) n }
+    ensures { number result ≡ reach_answer (line_of s.now) n }
 {
     if look::node_count(s) <= n {
         return Err(Refusal::NoSuchPlace);
@@ -69,6 +70,14 @@ fn may_crash(s: &[u8], n: usize) -> Result<(), Refusal>
     if is_end(s, n) {
         return Err(Refusal::WrongPlace);
     }
+    Ok(())
+}
+
+fn may_crash(s: &[u8], n: usize) -> Result<(), Refusal>
+    requires { Ready s.now }
+    ensures { number result ≡ crash_answer (line_of s.now) n }
+{
+    may_reach(s, n)?;
     if look::is_down(s, n) {
         return Err(Refusal::WrongStatus);
     }
@@ -82,12 +91,7 @@ fn may_restart(s: &[u8], n: usize) -> Result<(), Refusal>
     requires { Ready s.now }
     ensures { number result ≡ restart_asked (line_of s.now) n }
 {
-    if look::node_count(s) <= n {
-        return Err(Refusal::NoSuchPlace);
-    }
-    if is_end(s, n) {
-        return Err(Refusal::WrongPlace);
-    }
+    may_reach(s, n)?;
     if !look::is_down(s, n) {
         return Err(Refusal::WrongStatus);
     }
@@ -143,6 +147,7 @@ fn crash_channel(s: &mut [u8], n: usize, b: usize)
     }
 }
 
+// This walk and the one that restores stay two: one over a closure would have to promise it AtLane in each state on the way, in more lines than both.
 fn crash_channels(s: &mut [u8], n: usize)
     requires { Holds s.old (line_of s.old) }
     ensures { Holds s.new (crashed_lanes n (line_of s.old)) }

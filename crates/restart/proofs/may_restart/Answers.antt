@@ -1,38 +1,22 @@
-use mathlib.Core.Path.{refl, sym, ap, ◌∙◌}
-use mathlib.Core.Bool.{not}
-use native.Mathlib.Omega.{arith}
-use borrow.Author.Tests.{le-leb, lt-leb}
-use Rattle.plan.specs.Plan.{node_count}
+use Rattle.std.proofs.Common.{refl, sym, ap, not, ◌∙◌, arith}
+use Rattle.std.proofs.lemmas.Result.{err_from_is_err_and}
 use Rattle.state.specs.State.{line_of}
 use Rattle.buffer.proofs.ReadyLaws.{line-nodes}
-use Rattle.restart.proofs.AnswerLaws.{first_here, first_past}
+use Rattle.restart.proofs.AnswerLaws.{first_here, first_past, reach_inside, reach_refused, reach_passed}
 use Rattle.restart.proofs.may_restart.Goals as goal
 
-pub returns-then-node_count-n : goal.returns-then-node_count-n
-returns-then-node_count-n c =
-    let a = c.args in
-    let s = a.s.now in
-    first_here _ 13 _ (le-leb (node_count (line_of s).plan) a.n (omega (arith, c.if-node_count-n.true, c.node_count.ensures.0, line-nodes s)))
+pub returns-in_err-may_reach : goal.returns-in_err-may_reach
+returns-in_err-may_reach c =
+    let p = err_from_is_err_and c.from_residual.result c.from_residual.ensures.1 in
+    rw (p.1, p.2) (reach_refused (line_of c.args.s.now) c.args.n _ c.in_err-may_reach.field-0.0 c.in_err-may_reach.ensures)
 
-pub returns-then-is_end : goal.returns-then-is_end
-returns-then-is_end c =
-    let a = c.args in
-    let s = a.s.now in
-    first_past _ 13 _ 14 (lt-leb (node_count (line_of s).plan) a.n (omega (arith, c.if-node_count-n.false, c.node_count.ensures.0, line-nodes s)))
-    (first_here _ 14 _ (sym c.is_end.ensures ∙ c.if-is_end.true))
+pub is_down-requires : goal.is_down-requires
+is_down-requires c = (c.requires, omega (arith, reach_inside (line_of c.args.s.now) c.args.n c.in_ok-may_reach.ensures, line-nodes c.args.s.now))
 
 pub returns-then-not-is_down : goal.returns-then-not-is_down
 returns-then-not-is_down c =
-    let a = c.args in
-    let s = a.s.now in
-    first_past _ 13 _ 15 (lt-leb (node_count (line_of s).plan) a.n (omega (arith, c.if-node_count-n.false, c.node_count.ensures.0, line-nodes s)))
-    (first_past _ 14 _ 15 (sym c.is_end.ensures ∙ c.if-is_end.false)
-    (first_here _ 15 _ (ap not (sym c.is_down.ensures) ∙ ap not c.if-not-is_down.true)))
+    reach_passed (line_of c.args.s.now) c.args.n _ c.in_ok-may_reach.ensures 15 (first_here _ 15 _ (ap not (sym c.is_down.ensures) ∙ ap not c.if-not-is_down.true))
 
 pub returns : goal.returns
 returns c =
-    let a = c.args in
-    let s = a.s.now in
-    first_past _ 13 _ 0 (lt-leb (node_count (line_of s).plan) a.n (omega (arith, c.if-node_count-n.false, c.node_count.ensures.0, line-nodes s)))
-    (first_past _ 14 _ 0 (sym c.is_end.ensures ∙ c.if-is_end.false)
-    (first_past _ 15 _ 0 (ap not (sym c.is_down.ensures) ∙ ap not c.if-not-is_down.false) refl))
+    reach_passed (line_of c.args.s.now) c.args.n _ c.in_ok-may_reach.ensures 0 (first_past _ 15 _ 0 (ap not (sym c.is_down.ensures) ∙ ap not c.if-not-is_down.false) refl)

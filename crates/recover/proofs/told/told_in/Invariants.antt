@@ -1,7 +1,0 @@
-use Rattle.rules.specs.Line.{node_at}
-use Rattle.state.specs.State.{line_of}
-use Rattle.recover.proofs.ToldLaws.{LogTold}
-use Rattle.recover.proofs.told.told_in.Given as goal
-
-abbrev pub invariant-loop-i : goal.invariant-loop-i
-invariant-loop-i l = LogTold l.n l.low (node_at (line_of l.s) l.k).log l.initial.targets l.initial.rows l.i l.targets l.rows
