@@ -1,13 +1,13 @@
 // The chosen placing of a replay table, on lent slices of numbers. It knows nothing of lines.
 #![tactic(auto)]
 
-ghost use Rattle.std.specs.Prelude.{◌≡◌, ◌+◌, ◌-◌, ◌≤◌, ◌<◌, ◌++◌, length, get_or, take, drop, ltb, eqb, cond};
+ghost use Rattle.std.specs.Prelude.{◌≡◌, ◌+◌, ◌-◌, ◌≤◌, ◌<◌, ◌++◌, length, get_or, replicate, ltb, eqb, cond};
 ghost use Rattle.std.proofs.Math.Option.{some};
 ghost use Rattle.placing.specs.Item.{items_of, item_at};
-ghost use Rattle.placing.specs.Table.{greatest, row_count, AgreesLengths, item_fits, items_fit, malformed};
+ghost use Rattle.placing.specs.Table.{most_items, row_count, AgreesLengths, item_fits, items_fit, malformed};
 ghost use Rattle.placing.specs.Walk.{sooner};
 ghost use Rattle.placing.specs.Answer.{answer, columns_left};
-ghost use Rattle.placing.specs.Places.{Prepared, PrepareAsks, shut_until, ShutRows, NextColumn, offer_at, candidate_of, WalkAsks, WalkGives};
+ghost use Rattle.placing.specs.Places.{Formed, Prepared, shut_until, ShutRows, NextColumn, offer_at, candidate_of, WalkGives};
 ghost use Rattle.answers.specs.Number.{number};
 
 use answers::Refusal;
@@ -21,7 +21,8 @@ const GREATEST: u32 = 4_000_000;
 // Rows 0..3.
 const ROWS: usize = 4;
 
-// A replay table, on lent slices: item i has its row, row time, fixed column (0 is free) and floor at place i of each.
+// A replay table. C lends a slice for each field (`placing_place`): item i has its row, row time, fixed column (0 is free)
+// and floor at place i of each.
 #[derive(Clone, Copy)]
 pub struct Table<'a> {
     pub low: u32,
@@ -78,9 +79,47 @@ impl Table<'_> {
         !self.items_fit()
     }
 
+    // Document 01's placing: the chosen columns in table order, where it is accepted.
+    pub fn place(&self, columns: &mut [u32]) -> Result<(), Refusal>
+        ensures number { number result ≡ answer self.now.low self.now.high self.now.rows.now self.now.times.now self.now.fixed.now self.now.floors.now columns.old }
+        ensures left { columns.new ≡ columns_left self.now.low self.now.high self.now.rows.now self.now.times.now self.now.fixed.now self.now.floors.now columns.old }
+    {
+        if self.is_malformed() {
+            return Err(Refusal::Table);
+        }
+        let n = self.rows.len();
+        if columns.len() < n {
+            return Err(Refusal::OutputShort);
+        }
+        let table = WellFormed {
+            low: self.low,
+            high: self.high,
+            rows: self.rows,
+            fixed: self.fixed,
+            floors: self.floors,
+        };
+        // A refusal copies nothing.
+        let mut work = [0; MOST_ITEMS];
+        table.walk(&mut work)?;
+        columns[..n].copy_from_slice(&work[..n]);
+        Ok(())
+    }
+}
+
+// A table that is not malformed, without its row times: only its check looks at them.
+#[derive(Clone, Copy)]
+struct WellFormed<'a> {
+    low: u32,
+    high: u32,
+    rows: &'a [u32],
+    fixed: &'a [u32],
+    floors: &'a [u32],
+    ghost formed: { Formed low high rows.now fixed.now floors.now },
+}
+
+impl WellFormed<'_> {
     // The last column of the item behind in a row, whose place it is, or one past the highest where there is none.
-    fn last_behind(&self, lasts: &[u32], place: usize) -> u32
-        requires { (length self.now.rows.now ≤ length lasts.now) × (self.now.high ≤ greatest) }
+    fn last_behind(&self, lasts: &[u32; MOST_ITEMS], place: usize) -> u32
         ensures { result ≡ cond (ltb place (length self.now.rows.now)) (get_or lasts.now place 0) (self.now.high + 1) }
     {
         if place < self.rows.len() {
@@ -91,11 +130,12 @@ impl Table<'_> {
     }
 
     // Each item's last column, and each row's first place, from the table's end backwards.
-    fn prepare(&self, lasts: &mut [u32], next: &mut [usize])
-        requires { PrepareAsks self.now.high self.now.rows.now self.now.fixed.now lasts.old next.old }
+    fn prepare(&self, lasts: &mut [u32; MOST_ITEMS], next: &mut [usize; ROWS])
         ensures { Prepared self.now.high 0 self.now.rows.now self.now.fixed.now lasts.new next.new }
     {
-        for i in (0..self.rows.len()).rev() {
+        let n = self.rows.len();
+        *next = [n; ROWS];
+        for i in (0..n).rev() {
             let row = self.rows[i] as usize;
             lasts[i] = last_from(self.fixed[i], self.last_behind(lasts, next[row]));
             next[row] = i;
@@ -106,7 +146,6 @@ impl Table<'_> {
     // item's fixed one. A row with no item left stays shut.
     #[tactic(auto, unfolding(crate::specs::Places::shut_until))]
     fn shut_until(&self, row: usize, i: usize) -> u32
-        requires { (length self.now.fixed.now ≡ length self.now.rows.now) × (length self.now.floors.now ≡ length self.now.rows.now) }
         ensures { result ≡ shut_until self.now.high self.now.rows.now self.now.fixed.now self.now.floors.now row i }
     {
         if i < self.rows.len() && self.rows[i] as usize == row {
@@ -119,8 +158,7 @@ impl Table<'_> {
     }
 
     // The last column that finds each row shut.
-    fn shut_rows(&self, next: &[usize]) -> [u32; ROWS]
-        requires { (length self.now.fixed.now ≡ length self.now.rows.now) × (length self.now.floors.now ≡ length self.now.rows.now) × (length next.now ≡ row_count) }
+    fn shut_rows(&self, next: &[usize; ROWS]) -> [u32; ROWS]
         ensures { ShutRows self.now.high self.now.rows.now self.now.fixed.now self.now.floors.now next.now row_count result }
     {
         let mut shut = [self.high; ROWS];
@@ -132,8 +170,8 @@ impl Table<'_> {
 
     // What a row offers column c where it is shut up to the column `shut` and has its next place at i.
     #[tactic(auto, unfolding(crate::specs::Places::offer_at))]
-    fn offered(&self, lasts: &[u32], shut: u32, i: usize, c: u32) -> Offer
-        requires { shut < c → (i < length self.now.fixed.now) × (i < length lasts.now) }
+    fn offered(&self, lasts: &[u32; MOST_ITEMS], shut: u32, i: usize, c: u32) -> Offer
+        requires { shut < c → i < length self.now.rows.now }
         ensures { result ≡ offer_at self.now.fixed.now lasts.now shut i c }
     {
         if shut < c {
@@ -148,12 +186,32 @@ impl Table<'_> {
         Offer::Nothing
     }
 
-    // The walk over the columns. Whether every item has its column, which then stands in `work` at its place.
-    fn walk(&self, lasts: &[u32], next: &mut [usize], work: &mut [u32]) -> bool
-        requires { WalkAsks self.now.low self.now.high self.now.rows.now self.now.fixed.now self.now.floors.now lasts.now next.old work.old }
+    // The first column past c that finds a row open, or the one past the highest.
+    fn next_column(&self, shut: &[u32; ROWS], c: u32) -> u32
+        requires { c ≤ self.now.high }
+        ensures { NextColumn self.now.high shut.now c result }
+    {
+        let mut least = self.high;
+        for until in shut {
+            if *until <= c {
+                return c + 1;
+            }
+            least = least.min(*until);
+        }
+        least + 1
+    }
+
+    // The walk over the columns. The columns of the items placed stand in `work`, at their places; it is accepted if every
+    // item has its column.
+    fn walk(&self, work: &mut [u32; MOST_ITEMS]) -> Result<(), Refusal>
+        requires { work.old ≡ replicate most_items 0 }
         ensures { WalkGives self.now.low self.now.high self.now.rows.now self.now.fixed.now self.now.floors.now result work.new }
     {
-        let mut shut = self.shut_rows(next);
+        let mut lasts = [0; MOST_ITEMS];
+        let mut next = [0; ROWS];
+        self.prepare(&mut lasts, &mut next);
+        // Beside `next`, and not within it: a row's next place stands before the column that finds it shut is known.
+        let mut shut = self.shut_rows(&next);
         let mut left = self.rows.len();
         let mut c = self.low + 1;
         while (0 < left) & (c <= self.high) {
@@ -161,7 +219,7 @@ impl Table<'_> {
             let chosen = 'search: {
                 let mut best = None;
                 for row in 0..ROWS {
-                    match self.offered(lasts, shut[row], next[row], c) {
+                    match self.offered(&lasts, shut[row], next[row], c) {
                         Offer::Fixed => {
                             break 'search Some(Pick { row, last: c });
                         }
@@ -183,32 +241,11 @@ impl Table<'_> {
                 shut[pick.row] = self.shut_until(pick.row, i + 1);
                 left -= 1;
             }
-            c = next_column(self.high, &shut, c);
+            c = self.next_column(&shut, c);
         }
-        left == 0
-    }
-
-    // Document 01's placing: the chosen columns in table order, where it is accepted.
-    pub fn place(&self, columns: &mut [u32]) -> Result<(), Refusal>
-        ensures number { number result ≡ answer self.now.low self.now.high self.now.rows.now self.now.times.now self.now.fixed.now self.now.floors.now columns.old }
-        ensures left { columns.new ≡ columns_left self.now.low self.now.high self.now.rows.now self.now.times.now self.now.fixed.now self.now.floors.now columns.old }
-    {
-        if self.is_malformed() {
-            return Err(Refusal::Table);
-        }
-        let n = self.rows.len();
-        if columns.len() < n {
-            return Err(Refusal::OutputShort);
-        }
-        let mut lasts = [0; MOST_ITEMS];
-        let mut next = [n; ROWS];
-        self.prepare(&mut lasts, &mut next);
-        // A refusal copies nothing.
-        let mut work = [0; MOST_ITEMS];
-        if !self.walk(&lasts, &mut next, &mut work) {
+        if left != 0 {
             return Err(Refusal::NoPlacing);
         }
-        columns[..n].copy_from_slice(&work[..n]);
         Ok(())
     }
 }
@@ -222,21 +259,6 @@ fn last_from(fixed: u32, behind: u32) -> u32
     } else {
         fixed
     }
-}
-
-// The first column past c that finds a row open, or the one past the highest.
-fn next_column(high: u32, shut: &[u32; ROWS], c: u32) -> u32
-    requires { (c ≤ high) × (high ≤ greatest) }
-    ensures { NextColumn high shut.now c result }
-{
-    let mut least = high;
-    for until in shut {
-        if *until <= c {
-            return c + 1;
-        }
-        least = least.min(*until);
-    }
-    least + 1
 }
 
 // What a row offers a column: its next item, fixed there or free with its last column; or nothing, as that item's fixed

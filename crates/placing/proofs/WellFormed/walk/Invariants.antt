@@ -2,7 +2,7 @@ use Prim.Native.Nat.{suc, ◌-◌}
 use Rattle.placing.specs.Places.{candidate_of}
 use Rattle.placing.proofs.ShutLaws.{AllShut}
 use Rattle.placing.proofs.Turn.{Searching, Walking}
-use Rattle.placing.proofs.Table.walk.Given as goal
+use Rattle.placing.proofs.WellFormed.walk.Given as goal
 
 abbrev pub invariant-loop-row : goal.invariant-loop-row
 invariant-loop-row l =

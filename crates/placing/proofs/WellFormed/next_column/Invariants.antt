@@ -1,7 +1,7 @@
 use Prim.Native.Nat.{ℕ, ◌≤◌, ◌<◌}
 use mathlib.Core.List.{List}
 use lib.ListN.{get_or}
-use Rattle.placing.proofs.next_column.Given as goal
+use Rattle.placing.proofs.WellFormed.next_column.Given as goal
 
 -- Of the rows before r none is open by column `least`.
 pub record Least (high : ℕ) (shut : List ℕ) (c least r : ℕ) : Type 0 where
@@ -10,4 +10,4 @@ pub record Least (high : ℕ) (shut : List ℕ) (c least r : ℕ) : Type 0 where
   pub of : (q : ℕ) → q < r → least ≤ get_or shut q 0
 
 abbrev pub invariant-loop-until : goal.invariant-loop-until
-invariant-loop-until l = Least l.high l.shut l.c l.least l.until-index
+invariant-loop-until l = Least l.self.high l.shut l.c l.least l.until-index
