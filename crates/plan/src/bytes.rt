@@ -8,24 +8,6 @@ ghost use Rattle.plan.specs.Named.{version_number};
 
 use crate::Version;
 
-pub fn wide(b: u8) -> u16
-    ensures { (result ≡ b) × (result < 256) }
-{
-    b as u16
-}
-
-pub fn index_of(b: u8) -> usize
-    ensures { (result ≡ b) × (result < 256) }
-{
-    b as usize
-}
-
-pub fn count_of(n: u16) -> usize
-    ensures { result ≡ n }
-{
-    n as usize
-}
-
 // The byte at i, 0 past the end.
 pub fn byte_at(s: &[u8], i: usize) -> u8
     ensures { result ≡ get_or s.now i 0 }

@@ -34,7 +34,7 @@ fn kind_of(number: u8) -> Option<Kind>
 }
 
 // Whether a rule's numbers are within their limits.
-pub fn rule_fits(kind: u8, p: u8, q: u16) -> bool
+pub(crate) fn rule_fits(kind: u8, p: u8, q: u16) -> bool
     ensures { result ≡ rule_kind_fits kind p q }
 {
     match kind_of(kind) {
