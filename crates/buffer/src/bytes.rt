@@ -1,29 +1,9 @@
 // Bytes of a lent buffer, read and written in place. Numbers are big-endian.
-ghost use Rattle.std.specs.Prelude.{◌≡◌, ◌+◌, ◌*◌, ◌^◌, ◌-◌, ◌≤◌, ◌<◌, max, length, take, drop, replicate, ◌++◌};
+ghost use Rattle.std.specs.Prelude.{◌≡◌, ◌+◌, ◌-◌, ◌≤◌, length, take, drop, replicate, ◌++◌};
 ghost use Rattle.basics.specs.Put.{put};
 ghost use Rattle.plan.specs.Layout.{spelled, bytes_of};
 ghost use Rattle.buffer.specs.Words.{number64, with_number64};
 ghost use Rattle.buffer.specs.Zero.{zero_bytes};
-
-pub fn wide32(b: u8) -> u32
-    ensures { (result ≡ b) × (result < 256) }
-{
-    b as u32
-}
-
-// A number of four bytes as a place or a count.
-pub fn size(x: u32) -> usize
-    ensures { result ≡ x }
-{
-    x as usize
-}
-
-// The greater of two numbers.
-pub fn greater(a: u32, b: u32) -> u32
-    ensures { result ≡ max a b }
-{
-    if a < b { b } else { a }
-}
 
 // The byte at a place.
 pub fn get8(s: &[u8], at: usize) -> u8

@@ -1,5 +1,5 @@
 // The plan's channels by their ends, made once for a check or a Trim: looking a sender up is then one read. And what things in the state were made from: an origin's first byte is 0 for none, else the sender and 1; a time stands with a sender only.
-ghost use Rattle.std.specs.Prelude.{◌≡◌, ◌&&◌, ◌+◌, ◌*◌, ◌≤◌, ◌<◌, ◌++◌, true, length, get_or, set, replicate};
+ghost use Rattle.std.specs.Prelude.{◌≡◌, ◌&&◌, ◌+◌, ◌*◌, ◌<◌, true, length, get_or, set};
 ghost use Rattle.plan.specs.Plan.{plan_of, plan_channels, channel_at, entering, is_source};
 ghost use Rattle.rules.specs.Line.{made};
 ghost use Rattle.state.specs.Pieces.{origin_from};

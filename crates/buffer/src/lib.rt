@@ -9,7 +9,6 @@ pub mod origin;
 pub mod record;
 pub mod sets;
 pub mod status;
-pub mod table;
 
 // The line as a type, which has its own limits (document 01, "The limits belong to the line itself"). A line's values lie in its buffer.
 #[derive(Clone, Copy)]

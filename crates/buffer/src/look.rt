@@ -13,12 +13,6 @@ use crate::status::Status;
 use crate::{bytes, layout};
 use plan::Channel;
 
-pub fn index(b: u8) -> usize
-    ensures { (result ≡ b) × (result < 256) }
-{
-    b as usize
-}
-
 // How many nodes the plan has.
 pub fn node_count(s: &[u8]) -> usize
     requires { Ready s.now }
@@ -122,7 +116,7 @@ pub fn status_of(s: &[u8], n: usize) -> Status
     requires { Ready s.now × (n < plan_nodes s.now) }
     ensures { status_is result ≡ (node_at (line_of s.now) n).status }
 {
-    match bytes::get8(s, layout::PAGE * (1 + n)) {
+    match s[layout::PAGE * (1 + n)] {
         0 => Status::Up,
         1 => Status::Down,
         _ => Status::Replaying,
@@ -150,7 +144,7 @@ pub fn has_crashed(s: &[u8], n: usize) -> bool
     requires { Ready s.now × (n < plan_nodes s.now) }
     ensures { result ≡ (node_at (line_of s.now) n).crashed }
 {
-    0 < bytes::get8(s, layout::PAGE * (1 + n) + 1)
+    0 < s[layout::PAGE * (1 + n) + 1]
 }
 
 // The steps accepted from a console.

@@ -51,23 +51,6 @@ pub fn set_for(s: &[u8], n: usize, first: usize, r: Record) -> u8
     set
 }
 
-// The same by the record's fields.
-pub fn set_of(s: &[u8], n: usize, first: usize, piece: u32, material: u8, mass: u16) -> u8
-    requires { Ready s.now × (n < plan_nodes s.now) × Begin (plan_of s.now) n first }
-    ensures { result ≡ set_of (plan_of s.now) n (record { piece = piece; material = material; mass = mass }) }
-{
-    set_for(
-        s,
-        n,
-        first,
-        Record {
-            piece,
-            material,
-            mass,
-        },
-    )
-}
-
 // Which bit of its sender's sets is a channel's: the number of channels of the same sender that stand before it.
 pub fn bit_of(s: &[u8], b: usize) -> u8
     requires { OnChannel s.now b }

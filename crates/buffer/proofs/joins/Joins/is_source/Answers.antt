@@ -2,7 +2,7 @@ use mathlib.Core.Path.{ap, ◌∙◌}
 use Prim.Native.Nat.{ℕ}
 use lib.Dec.{eqb}
 use Rattle.plan.specs.Plan.{plan_of}
-use Rattle.buffer.proofs.TableLaws.{source_counted}
+use Rattle.buffer.proofs.JoinLaws.{source_counted}
 use Rattle.buffer.proofs.joins.Joins.is_source.Goals as goal
 
 pub returns : goal.returns

@@ -1,6 +1,6 @@
 use mathlib.Core.Path.{◌∙◌}
 use native.Mathlib.Omega.{arith}
-use Rattle.buffer.proofs.TableLaws.{none_outside}
+use Rattle.buffer.proofs.JoinLaws.{none_outside}
 use Rattle.buffer.proofs.joins.Joins.parents.Goals as goal
 
 pub returns-then-node-ge12 : goal.returns-then-node-ge12
