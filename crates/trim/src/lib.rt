@@ -67,7 +67,7 @@ fn own_times(s: &[u8]) -> [u32; 12]
 
 // By what is heard on a channel of the sender's parents.
 fn lower_heard(joins: &Joins, b: usize, sender: usize, floors: &mut [u32; 12])
-    requires { (b < plan_channels joins.now.state.now) × (sender ≡ (channel_at (plan_of joins.now.state.now) b).sender) × (length floors.old ≡ 12) }
+    requires { (b < plan_channels joins.now.state.now) × (sender ≡ (channel_at (plan_of joins.now.state.now) b).sender) }
     ensures { Rows floors.new (λ q. heard_lowers (line_of joins.now.state.now) b q (get_or floors.old q 0)) }
 {
     for q in 0..12 {
@@ -80,7 +80,7 @@ fn lower_heard(joins: &Joins, b: usize, sender: usize, floors: &mut [u32; 12])
 
 // By all that a channel's receiver holds for the sender and through it.
 fn lower_on(joins: &Joins, b: usize, floors: &mut [u32; 12])
-    requires { (b < plan_channels joins.now.state.now) × (length floors.old ≡ 12) }
+    requires { b < plan_channels joins.now.state.now }
     ensures { Rows floors.new (λ q. channel_lowers (line_of joins.now.state.now) b q (get_or floors.old q 0)) }
 {
     let sender = look::sender_of(joins.state, b);
