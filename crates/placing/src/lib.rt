@@ -13,7 +13,7 @@ ghost use Rattle.answers.specs.Number.{number};
 use answers::Refusal;
 
 // "at most 64 items"
-pub const MOST_ITEMS: usize = 64;
+const MOST_ITEMS: usize = 64;
 
 // "the limits of a replay table on columns, row times and floors rise to 4,000,000"
 const GREATEST: u32 = 4_000_000;

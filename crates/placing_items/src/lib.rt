@@ -7,7 +7,7 @@ ghost use Rattle.placing.specs.Answer.{answer, columns_left};
 ghost use Rattle.placing_items.specs.Fields.{rows_of, times_of, fixed_of, floors_of};
 
 use answers::Refusal;
-use placing::{MOST_ITEMS, Table};
+use placing::Table;
 
 // "Each item is a row, a row time, a fixed column (0 is free) and a floor."
 #[repr(C)]
@@ -18,6 +18,9 @@ pub struct Item {
     pub fixed: u32,
     pub floor: u32,
 }
+
+// "at most 64 items"
+const MOST_ITEMS: usize = 64;
 
 // Document 01's placing, of "a lent slice of item structs": what the placing of their fields answers and leaves.
 pub fn place(low: u32, high: u32, items: &[Item], columns: &mut [u32]) -> Result<(), Refusal>
