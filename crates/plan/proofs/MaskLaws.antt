@@ -6,7 +6,7 @@ use mathlib.Core.Bool.{Bool, true, false, cond, ◌&&◌}
 use mathlib.Core.List.{List, [], ◌∷◌}
 use native.Mathlib.Nat.{add-mul, mul_assoc, mul-one, one-mul, zero-mul, lt_of_not-le, add-zero, pow-suc, pow-succ', div-add-mod'}
 use native.Mathlib.Omega.{arith}
-use borrow.Author.Tests.{ne_eqb}
+use borrow.Author.Tests.{le-leb, lt-leb, ne_eqb}
 use lib.Dec.{lit<, eqb}
 use Rattle.std.specs.Int.{from_bool}
 use lib.ListN.{length, get_or, drop, drop_of_length-le}
@@ -19,7 +19,7 @@ use Rattle.plan.specs.declared.Channel.{Channel}
 use Rattle.plan.specs.Channel.{takes}
 use Rattle.plan.specs.Lawful.{Each}
 use Rattle.plan.specs.Plan.{Plan, plan_of, plan_channels, no_channel, keep_if, numbers_from, is_none, entering, leaving}
-use Rattle.plan.specs.Mask.{mask_of, Rising, ones_from, channels_in, among, taking, Passing}
+use Rattle.plan.specs.Mask.{mask_of, Rising, ones_from, channels_in, among, taking, plan_mask, Passing, CountOf, FirstOf}
 use Rattle.plan.proofs.PlanLaws.{channel_count_lem}
 
 -- ---- rising lists
@@ -83,6 +83,12 @@ mask_trailing (b ∷ bs) h l =
     let m = mask_multiple (suc b) bs h.1 in
     let below : b < 32 = lt_of_not-le (λ (k : 32 ≤ b). let p : 2 ^ 32 ≤ 2 ^ b = pow_mono k in omega arith) in
     ap (count_trailing_zeros 32) (ap (λ (x : ℕ). 2 ^ b + x) m.1 ∙ odd_times b m.0) ∙ trailing_odd 32 b m.0 below
+
+pub count_of : (mask : ℕ) → CountOf mask (ones mask)
+count_of mask = record { is = refl; listed = λ bs h e. ap ones e ∙ mask_ones bs h }
+
+pub first_of : (mask : ℕ) → mask < 2 ^ 32 → FirstOf mask (count_trailing_zeros 32 mask)
+first_of mask l = record { is = refl; listed = λ bs h e. ap (count_trailing_zeros 32) e ∙ mask_trailing bs h (rw e at l) }
 
 -- ---- the channels of a mask
 
@@ -152,13 +158,13 @@ pub record Next (mask b : ℕ) : Type 0 where
   pub bit : 2 ^ b ≤ mask
   pub channels : channels_in mask ≡ b ∷ channels_in (mask - 2 ^ b)
 
-pub next : (mask b : ℕ) → mask < 2 ^ 32 → mask ≢ 0 → b ≡ count_trailing_zeros 32 mask → Next mask b
+pub next : (mask b : ℕ) → mask < 2 ^ 32 → mask ≢ 0 → FirstOf mask b → Next mask b
 next mask b low some first = go (channels_in mask) refl (channels_rise mask) (sym (channels_mask mask low))
   where
     go : (bs : List ℕ) → channels_in mask ≡ bs → Rising 0 bs → mask ≡ mask_of bs → Next mask b
     go [] same rise is = absurd (some is)
     go (c ∷ cs) same rise is =
-        let first_is : b ≡ c = first ∙ ap (count_trailing_zeros 32) is ∙ mask_trailing (c ∷ cs) rise (rw is at low) in
+        let first_is : b ≡ c = first.listed (c ∷ cs) rise is in
         let bit : 2 ^ b ≡ 2 ^ c = ap (λ (x : ℕ). 2 ^ x) first_is in
         let behind : channels_in (mask - 2 ^ b) ≡ cs = channels_listed (mask - 2 ^ b) (omega arith) cs (rising_lower 0 (suc c) cs (omega arith) rise.1) (omega arith) in
         record {
@@ -215,6 +221,14 @@ leaving_below s n = numbers_below (plan_channels s) 0 (λ (c : Channel). eqb c.s
 pub among_below : (m : ℕ) (f : ℕ → Bool) (bs : List ℕ) → Each (λ (b : ℕ). b < m) bs → Each (λ (b : ℕ). b < m) (among f bs)
 among_below m f [] h = tt
 among_below m f (b ∷ bs) h = kept_below (f b) m b (among f bs) h.0 (among_below m f bs h.1)
+
+pub mask_few : (s : List ℕ) → plan_channels s ≤ 24 → (bs : List ℕ) → plan_mask s bs ≡ mask_of bs
+unfolding plan_mask
+mask_few s h bs = rw (le-leb (plan_channels s) 24 h)
+
+pub mask_many : (s : List ℕ) → 24 < plan_channels s → (bs : List ℕ) → plan_mask s bs ≡ 0
+unfolding plan_mask
+mask_many s h bs = rw (lt-leb (plan_channels s) 24 h)
 
 -- A mask is 0 exactly where no channel is in it.
 pub mask_none : (bs : List ℕ) → eqb (mask_of bs) 0 ≡ is_none bs

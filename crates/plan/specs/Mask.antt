@@ -1,10 +1,11 @@
 -- Sets of channels as masks (document 01, "The belts that take a record form a mask; ones count them, trailing zeros give the next belt").
-use Rattle.std.specs.Prelude.{ℕ, zero, suc, ◌+◌, ◌*◌, ◌/◌, ◌%◌, ◌^◌, ◌≤◌, ◌<◌, ◌≡◌, Bool, cond, ◌&&◌, List, [], ◌∷◌, map, eqb}
+use Rattle.std.specs.Prelude.{ℕ, zero, suc, ◌+◌, ◌*◌, ◌/◌, ◌%◌, ◌^◌, ◌≤◌, ◌<◌, ◌≡◌, Bool, cond, not, ◌&&◌, List, [], ◌∷◌, map, length, get_or, leb, eqb}
+use Rattle.std.specs.Int.Count.{ones, count_trailing_zeros}
 use Rattle.plan.specs.declared.Record.{Record}
 use Rattle.plan.specs.declared.Channel.{Channel}
 use Rattle.plan.specs.declared.masks.Channels.{Channels}
 use Rattle.plan.specs.Channel.{takes}
-use Rattle.plan.specs.Plan.{Plan, plan_of, plan_channels, channel_at, keep_if, numbers_from, leaving}
+use Rattle.plan.specs.Plan.{Plan, plan_of, plan_channels, channel_at, keep_if, numbers_from, is_none, leaving}
 
 -- The mask of a list of channel numbers: bit b for channel b.
 abbrev pub mask_of : List ℕ → ℕ
@@ -51,6 +52,15 @@ set_of p n r = bits (map (λ (c : ℕ). takes (channel_at p c) r) (leaving p n))
 abbrev pub takes_at : Plan → Record → ℕ → Bool
 takes_at p r b = takes (channel_at p b) r
 
+-- Whether one of a mask's channels takes a record.
+abbrev pub some_takes : Plan → Record → ℕ → Bool
+some_takes p r mask = not (is_none (among (takes_at p r) (channels_in mask)))
+
+-- The mask of some of a plan's channels; 0 where the plan has more channels than document 01 allows.
+unfoldable pub plan_mask : List ℕ → List ℕ → ℕ
+unfolding plan_channels
+plan_mask s bs = cond (leb (plan_channels s) 24) (mask_of bs) 0
+
 -- What a call may answer of a channel's two ends is a test of channels.
 abbrev pub Tests : (ℕ → ℕ → Bool → Type 0) → (Channel → Bool) → Type 0
 Tests answers f = (c : Channel) (t : Bool) → answers c.sender c.receiver t → t ≡ f c
@@ -59,3 +69,18 @@ Tests answers f = (c : Channel) (t : Bool) → answers c.sender c.receiver t →
 pub record Passing (s : List ℕ) (f : Channel → Bool) (c : Channels) : Type 0 where
   pub few : plan_channels s ≤ 24 → listed c ≡ numbers_from 0 f (plan_of s).channels
   pub many : 24 < plan_channels s → listed c ≡ []
+
+-- A mask's count of ones: of a rising list of channels, how many there are.
+pub record CountOf (mask r : ℕ) : Type 0 where
+  pub is : r ≡ ones mask
+  pub listed : (bs : List ℕ) → Rising 0 bs → mask ≡ mask_of bs → r ≡ length bs
+
+-- A mask's trailing zeros: of a rising list of channels, the first of them, 32 if there is none.
+pub record FirstOf (mask r : ℕ) : Type 0 where
+  pub is : r ≡ count_trailing_zeros 32 mask
+  pub listed : (bs : List ℕ) → Rising 0 bs → mask ≡ mask_of bs → r ≡ get_or bs 0 32
+
+-- Of a mask's channels those that take a record, as a mask: of a rising list of a plan's channels, those among them that take it.
+pub record TakingOf (s : List ℕ) (r : Record) (mask m : ℕ) : Type 0 where
+  pub is : m ≡ mask_of (among (takes_at (plan_of s) r) (channels_in mask))
+  pub listed : (bs : List ℕ) → Rising 0 bs → mask ≡ plan_mask s bs → m ≡ plan_mask s (among (takes_at (plan_of s) r) bs)

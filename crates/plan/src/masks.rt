@@ -1,9 +1,9 @@
-// Sets of channels.
-ghost use Rattle.std.specs.Prelude.{◌≡◌, Bool, [], not, ◌≤◌, ◌<◌};
+// Sets of channels: as an iterator, and the masks that they lie in.
+ghost use Rattle.std.specs.Prelude.{◌≡◌, Bool, [], not, ◌+◌, ◌-◌, ◌^◌, ◌≤◌, ◌<◌};
 ghost use Rattle.std.specs.Iterator.{YieldsFirst, item_count};
 ghost use Rattle.plan.specs.declared.Channel.{Channel};
 ghost use Rattle.plan.specs.Plan.{plan_of, plan_channels, is_none, entering, leaving};
-ghost use Rattle.plan.specs.Mask.{listed, among, takes_at, Tests, Passing};
+ghost use Rattle.plan.specs.Mask.{listed, among, takes_at, some_takes, plan_mask, Tests, Passing, CountOf, FirstOf, TakingOf};
 
 use crate::{Record, bytes, channels};
 
@@ -25,7 +25,7 @@ impl Iterator for Channels {
         if self.mask == 0 {
             return None;
         }
-        let b = self.mask.trailing_zeros();
+        let b = mask_next(self.mask);
         self.mask -= 1 << b;
         Some(b as usize)
     }
@@ -94,4 +94,56 @@ pub fn leaving(plan: &[u8], node: usize) -> Channels
     ensures many { 24 < plan_channels plan.now → listed result ≡ [] }
 {
     channels_where(plan, |sender, _| usize::from(sender) == node)
+}
+
+// The same by masks, which stay beside the iterator: their promises are of any mask, for whoever calls the plan alone. Ones count a mask's channels, trailing zeros give the next (document 01).
+
+// How many channels a mask has.
+pub fn mask_count(mask: u32) -> u32
+    ensures { CountOf mask result }
+{
+    mask.count_ones()
+}
+
+// The first channel of a mask, 32 if there is none.
+pub fn mask_next(mask: u32) -> u32
+    ensures { FirstOf mask result }
+{
+    mask.trailing_zeros()
+}
+
+// The channels that enter a node, as a mask.
+pub fn entering_mask(plan: &[u8], node: usize) -> u32
+    ensures { result ≡ plan_mask plan.now (entering (plan_of plan.now) node) }
+{
+    entering(plan, node).mask
+}
+
+// The channels that leave a node, as a mask.
+pub fn leaving_mask(plan: &[u8], node: usize) -> u32
+    ensures { result ≡ plan_mask plan.now (leaving (plan_of plan.now) node) }
+{
+    leaving(plan, node).mask
+}
+
+// A mask without a channel that is in it.
+pub fn without(mask: u32, b: u32) -> u32
+    requires { (b < 32) × (2 ^ b ≤ mask) }
+    ensures { result ≡ mask - 2 ^ b }
+{
+    mask - (1 << b)
+}
+
+// Of a mask's channels those that take a record, as a mask.
+pub fn taking_among(plan: &[u8], mask: u32, r: Record) -> u32
+    ensures { TakingOf plan.now r mask result }
+{
+    Channels { mask }.taking(plan, r).mask
+}
+
+// Whether one of a mask's channels takes a record, by its fields.
+pub fn some_takes(plan: &[u8], mask: u32, piece: u32, material: u8, mass: u16) -> bool
+    ensures { result ≡ some_takes (plan_of plan.now) (record { piece = piece; material = material; mass = mass }) mask }
+{
+    Channels { mask }.some_takes(plan, piece, material, mass)
 }

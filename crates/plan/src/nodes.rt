@@ -33,8 +33,8 @@ fn kind_of(number: u8) -> Option<Kind>
     }
 }
 
-// Whether a rule's numbers are within their limits.
-pub(crate) fn rule_fits(kind: u8, p: u8, q: u16) -> bool
+// Whether a rule's numbers are within their limits. Three numbers, as the plan spells them: a struct of them would be made at two places and be no plainer.
+pub fn rule_fits(kind: u8, p: u8, q: u16) -> bool
     ensures { result ≡ rule_kind_fits kind p q }
 {
     match kind_of(kind) {
