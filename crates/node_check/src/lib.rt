@@ -131,6 +131,7 @@ impl Page<'_> {
         self.joins.origin_ok(self.n, from, time, earlier, since)
     }
 
+    // A loop of its own beside entries_ok: with the test of repeated times in that one a full check took 13 in a hundred longer.
     // The log's entries from the first on that is not plain, later than the last and within the top: times may repeat there.
     fn entries_on(&self, first: usize, count: usize, last: u32, top: u32) -> bool
         requires { (first ≤ count) × (count ≤ log_limit) × (top ≡ (node_at (line_of self.now.joins.state.now) self.now.n).time) }

@@ -2,7 +2,7 @@
 ghost use Rattle.std.specs.Prelude.{◌≡◌, ◌+◌, ◌-◌, ◌≤◌, ◌<◌, ◌∷◌, [], length, MatchResult};
 ghost use Rattle.plan.specs.Plan.{plan_nodes};
 ghost use Rattle.rules.specs.Line.{node_at};
-ghost use Rattle.rules.specs.Recover.{low_of, high_of, triples, targets_of, answer_of};
+ghost use Rattle.rules.specs.Recover.{low_of, high_of, triples, restored, targets_of, answer_of};
 ghost use Rattle.state.specs.State.{line_of};
 ghost use Rattle.buffer.specs.Ready.{Ready, OnChannel};
 ghost use Rattle.buffer.specs.Rows.{rows_long, Rows};
@@ -29,7 +29,7 @@ pub struct Found {
 impl Found {
     // Whether targets conflict, or all rows are complete as soon as the node is restored, and it has targets.
     pub fn has_no_outcome(&self, s: &[u8], n: usize) -> bool
-        requires { Ready s.now × Finds s.now n self.now }
+        requires { Ready s.now × Rows self.now.entries (restored (line_of s.now) n) }
         ensures outcome { result ≡ no_outcome (line_of s.now) n self.now.targets }
         ensures few { length self.now.targets ≤ 64 }
     {

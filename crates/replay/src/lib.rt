@@ -86,13 +86,14 @@ fn rows_after(s: &[u8], n: usize, goals: &[u32; 12], b: usize, time: u32) -> boo
 
 // ---- the record
 
-// Whether some channel that leaves the node takes a record: its set has one. Channel b enters the node, so none up to it leaves.
+// Whether some channel that leaves the node takes a record: its set is a mask, and the ones count them. Channel b enters the node, so none up to it leaves.
 fn goes_on(s: &[u8], n: usize, b: usize, what: Record) -> bool
     requires { Enters s.now n b }
     ensures { result ≡ passed_on (line_of s.now).plan n what }
 {
     let first = sets::leaving_from(s, n, b + 1);
-    sets::set_for(s, n, first, what) != 0
+    let set = sets::set_for(s, n, first, what);
+    set.count_ones() != 0
 }
 
 // The first message of channel b as its receiver n would hold it.

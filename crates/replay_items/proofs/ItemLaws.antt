@@ -65,7 +65,7 @@ fixed_found (t ∷ ts) h (suc i) q l e =
 -- The time of the target that a held record is.
 pub fixed_is : (ts : List Target) (h : Held) (place : Option ℕ) → conflict ts ≡ false → FoundFrom (is_target h) no_target ts 0 place → time_at ts place ≡ fixed_at ts h
 fixed_is ts h None q f = sym (fixed_none ts h (λ j l. f j (omega arith) l))
-fixed_is ts h (Some i) q f = sym (fixed_found ts h i q f.0 f.1)
+fixed_is ts h (Some i) q f = sym (fixed_found ts h i q f.1 f.2)
 
 -- ---- the floor
 

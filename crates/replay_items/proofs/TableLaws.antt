@@ -9,6 +9,7 @@ use borrow.Author.Tests.{eq-eqb}
 use lib.Dec.{eqb}
 use lib.ListN.{length, get_or, drop, length-append, length-map, drop_of_length-le}
 use lib.Seq.{drop-cons}
+use Rattle.std.proofs.lemmas.List.{get_or-take, length-take-le}
 use Rattle.plan.specs.Plan.{Plan, plan_of, plan_channels, channel_at, keep_if, numbers_from, entering}
 use Rattle.plan.specs.Lawful.{Each}
 use Rattle.plan.proofs.MaskLaws.{entering_below}
@@ -20,8 +21,19 @@ use Rattle.state.proofs.InPlace.{line-plan}
 use Rattle.buffer.specs.Holds.{AtNode}
 use Rattle.buffer.specs.Nothing.{no_held}
 use Rattle.buffer.proofs.ReadyLaws.{few_enter}
+use Rattle.replay_items.specs.declared.Ending.{Ending}
 use Rattle.replay_items.specs.declared.Listed.{Listed}
-use Rattle.replay_items.specs.Items.{Slot, listed_of, slot_of, one_slot, row_slots, slots_from}
+use Rattle.replay_items.specs.Items.{held_with, held_by, Asked, Slot, listed_of, slot_of, one_slot, row_slots, slots_from}
+
+-- ---- the held records that the node is to have
+
+pub counted_held : (s : List ℕ) (e : Ending) → Asked s e → length (held_by s e) ≡ e.held
+counted_held s e a = length-take-le e.held (held_with (line_of s) e.node e.last) a.counted
+
+pub held_inside : (s : List ℕ) (e : Ending) (i : ℕ) → i < e.held → get_or (held_by s e) i no_held ≡ get_or (held_with (line_of s) e.node e.last) i no_held
+held_inside s e i h = get_or-take e.held (held_with (line_of s) e.node e.last) i no_held h
+
+-- ---- the table
 
 module _ (l : Line) (n : ℕ) (hs : List Held) where
   abbrev f : Slot → Listed

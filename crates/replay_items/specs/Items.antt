@@ -1,5 +1,5 @@
 -- What the end of a replay is asked of, its targets and the replay table as the code lists them.
-use Rattle.std.specs.Prelude.{ℕ, suc, ◌≤◌, ◌<◌, ◌≡◌, Bool, true, false, ◌&&◌, List, [], ◌∷◌, ◌++◌, map, length, get_or, eqb, Option, None, Some}
+use Rattle.std.specs.Prelude.{ℕ, suc, ◌≤◌, ◌<◌, ◌≡◌, Bool, true, false, ◌&&◌, List, [], ◌∷◌, ◌++◌, map, length, get_or, take, eqb, Option, None, Some}
 use Rattle.plan.specs.Plan.{plan_of, keep_if, numbers_from, leaving}
 use Rattle.plan.specs.Mask.{listed}
 use Rattle.placing.specs.Item.{Item}
@@ -16,7 +16,7 @@ use Rattle.replay_items.specs.declared.Listed.{Listed}
 
 -- ---- what is asked
 
--- One more held record, if there is one; the held records that the node is to have.
+-- One more held record, if there is one; the held records and that one.
 abbrev pub one_more : Option Waiting → List Held
 one_more None = []
 one_more (Some h) = held_is h ∷ []
@@ -24,14 +24,15 @@ one_more (Some h) = held_is h ∷ []
 abbrev pub held_with : Line → ℕ → Option Waiting → List Held
 held_with l n last = (node_at l n).held ++ one_more last
 
+-- The held records that the node is to have: so many of them, from the first on.
 abbrev pub held_by : List ℕ → Ending → List Held
-held_by s e = held_with (line_of s) e.node e.last
+held_by s e = take e.held (held_with (line_of s) e.node e.last)
 
 pub record Asked (s : List ℕ) (e : Ending) : Type 0 where
   pub node : AtNode s e.node
   pub leaving : listed e.leaving ≡ leaving (plan_of s) e.node
   pub targets : e.targets ≡ (node_at (line_of s) e.node).targets
-  pub counted : e.held ≡ length (held_by s e)
+  pub counted : e.held ≤ length (held_with (line_of s) e.node e.last)
   pub few : e.held ≤ held_limit
   pub agreed : conflict (node_at (line_of s) e.node).targets ≡ false
 
@@ -40,7 +41,7 @@ pub record Asked (s : List ℕ) (e : Ending) : Type 0 where
 -- The first of a list's from a place on that passes a test: there is none, or it stands at i.
 abbrev pub FoundFrom : {A : Type 0} → (A → Bool) → A → List A → ℕ → Option ℕ → Type 0
 FoundFrom f d xs from None = (j : ℕ) → from ≤ j → j < length xs → f (get_or xs j d) ≡ false
-FoundFrom f d xs from (Some i) = (i < length xs) × (f (get_or xs i d) ≡ true)
+FoundFrom f d xs from (Some i) = (from ≤ i) × (i < length xs) × (f (get_or xs i d) ≡ true)
 
 -- Whether a target is a held record.
 abbrev pub is_target : Held → Target → Bool

@@ -2,7 +2,8 @@
 #![tactic(auto)]
 
 ghost use Rattle.std.specs.Prelude.{◌≡◌, cond, ◌+◌, ◌≤◌, ◌<◌, [], ◌∷◌, ◌++◌, map, length, get_or, eqb, true};
-ghost use Rattle.plan.specs.Plan.{plan_of, entering};
+ghost use Rattle.plan.specs.Mask.{listed};
+ghost use Rattle.plan.specs.Plan.{plan_of, leaving, entering};
 ghost use Rattle.rules.specs.Line.{node_at};
 ghost use Rattle.rules.specs.Replay.{fixed_at, floor_of};
 ghost use Rattle.state.specs.State.{line_of};
@@ -23,6 +24,7 @@ pub const MOST: usize = Line::HELD_LIMIT as usize;
 // ---- the targets
 
 // The targets of a node, in their order.
+// An array with its count: no heap in the engine.
 #[derive(Drop)]
 pub struct Goals {
     list: [Goal; MOST],
@@ -223,7 +225,7 @@ impl Items {
 
 // "A free record's floor is the greatest entry for B among children whose belts take it."
 fn floor_of(s: &[u8], e: &Ending, r: Record) -> u32
-    requires { Asked s.now e.now }
+    requires { AtNode s.now e.now.node × (listed e.now.leaving ≡ leaving (plan_of s.now) e.now.node) }
     ensures { result ≡ floor_of (line_of s.now) e.now.node r }
 {
     let taking = e.leaving.taking(s, r);

@@ -2,7 +2,7 @@
 use Prim.Native.Nat.{ℕ, zero, suc, ◌+◌, ◌*◌, ◌≤◌, ◌<◌}
 use mathlib.Core.Path.{◌≡◌, refl, sym, ap, ◌∙◌}
 use mathlib.Core.List.{List, [], ◌∷◌, map, zip_with}
-use mathlib.Core.Option.{Option, some}
+use mathlib.Core.Option.{some}
 use native.Mathlib.Omega.{arith}
 use lib.ListN.{length, get_or, drop, length-map}
 use Rattle.plan.specs.Plan.{Plan, plan_of, channel_at, entering}
@@ -12,10 +12,12 @@ use Rattle.rules.proofs.Lists.ListLaws.{map_at}
 use Rattle.state.specs.State.{line_of}
 use Rattle.state.proofs.InPlace.{line-plan}
 use Rattle.buffer.specs.Holds.{AtNode}
+use Rattle.report.specs.declared.Heard.TheVariants.{Kept}
 use Rattle.report.specs.declared.text.Text.{Text}
-use Rattle.report.specs.Parts.{after, entries_of, restored_words}
+use Rattle.report.specs.Clock.{times_of}
+use Rattle.report.specs.Parts.{after, restored_words}
 use Rattle.report.specs.Writes.{Writes}
-use Rattle.report.proofs.ParentLaws.{four_parents, kept_long, Walking, walking_four, walking_end, walking_at, walking_turn}
+use Rattle.report.proofs.ParentLaws.{four_parents, times_long, Walking, walking_four, walking_end, walking_at, walking_turn}
 use Rattle.report.proofs.WroteLaws.{Writing, writes_most, writes_then, writing_start, joined_turn, joined_end}
 
 -- ---- words, each behind a space
@@ -56,7 +58,7 @@ module _ (s : List ℕ) (n : ℕ) (node : AtNode s n) (a : Asked) (kept : (node_
   those = entering (plan_of s) n
 
   abbrev times : List ℕ
-  times = entries_of (node_at (line_of s) n).asked
+  times = times_of (line_of s) n Kept
 
   -- A parent for each channel.
   abbrev sender_in : ℕ → ℕ
@@ -69,8 +71,8 @@ module _ (s : List ℕ) (n : ℕ) (node : AtNode s n) (a : Asked) (kept : (node_
   parents_long : length (parents (line_of s).plan n) ≡ length (entering (plan_of s) n)
   parents_long = ap length parents_are ∙ length-map those sender_in
 
-  enough : length (parents (line_of s).plan n) ≤ length (entries_of (node_at (line_of s) n).asked)
-  enough = omega (arith, parents_long, four_parents s n node, ap (λ (o : Option Asked). length (entries_of o)) kept, kept_long s n node a kept)
+  enough : length (parents (line_of s).plan n) ≤ length (times_of (line_of s) n Kept)
+  enough = omega (arith, parents_long, times_long s n node Kept (a, kept))
 
   words_long : length (restored_words (line_of s) n) ≡ length (entering (plan_of s) n)
   words_long = zip_long node_and_time (parents (line_of s).plan n) times enough ∙ parents_long
@@ -92,6 +94,7 @@ module _ (s : List ℕ) (n : ℕ) (node : AtNode s n) (a : Asked) (kept : (node_
 
         pub restoring_turn : (q u : ℕ) (then later : Text) → q ≡ (channel_at (plan_of s) b).sender → u ≡ get_or a.entries place 0
             → Writes 1 (32 ∷ []) now then → Writes 21 (node_and_time q u) then later → Restoring s n start later (place + 1) rest
+        unfolding times_of
         restoring_turn q u then later from entry space w =
             let here = walking_at x.walking next in
             let inside : place < length (parents (line_of s).plan n) = omega (arith, parents_long, here.inside) in

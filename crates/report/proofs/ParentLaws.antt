@@ -17,6 +17,7 @@ use Rattle.plan.proofs.FitsLaws.{fitting}
 use Rattle.plan.proofs.PlanLaws.{node_count_lem}
 use Rattle.rules.specs.Line.{Asked, node_at, lane_at}
 use Rattle.rules.proofs.Lists.ListLaws.{map_at}
+use Rattle.state.specs.Pieces.{asked_numbers}
 use Rattle.state.specs.Node.{kept_list}
 use Rattle.state.specs.Fits.{AskedFits}
 use Rattle.state.specs.State.{line_of}
@@ -28,8 +29,8 @@ use Rattle.buffer.specs.Holds.{AtNode}
 use Rattle.buffer.proofs.ReadyLaws.{heard_entering}
 use Rattle.buffer.proofs.HoldsLaws.{node_fits}
 use Rattle.report.specs.declared.Heard.{Heard}
-use Rattle.report.specs.declared.Heard.TheVariants.{Itself, Through}
-use Rattle.report.specs.Clock.{times_of, HeardAt, ParentAt}
+use Rattle.report.specs.declared.Heard.TheVariants.{Itself, Through, Kept}
+use Rattle.report.specs.Clock.{entries_of, times_of, HeardAt, ParentAt}
 
 -- ---- the channels from a place on
 
@@ -74,7 +75,7 @@ fields_long (w ∷ ws) [] h = absurd h
 fields_long (w ∷ ws) (v ∷ vs) h = ap suc (fields_long ws vs h.1)
 
 -- A kept answer has four.
-pub kept_long : (s : List ℕ) (n : ℕ) → AtNode s n → (a : Asked) → (node_at (line_of s) n).asked ≡ some a → length a.entries ≡ 4
+kept_long : (s : List ℕ) (n : ℕ) → AtNode s n → (a : Asked) → (node_at (line_of s) n).asked ≡ some a → length a.entries ≡ 4
 kept_long s n at a e = fields_long (4 ∷ 4 ∷ 4 ∷ 4 ∷ []) a.entries (subst (λ (o : Option Asked). Each AskedFits (kept_list o)) e (node_fits at).asked.1).0.1.1
 
 -- An entry for each parent.
@@ -84,6 +85,7 @@ times_long s n at Itself x = omega (arith, length-map (entering (line_of s).plan
 times_long s n at (Through c) x =
     let ready = at.holds.ready in
     omega (arith, heard_long s ready.fits c x.0, heard_entering s c (record { ready = ready; below = x.0 }), ap (λ (k : ℕ). length (entering (plan_of s) k)) x.1)
+times_long s n at Kept x = omega (arith, ap (λ (o : Option Asked). length (entries_of o)) x.1, kept_long s n at x.0 x.1, four_parents s n at)
 
 -- ---- one parent
 
@@ -104,6 +106,13 @@ module _ (s : List ℕ) (n : ℕ) (at : AtNode s n) where
     pub heard_time : (c : ℕ) → h ≡ Through c → get_or (lane_at (line_of s) c).heard place 0 ≡ get_or (times_of (line_of s) n h) place 0
     unfolding times_of
     heard_time c e = rw e
+
+    pub kept_time : h ≡ Kept → HeardAt s n h → (r : ℕ) → ((a : Asked) → (node_at (line_of s) n).asked ≡ some a → r ≡ get_or (asked_numbers a) (2 + place) 0) → r ≡ get_or (times_of (line_of s) n h) place 0
+    unfolding times_of
+    kept_time e x r is =
+        let y : HeardAt s n Kept = subst (λ (k : Heard). HeardAt s n k) e x in
+        let two : 2 + place ≡ suc (suc place) = omega arith in
+        rw e (is y.0 y.1 ∙ ap (λ (k : ℕ). get_or (asked_numbers y.0) k 0) two ∙ ap (λ (o : Option Asked). get_or (entries_of o) place 0) (sym y.1))
 
     -- The channel that entries are heard through, and one of them.
     pub through_at : (c : ℕ) → h ≡ Through c → HeardAt s n h → Ready s × (c < plan_channels s) × (place < length (lane_at (line_of s) c).heard)

@@ -7,6 +7,7 @@ use Rattle.plan.specs.declared.Record.{Record}
 use Rattle.rules.specs.Line.{fed, made, Entry, Target, Asked, Line, node_at, parents}
 use Rattle.rules.specs.Sheet.{decimal, spaced, text_line, answer_line, status_word, origin_words, entry_line, clock_text, node_and_time, target_word, kept_text, node_text}
 use Rattle.rules.proofs.Lists.ListLaws.{nil_right}
+use Rattle.report.specs.Clock.{times_of}
 use Rattle.report.specs.Parts.{after, origin_after, record_after, head_line, log_text, clock_line, kept_line, restored_words, target_words}
 
 pub spaced-after : (w : List ℕ) (ws : List (List ℕ)) → spaced (w ∷ ws) ≡ w ++ after ws
@@ -76,7 +77,7 @@ kept_none l n e = ap (kept_text (parents l.plan n) (node_at l n).targets) e
 
 pub kept_parts : (l : Line) (n : ℕ) (a : Asked) → (node_at l n).asked ≡ some a
     → kept_line l n ≡ (81 ∷ []) ++ (((32 ∷ decimal a.low) ++ (32 ∷ decimal a.high)) ++ (after (restored_words l n) ++ (after (target_words l n) ++ 10 ∷ [])))
-unfolding kept_line
+unfolding kept_line times_of
 kept_parts l n a e =
     let words : List (List ℕ) = zip_with node_and_time (parents l.plan n) a.entries in
     let numbers : List ℕ = (32 ∷ decimal a.low) ++ (32 ∷ decimal a.high) in

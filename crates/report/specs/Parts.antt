@@ -3,9 +3,10 @@ use Rattle.std.specs.Prelude.{ℕ}
 use mathlib.Core.List.{List, [], ◌∷◌, map, zip_with}
 use Rattle.plan.specs.declared.Record.{Record}
 use Rattle.rules.specs.Lists.{joined}
-use Rattle.std.proofs.Math.Option.{Option, none, some}
-use Rattle.rules.specs.Line.{Origin, Asked, Line, node_at, parents}
+use Rattle.rules.specs.Line.{Origin, Line, node_at, parents}
 use Rattle.rules.specs.Sheet.{decimal, text_line, status_word, origin_words, entry_line, clock_text, node_and_time, target_word, kept_text}
+use Rattle.report.specs.declared.Heard.TheVariants.{Kept}
+use Rattle.report.specs.Clock.{times_of}
 
 -- Words, each behind a space.
 abbrev pub after : List (List ℕ) → List ℕ
@@ -29,14 +30,9 @@ clock_line l n = text_line ((84 ∷ []) ∷ clock_text l n ∷ [])
 unfoldable pub kept_line : Line → ℕ → List ℕ
 kept_line l n = kept_text (parents l.plan n) (node_at l n).targets (node_at l n).asked
 
--- A kept answer's entries.
-abbrev pub entries_of : Option Asked → List ℕ
-entries_of none = []
-entries_of (some a) = a.entries
-
 -- The words behind low and high: the parents with their restored entries, and the targets.
 abbrev pub restored_words : Line → ℕ → List (List ℕ)
-restored_words l n = zip_with node_and_time (parents l.plan n) (entries_of (node_at l n).asked)
+restored_words l n = zip_with node_and_time (parents l.plan n) (times_of l n Kept)
 
 abbrev pub target_words : Line → ℕ → List (List ℕ)
 target_words l n = map target_word (node_at l n).targets

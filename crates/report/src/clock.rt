@@ -27,6 +27,7 @@ fn parent_time(s: &[u8], n: usize, h: Heard, place: usize, channel: usize) -> u3
     match h {
         Heard::Itself => channel_fields::taken_of(s, channel),
         Heard::Through(c) => channel_fields::heard_of(s, c, place),
+        Heard::Kept => node_fields::kept_number(s, n, 2 + place),
     }
 }
 

@@ -15,11 +15,12 @@ pub mod kept;
 pub mod node;
 pub mod text;
 
-// Whose entries for a node's parents are listed: the node's own, or those that a child has heard through its channel from the node.
+// Whose entries for a node's parents are listed: the node's own, those that a child has heard through its channel from the node, or those of the node's kept answer.
 #[derive(Clone, Copy)]
 pub enum Heard {
     Itself,
     Through(usize),
+    Kept,
 }
 
 // "The sheet opens with the fixed line LINE 1."
