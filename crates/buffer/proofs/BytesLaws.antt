@@ -3,14 +3,17 @@ use Prim.Native.Nat.{ℕ, zero, suc, ◌+◌, ◌*◌, ◌-◌, ◌≤◌, ◌<�
 use mathlib.Core.Path.{◌≡◌, refl, sym, ap, ◌∙◌}
 use mathlib.Core.Bool.{Bool, true, false, ◌&&◌, and_assoc, and-true}
 use mathlib.Core.List.{List, [], ◌∷◌, ◌++◌}
-use native.Mathlib.Nat.{add-zero}
+use native.Mathlib.Nat.{add-zero, div-one}
+use native.Mathlib.Numerals.{add-one}
+use borrow.Rule.Slice.PartMut.{put_mid}
+use Rattle.std.specs.Int.{w16, w32, w64, to_be_bytes}
 use native.Mathlib.Omega.{arith}
 use borrow.Author.Tests.{ne_eqb, eqb-true}
 use lib.Dec.{eqb, eqb-zero-suc, eqb-suc-zero}
 use lib.Bits.{bit_or, or_zero_l, or_add_and, and_le_r}
-use lib.ListN.{length, get_or, take, drop, set, replicate, length-drop}
-use lib.Seq.{length-take-le, take-suc, take_all, take-add, drop-cons, drop-drop, get_or-drop, paste, paste-suc}
-use Rattle.plan.specs.Layout.{spelled}
+use lib.ListN.{length, get_or, take, drop, replicate, length-drop}
+use lib.Seq.{length-take-le, take-suc, take-add, drop-cons, drop-drop, get_or-drop}
+use Rattle.plan.specs.Layout.{spelled, bytes_of}
 use Rattle.plan.specs.Lawful.{Zeros}
 use Rattle.state.specs.State.{same_bytes}
 use Rattle.basics.specs.Bools.{both_true}
@@ -47,13 +50,8 @@ zero_more [] b = one (eqb 0 b)
 zero_more (x ∷ s) b = and_assoc (eqb 0 x) (zero_bytes s) (eqb 0 b) ∙ ap (λ (t : Bool). eqb 0 x && t) (zero_more s b)
 
 -- One byte more.
-pub zero_turn : (s : List ℕ) (from i seen : ℕ) → from ≤ i → i < length s → eqb 0 seen ≡ zero_bytes (take (i - from) (drop from s))
-    → eqb 0 (bit_or seen (get_or s i 0)) ≡ zero_bytes (take (i + 1 - from) (drop from s))
-zero_turn s from i seen l m e =
-    let more : i + 1 - from ≡ suc (i - from) = omega arith in
-    let here : from + (i - from) ≡ i = omega arith in
-    let below : i - from < length (drop from s) = simp length-drop (omega arith) in
-    rw (or_zero seen (get_or s i 0), e, more, take-suc (drop from s) (i - from) 0 below, get_or-drop, here) (zero_more (take (i - from) (drop from s)) (get_or s i 0))
+pub zero_turn : (s : List ℕ) (i seen : ℕ) → i < length s → eqb 0 seen ≡ zero_bytes (take i s) → eqb 0 (bit_or seen (get_or s i 0)) ≡ zero_bytes (take (i + 1) s)
+zero_turn s i seen h e = rw (or_zero seen (get_or s i 0), e, add-one i, take-suc s i 0 h) (zero_more (take i s) (get_or s i 0))
 
 pub zero_test : (n : ℕ) → eqb n 0 ≡ eqb 0 n
 zero_test zero = refl
@@ -95,14 +93,22 @@ pub zero_same : (s : List ℕ) → same_bytes (replicate (length s) 0) s ≡ zer
 zero_same [] = refl
 zero_same (b ∷ s) = ap (λ (t : Bool). eqb 0 b && t) (zero_same s)
 
--- ---- bytes written one by one
+-- ---- a number's bytes written
 
-pub paste_turn : (d : List ℕ) (at : ℕ) (s : List ℕ) (j i : ℕ) → at + j ≡ i → i < length d → j < length s → set (paste d at s j) i (get_or s j 0) ≡ paste d at s (suc j)
-paste_turn d at s j i e l h = ap (λ (k : ℕ). set (paste d at s j) k (get_or s j 0)) (sym e) ∙ paste-suc d at s j 0 (omega arith) h
+pub number_put : (s : List ℕ) (at n : ℕ) (bs : List ℕ) → length bs ≡ n → put_mid at (at + n - at) s bs ≡ put s at bs
+unfolding put
+number_put s at n bs e =
+    let long : at + n - at ≡ n = omega arith in
+    rw (long, ← e, drop-drop (length bs) at s) refl
 
--- All of them.
-pub paste_all : (d : List ℕ) (at : ℕ) (s : List ℕ) (n to : ℕ) → length s ≡ n → at + n ≡ to → paste d at s n ≡ take at d ++ s ++ drop to d
-paste_all d at s n to e f = rw (take_all n s (omega arith), f)
+pub be_two : (v : ℕ) → to_be_bytes w16 v ≡ bytes_of 2 v
+be_two v = rw div-one refl
+
+pub be_four : (v : ℕ) → to_be_bytes w32 v ≡ bytes_of 4 v
+be_four v = rw div-one refl
+
+pub be_eight : (v : ℕ) → to_be_bytes w64 v ≡ bytes_of 8 v
+be_eight v = rw div-one refl
 
 -- ---- bytes moved down over a gap, and what they leave
 

@@ -6,6 +6,5 @@ pub mod ReadyLaws
 pub mod LookLaws
 pub mod SetLaws
 pub mod OriginLaws
-pub mod TableLaws
+pub mod JoinLaws
 pub mod HoldsLaws
-pub mod MaskWalk

@@ -5,7 +5,7 @@ use mathlib.Core.Bool.{Bool, true, false, not, ◌&&◌, ◌||◌, and-true, and
 use mathlib.Core.List.{List}
 use mathlib.Core.Option.{none, some}
 use native.Mathlib.Omega.{arith}
-use borrow.Author.Tests.{lt-ltb, ne_eqb, eqb-true, eqb-false}
+use borrow.Author.Tests.{lt-ltb, ne_eqb}
 use lib.Seq.{take-take, drop-drop}
 use lib.Dec.{lit≤, leb, ltb, eqb, eqb-suc-zero}
 use lib.ListN.{length, get_or, take, drop, length-map}
@@ -31,11 +31,9 @@ use Rattle.state.proofs.HeardLaws.{heard_few}
 use Rattle.items.specs.Items.{from_sender, place_from, if_found, record_right, before_right, origin_right}
 use Rattle.buffer.specs.Exact.{record_exact, time_named}
 use Rattle.buffer.specs.Ready.{Ready}
-use Rattle.buffer.specs.Table.{code_or}
 use Rattle.buffer.specs.Check.{record_in}
 use Rattle.buffer.proofs.ReadyLaws.{counted}
 use Rattle.buffer.proofs.LookLaws.{place_below}
-use Rattle.buffer.proofs.TableLaws.{coded, not_found}
 
 -- ---- records
 
@@ -153,11 +151,3 @@ module _ (s : List ℕ) (ready : Ready s) where
 
     pub origin-named : (q t e u : ℕ) → (q ≡ 0 → ⊥) → (time_named e u && origin_right l n (made (q - 1) t) (origin_from e u)) ≡ ((time_named q t && time_named e u) && origin_right l n (origin_from q t) (origin_from e u))
     origin-named q t e u z = sym (ap₂ ◌&&◌ (ap (λ (v : Bool). v && time_named e u) (named_some q t z)) (ap (λ (o : Origin). origin_right l n o (origin_from e u)) (origin_some t q z)))
-
-    -- A sender's code, as what is asked of a parent.
-    pub parent_coded : (q code : ℕ) → code ≡ code_or p (from_sender p q (entering p n)) → not (eqb code 255) ≡ if_found (from_sender l.plan q (entering l.plan n)) (λ (b : ℕ). true)
-    parent_coded q code is = rw (line-plan s) (one (eqb code 255) refl)
-      where
-        one : (v : Bool) → eqb code 255 ≡ v → not v ≡ if_found (from_sender p q (entering p n)) (λ (b : ℕ). true)
-        one true e = rw (not_found s ready q n code is (eqb-true code 255 e)) refl
-        one false e = rw (coded s ready q n code is (eqb-false code 255 e)).found refl

@@ -7,15 +7,13 @@ use native.Mathlib.Omega.{arith}
 use native.Mathlib.Decide.{dec_lt}
 use borrow.Author.Tests.{eq-eqb, ne_eqb, lt-ltb}
 use lib.Dec.{ltb, eqb}
-use lib.ListN.{length, get_or, take, drop, length-map}
-use Rattle.plan.specs.Layout.{spelled}
+use lib.ListN.{length, get_or, length-map}
 use Rattle.plan.specs.Plan.{plan_of, plan_nodes, plan_channels, node_count, channel_count, channel_at, entering}
 use Rattle.plan.proofs.AcceptedLaws.{four_at}
 use Rattle.plan.proofs.FitsLaws.{fitting}
 use Rattle.plan.proofs.PlanLaws.{node_count_lem, channel_count_lem}
-use Rattle.plan.proofs.ReadLaws.{byte_field}
-use Rattle.rules.specs.Line.{node_at, lane_at, is_down, is_replay, parents, console_count, steps_from}
-use Rattle.rules.specs.Step.{is_nothing, node_down, replaying}
+use Rattle.rules.specs.Line.{replay, node_at, lane_at, parents, console_count, steps_from}
+use Rattle.rules.specs.Step.{is_nothing}
 use Rattle.rules.proofs.Steps.PlanOrder.{ordered_channels}
 use Rattle.state.specs.Sizes.{page_at, kept_at, steps_of_at}
 use Rattle.state.specs.Node.{status_of, crash_of}
@@ -50,32 +48,21 @@ kept_counted s ready n inside kept e = elim (dec_lt 0 kept) [
 
 -- ---- a node's status
 
-down_byte : (n : ℕ) → eqb n 1 ≡ is_down (status_of n)
-down_byte zero = refl
-down_byte (suc zero) = refl
-down_byte (suc (suc n)) = ne_eqb (suc (suc n)) 1 (λ e. omega arith)
-
-replay_byte : (n : ℕ) → ltb 1 n ≡ is_replay (status_of n)
-replay_byte zero = refl
-replay_byte (suc zero) = refl
-replay_byte (suc (suc n)) = lt-ltb 1 (suc (suc n)) (omega arith)
+pub replaying_more : (n : ℕ) → (n ≡ 0 → ⊥) → (n ≡ 1 → ⊥) → replay ≡ status_of n
+replaying_more zero h k = absurd (h refl)
+replaying_more (suc zero) h k = absurd (k refl)
+replaying_more (suc (suc n)) h k = refl
 
 crash_byte : (n : ℕ) → ltb 0 n ≡ crash_of n
 crash_byte zero = refl
 crash_byte (suc n) = lt-ltb 0 (suc n) (omega arith)
 
 module _ (s : List ℕ) (ready : Ready s) (n : ℕ) (inside : n < plan_nodes s) where
-  status_byte : status_of (spelled 0 (take 1 (drop (page_at n) s))) ≡ (node_at (line_of s) n).status
-  status_byte = ap status_of (byte_field (page_at n) s ∙ ap (λ (a : ℕ). get_or s a 0) (sym (add-zero (page_at n)))) ∙ sym (line_status s (counted ready) n inside)
+  pub status_byte : status_of (get_or s (page_at n) 0) ≡ (node_at (line_of s) n).status
+  status_byte = ap (λ (a : ℕ). status_of (get_or s a 0)) (sym (add-zero (page_at n))) ∙ sym (line_status s (counted ready) n inside)
 
-  pub down_at : eqb (spelled 0 (take 1 (drop (page_at n) s))) 1 ≡ node_down (line_of s) n
-  down_at = down_byte (spelled 0 (take 1 (drop (page_at n) s))) ∙ ap is_down status_byte
-
-  pub replaying-at : ltb 1 (spelled 0 (take 1 (drop (page_at n) s))) ≡ replaying (line_of s) n
-  replaying-at = replay_byte (spelled 0 (take 1 (drop (page_at n) s))) ∙ ap is_replay status_byte
-
-  pub crashed_at_lem : ltb 0 (spelled 0 (take 1 (drop (page_at n + 1) s))) ≡ (node_at (line_of s) n).crashed
-  crashed_at_lem = crash_byte (spelled 0 (take 1 (drop (page_at n + 1) s))) ∙ ap crash_of (byte_field (page_at n + 1) s) ∙ sym (line_crashed s (counted ready) n inside)
+  pub crashed_lem : ltb 0 (get_or s (page_at n + 1) 0) ≡ (node_at (line_of s) n).crashed
+  crashed_lem = crash_byte (get_or s (page_at n + 1) 0) ∙ sym (line_crashed s (counted ready) n inside)
 
 -- ---- a channel's ends and what is heard on it
 

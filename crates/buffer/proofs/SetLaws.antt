@@ -11,6 +11,7 @@ use lib.Dec.{eqb}
 use lib.ListN.{length, get_or, drop, length-drop}
 use lib.Seq.{get_or-drop}
 use lib.Pow.{pow_pos, pow_mono}
+use Rattle.std.specs.Int.{from_bool}
 use Rattle.plan.specs.declared.Record.{Record}
 use Rattle.plan.specs.declared.Channel.{Channel}
 use Rattle.plan.specs.Channel.{takes}
@@ -24,6 +25,11 @@ use Rattle.rules.proofs.Steps.PlanOrder.{senders_rise, ordered_channels}
 use Rattle.buffer.specs.Ready.{OnChannel}
 use Rattle.buffer.specs.Sets.{LeaveFrom, Begin, BitOf}
 use Rattle.buffer.proofs.LookLaws.{numbers_on, numbers_turn, numbers_end}
+
+-- A bit where a test holds.
+pub taken_bit : (t : Bool) (bit : ℕ) → from_bool t * bit ≡ cond t bit 0
+taken_bit true bit = omega arith
+taken_bit false bit = omega arith
 
 none-numbered : (f : Channel → Bool) (k : ℕ) (cs : List Channel) → ((j : ℕ) → j < length cs → f (get_or cs j no_channel) ≡ false) → numbers_from k f cs ≡ []
 none-numbered f k [] h = refl

@@ -6,6 +6,8 @@ pub mod Ready
 pub mod Sets
 pub mod Look
 pub mod Table
+pub mod Joins
+pub mod Status
 pub mod Check
 pub mod Rows
 pub mod Nothing

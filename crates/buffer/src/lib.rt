@@ -2,12 +2,13 @@
 #![tactic(auto)]
 
 pub mod bytes;
+pub mod joins;
 pub mod layout;
 pub mod look;
 pub mod origin;
 pub mod record;
 pub mod sets;
-pub mod table;
+pub mod status;
 
 // The line as a type, which has its own limits (document 01, "The limits belong to the line itself"). A line's values lie in its buffer.
 #[derive(Clone, Copy)]

@@ -7,22 +7,18 @@ ghost use Rattle.rules.specs.Line.{console_count, steps_from, node_at};
 ghost use Rattle.rules.specs.Step.{node_down, replaying};
 ghost use Rattle.state.specs.State.{line_of};
 ghost use Rattle.buffer.specs.Ready.{Ready, OnChannel};
+ghost use Rattle.buffer.specs.Status.{status_is};
 
+use crate::status::Status;
 use crate::{bytes, layout};
 use plan::Channel;
-
-pub fn index(b: u8) -> usize
-    ensures { (result ≡ b) × (result < 256) }
-{
-    b as usize
-}
 
 // How many nodes the plan has.
 pub fn node_count(s: &[u8]) -> usize
     requires { Ready s.now }
     ensures { (result ≡ plan_nodes s.now) × (result ≤ 12) }
 {
-    index(s[3])
+    usize::from(s[3])
 }
 
 // How many channels the plan has.
@@ -30,7 +26,7 @@ pub fn channel_count(s: &[u8]) -> usize
     requires { Ready s.now }
     ensures { (result ≡ plan_channels s.now) × (result ≤ 24) }
 {
-    index(s[4])
+    usize::from(s[4])
 }
 
 // These four read as `plan` does, but do not look for the end of the bytes, which is far behind a ready state's plan.
@@ -88,7 +84,7 @@ pub fn sender_of(s: &[u8], b: usize) -> usize
     ensures { (result ≡ (channel_at (plan_of s.now) b).sender) × (result < plan_nodes s.now) }
 {
     let at = channel_from(s, b);
-    index(s[at])
+    usize::from(s[at])
 }
 
 pub fn receiver_of(s: &[u8], b: usize) -> usize
@@ -96,7 +92,7 @@ pub fn receiver_of(s: &[u8], b: usize) -> usize
     ensures { (result ≡ (channel_at (plan_of s.now) b).receiver) × (result < plan_nodes s.now) }
 {
     let at = channel_from(s, b);
-    index(s[at + 1])
+    usize::from(s[at + 1])
 }
 
 // Whether no channel enters a node.
@@ -104,7 +100,7 @@ pub fn is_source(s: &[u8], node: usize) -> bool
     requires { Ready s.now }
     ensures { result ≡ is_source (plan_of s.now) node }
 {
-    plan::masks::entering_mask(s, node) == 0
+    plan::masks::entering(s, node).is_empty()
 }
 
 // Whether no channel leaves a node.
@@ -112,7 +108,19 @@ pub fn is_sink(s: &[u8], node: usize) -> bool
     requires { Ready s.now }
     ensures { result ≡ is_sink (plan_of s.now) node }
 {
-    plan::masks::leaving_mask(s, node) == 0
+    plan::masks::leaving(s, node).is_empty()
+}
+
+// A node's status.
+pub fn status_of(s: &[u8], n: usize) -> Status
+    requires { Ready s.now × (n < plan_nodes s.now) }
+    ensures { status_is result ≡ (node_at (line_of s.now) n).status }
+{
+    match s[layout::PAGE * (1 + n)] {
+        0 => Status::Up,
+        1 => Status::Down,
+        _ => Status::Replaying,
+    }
 }
 
 // Whether a node is down.
@@ -120,7 +128,7 @@ pub fn is_down(s: &[u8], n: usize) -> bool
     requires { Ready s.now × (n < plan_nodes s.now) }
     ensures { result ≡ node_down (line_of s.now) n }
 {
-    bytes::get8(s, layout::PAGE * (1 + n)) == 1
+    status_of(s, n) == Status::Down
 }
 
 // Whether a node replays.
@@ -128,7 +136,7 @@ pub fn is_replaying(s: &[u8], n: usize) -> bool
     requires { Ready s.now × (n < plan_nodes s.now) }
     ensures { result ≡ replaying (line_of s.now) n }
 {
-    1 < bytes::get8(s, layout::PAGE * (1 + n))
+    status_of(s, n) == Status::Replaying
 }
 
 // Whether a node bears a crash mark.
@@ -136,7 +144,7 @@ pub fn has_crashed(s: &[u8], n: usize) -> bool
     requires { Ready s.now × (n < plan_nodes s.now) }
     ensures { result ≡ (node_at (line_of s.now) n).crashed }
 {
-    0 < bytes::get8(s, layout::PAGE * (1 + n) + 1)
+    0 < s[layout::PAGE * (1 + n) + 1]
 }
 
 // The steps accepted from a console.

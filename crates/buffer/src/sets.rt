@@ -1,11 +1,12 @@
 // The set of the channels that leave a node and take a record (document 02, 2026-06), by the plan at a state's front. Channels rise by their sender, so those of a node stand together.
-ghost use Rattle.std.specs.Prelude.{◌≡◌, cond, ◌<◌};
+ghost use Rattle.std.specs.Prelude.{◌≡◌, ◌<◌};
 ghost use Rattle.plan.specs.Plan.{plan_of, plan_nodes, is_sink};
 ghost use Rattle.plan.specs.Mask.{set_of};
 ghost use Rattle.buffer.specs.Ready.{Ready, OnChannel};
 ghost use Rattle.buffer.specs.Sets.{LeaveFrom, Begin, BitOf};
 
 use crate::look;
+use plan::Record;
 
 // Where the channels that leave a node begin: at a channel before which none does, or behind it.
 pub fn leaving_from(s: &[u8], n: usize, from: usize) -> usize
@@ -13,14 +14,12 @@ pub fn leaving_from(s: &[u8], n: usize, from: usize) -> usize
     ensures { Begin (plan_of s.now) n result }
 {
     let m = look::channel_count(s);
-    let mut b = from;
-    while b < m {
+    for b in from..m {
         if n <= look::sender_of(s, b) {
             return b;
         }
-        b += 1;
     }
-    b
+    m.max(from)
 }
 
 // Whether no channel leaves a node, by where they would begin.
@@ -34,29 +33,20 @@ pub fn none_leaves(s: &[u8], n: usize, first: usize) -> bool
     look::sender_of(s, first) != n
 }
 
-fn bit_if(t: bool, bit: u8) -> u8
-    ensures { result ≡ cond t bit 0 }
-{
-    if t { bit } else { 0 }
-}
-
-// The set of the channels that leave a node and take a record, by its fields; the first of them is given.
-pub fn set_of(s: &[u8], n: usize, first: usize, piece: u32, material: u8, mass: u16) -> u8
+// The set of the channels that leave a node and take a record; the first of them is given.
+pub fn set_for(s: &[u8], n: usize, first: usize, r: Record) -> u8
     requires { Ready s.now × (n < plan_nodes s.now) × Begin (plan_of s.now) n first }
-    ensures { result ≡ set_of (plan_of s.now) n (record { piece = piece; material = material; mass = mass }) }
+    ensures { result ≡ set_of (plan_of s.now) n r }
 {
-    let m = look::channel_count(s);
-    let mut b = first;
     let mut set: u8 = 0;
     let mut bit: u8 = 1;
-    while b < m {
+    for b in first..look::channel_count(s) {
         if look::sender_of(s, b) != n {
             return set;
         }
-        let c = look::channel_of(s, b);
-        set += bit_if(plan::channels::takes_fields(c, piece, material, mass), bit);
+        let takes = plan::channels::channel_takes(look::channel_of(s, b), r);
+        set += u8::from(takes) * bit;
         bit *= 2;
-        b += 1;
     }
     set
 }
@@ -68,12 +58,10 @@ pub fn bit_of(s: &[u8], b: usize) -> u8
 {
     let n = look::sender_of(s, b);
     let mut bit: u8 = 0;
-    let mut k = b;
-    while 0 < k {
-        if look::sender_of(s, k - 1) != n {
+    for k in (0..b).rev() {
+        if look::sender_of(s, k) != n {
             return bit;
         }
-        k -= 1;
         bit += 1;
     }
     bit

@@ -1,7 +1,7 @@
 -- Messages in the state's bytes.
 use Prim.Native.Nat.{ℕ, ◌+◌, ◌-◌, ◌≤◌}
 use mathlib.Core.Path.{◌≡◌, refl, sym, ap, ◌∙◌}
-use mathlib.Core.Bool.{Bool, true, false, not, ◌&&◌, and-true}
+use mathlib.Core.Bool.{Bool, true, false, ◌&&◌, and-true}
 use mathlib.Core.List.{List}
 use native.Mathlib.Omega.{arith}
 use borrow.Author.Tests.{eq-eqb, ne_eqb}
@@ -9,31 +9,30 @@ use lib.Bits.{bit_or}
 use lib.Dec.{eqb}
 use lib.ListN.{length, get_or}
 use Rattle.plan.specs.Plan.{plan_of, entering, is_source}
-use Rattle.rules.specs.Line.{Message}
+use Rattle.rules.specs.Line.{Message, accepted_steps}
 use Rattle.state.specs.Pieces.{origin_from}
 use Rattle.state.specs.Right.{word_at}
 use Rattle.state.specs.State.{line_of}
 use Rattle.state.proofs.InPlace.{line-plan}
-use Rattle.items.specs.Items.{from_sender, time_right, record_right, named_right}
+use Rattle.items.specs.Items.{if_found, from_sender, time_right, record_right, named_right}
 use Rattle.buffer.specs.Exact.{zero_at, record_exact, time_named, origin_exact, message_exact}
-use Rattle.buffer.specs.Table.{code_or}
-use Rattle.buffer.specs.Check.{Tabled, record_in}
+use Rattle.buffer.specs.Check.{record_in}
 use Rattle.buffer.proofs.BytesLaws.{three_zero}
 use Rattle.buffer.proofs.PieceReads.{message_in}
-use Rattle.buffer.proofs.OriginLaws.{origin-none, origin_some, parent_coded}
+use Rattle.buffer.proofs.OriginLaws.{origin-none, origin_some}
 use Rattle.channel_check.specs.Channel.{message_at, message_ok}
 
 -- ---- what node n made something from
 
-module _ (s table : List ℕ) (steps : ℕ) (counted : Tabled s table steps) (n : ℕ) where
+module _ (s : List ℕ) (steps : ℕ) (all : steps ≡ accepted_steps (line_of s)) (n : ℕ) where
   pub named_fed : (from t : ℕ) → from ≡ 0 → (eqb t 0 && is_source (plan_of s) n) ≡ (time_named from t && named_right (line_of s) n (origin_from from t))
   unfolding named_right
   named_fed from t e = rw (eq-eqb from 0 e, origin-none t from e, line-plan s) refl
 
-  pub named_made : (from t code : ℕ) → (from ≡ 0 → ⊥) → code ≡ code_or (plan_of s) (from_sender (plan_of s) (from - 1) (entering (plan_of s) n))
-      → (time_right steps t && not (eqb code 255)) ≡ (time_named from t && named_right (line_of s) n (origin_from from t))
+  pub named_made : (from t : ℕ) (parent : Bool) → (from ≡ 0 → ⊥) → parent ≡ if_found (from_sender (line_of s).plan (from - 1) (entering (line_of s).plan n)) (λ (b : ℕ). true)
+      → (time_right steps t && parent) ≡ (time_named from t && named_right (line_of s) n (origin_from from t))
   unfolding named_right
-  named_made from t code h is = rw (ne_eqb from 0 h, origin_some t from h, parent_coded s counted.ready n (from - 1) code is, counted.same) refl
+  named_made from t parent h is = rw (ne_eqb from 0 h, origin_some t from h, is, all) refl
 
 -- ---- a message
 

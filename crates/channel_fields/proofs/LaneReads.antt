@@ -13,6 +13,8 @@ use Rattle.state.specs.State.{line_of}
 use Rattle.state.specs.Right.{word_at}
 use Rattle.state.proofs.OffsetLaws.{line-mark, line_taken, line-heard_at, line-queue_at, line-low_at}
 use Rattle.state.proofs.PlanFitting.{few_heard, heard_long, low_long}
+use Rattle.slots.specs.List.{Whole}
+use lib.Dec.{lit<}
 use Rattle.buffer.specs.Ready.{Ready}
 use Rattle.buffer.specs.Holds.{AtLane}
 use Rattle.buffer.specs.Nothing.{no_message}
@@ -54,3 +56,7 @@ module _ (s : List ℕ) (b : ℕ) (at : AtLane s b) where
 
   pub first_read : 0 < length on.queue → message_layout.read (take message_size (drop (block_at b + (queue_at + count_size)) s)) ≡ get_or on.queue 0 no_message
   first_read h = sym (line-queue_at s (counted at.holds.ready) b at.below 0 no_message (rw queue_word h) (omega arith))
+
+  -- The queue with its slots lies within the state.
+  pub queue_whole : Whole (record { at = queue_at; slot = message_size }) s (block_at b)
+  queue_whole = record { long = omega (arith, at.holds.ready.long); slots = omega (arith, queue_word, queue_few, at.below, at.holds.ready.channels, at.holds.ready.long); size = lit< tt; few = omega (arith, queue_word, queue_few) }

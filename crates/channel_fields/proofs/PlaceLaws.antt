@@ -1,20 +1,17 @@
 -- The place of a node among the parents of another, looked for one channel at a time.
-use Prim.Native.Nat.{ℕ, ◌+◌, ◌≤◌, ◌<◌}
+use Prim.Native.Nat.{ℕ, ◌≤◌, ◌<◌}
 use mathlib.Core.Path.{◌≡◌, refl, sym, ap, ◌∙◌}
-use mathlib.Core.Bool.{Bool, true, false, ◌&&◌, and-false}
+use mathlib.Core.Bool.{true, ◌&&◌}
 use mathlib.Core.List.{List}
-use mathlib.Core.Logic.{◌≢◌}
-use native.Mathlib.Nat.{add-zero}
-use native.Mathlib.Numerals.{add-one}
+use mathlib.Core.Option.{none, some}
 use native.Mathlib.Omega.{arith}
 use lib.Dec.{eqb}
-use borrow.Author.Tests.{eq-eqb, ne_eqb}
+use borrow.Author.Tests.{eq-eqb}
 use Rattle.plan.specs.declared.Channel.{Channel}
 use Rattle.plan.specs.Plan.{plan_of, plan_channels, channel_at, entering}
 use Rattle.plan.proofs.PlanLaws.{channel_count_lem}
 use Rattle.items.specs.Items.{place_from}
-use Rattle.buffer.specs.Look.{number_or}
-use Rattle.buffer.proofs.LookLaws.{place_on, place_found, place_turn, numbers_end}
+use Rattle.buffer.proofs.LookLaws.{place_on, place_found, numbers_end}
 
 module _ (s : List ℕ) (q n : ℕ) where
   -- None of the channels before b is from the one node to the other; so many of them enter the other.
@@ -28,30 +25,11 @@ module _ (s : List ℕ) (q n : ℕ) where
   placing_start = record { within = omega arith; few = omega arith; placed = refl }
 
   module _ (place b : ℕ) (now : Placing place b) (here : b < plan_channels s) where
-    pub placing_found : (channel_at (plan_of s) b).receiver ≡ n → (channel_at (plan_of s) b).sender ≡ q → place ≡ number_or 4 (place_from (plan_of s) q 0 (entering (plan_of s) n))
+    pub placing_found : (channel_at (plan_of s) b).receiver ≡ n → (channel_at (plan_of s) b).sender ≡ q → some place ≡ place_from (plan_of s) q 0 (entering (plan_of s) n)
     placing_found to from =
         let both : (eqb (channel_at (plan_of s) b).sender q && eqb (channel_at (plan_of s) b).receiver n) ≡ true = rw (eq-eqb (channel_at (plan_of s) b).sender q from, eq-eqb (channel_at (plan_of s) b).receiver n to) in
-        sym (ap (number_or 4) (now.placed ∙ place_found (plan_of s) q n place b (rw channel_count_lem here) both))
+        sym (now.placed ∙ place_found (plan_of s) q n place b (rw channel_count_lem here) both)
 
-    pub placing_more : (channel_at (plan_of s) b).receiver ≡ n → (channel_at (plan_of s) b).sender ≢ q → Placing (place + 1) (b + 1)
-    placing_more to from =
-        let no : (eqb (channel_at (plan_of s) b).sender q && eqb (channel_at (plan_of s) b).receiver n) ≡ false = rw (ne_eqb (channel_at (plan_of s) b).sender q from) in
-        record {
-          within = omega arith;
-          few = omega (arith, now.few);
-          placed = now.placed ∙ place_turn (plan_of s) q n place b (rw channel_count_lem here) no ∙ rw (eq-eqb (channel_at (plan_of s) b).receiver n to, add-one b);
-        }
-
-    pub placing_other : (channel_at (plan_of s) b).receiver ≢ n → Placing place (b + 1)
-    placing_other to =
-        let no : (eqb (channel_at (plan_of s) b).sender q && eqb (channel_at (plan_of s) b).receiver n) ≡ false =
-        ap (λ (t : Bool). eqb (channel_at (plan_of s) b).sender q && t) (ne_eqb (channel_at (plan_of s) b).receiver n to) ∙ and-false (eqb (channel_at (plan_of s) b).sender q) in
-        record {
-          within = omega arith;
-          few = omega (arith, now.few);
-          placed = now.placed ∙ place_turn (plan_of s) q n place b (rw channel_count_lem here) no ∙ rw (ne_eqb (channel_at (plan_of s) b).receiver n to, add-zero place, add-one b);
-        }
-
-  pub placing_end : (place b : ℕ) → Placing place b → plan_channels s ≤ b → 4 ≡ number_or 4 (place_from (plan_of s) q 0 (entering (plan_of s) n))
+  pub placing_end : (place b : ℕ) → Placing place b → plan_channels s ≤ b → none ≡ place_from (plan_of s) q 0 (entering (plan_of s) n)
   placing_end place b now past =
-      sym (ap (number_or 4) (now.placed ∙ ap (place_from (plan_of s) q place) (numbers_end (plan_of s) (λ (c : Channel). eqb c.receiver n) b (rw channel_count_lem past))))
+      sym (now.placed ∙ ap (place_from (plan_of s) q place) (numbers_end (plan_of s) (λ (c : Channel). eqb c.receiver n) b (rw channel_count_lem past)))

@@ -1,5 +1,5 @@
 -- What is heard, raised by what a message was made from: the entry of that parent alone, at its place.
-use Prim.Native.Nat.{ℕ, suc, ◌+◌, ◌-◌, ◌≤◌, ◌<◌, max}
+use Prim.Native.Nat.{ℕ, suc, ◌+◌, ◌<◌, max}
 use mathlib.Core.Path.{◌≡◌, refl, sym, ap, ◌∙◌}
 use mathlib.Core.Logic.{◌≢◌}
 use mathlib.Core.Bool.{Bool, true, false, cond}
@@ -16,18 +16,15 @@ use Rattle.rules.specs.Clock.{raise_heard}
 use Rattle.rules.proofs.Lists.Members.{In, here, there}
 use Rattle.rules.proofs.Lists.Options.{none_some, some_same}
 use Rattle.rules.proofs.Steps.PlanOrder.{ordered_channels}
-use Rattle.state.specs.Pieces.{origin_from}
-use Rattle.state.specs.Lane.{with_heard, heard_count}
+use Rattle.state.specs.Lane.{with_heard}
 use Rattle.state.specs.State.{line_of}
 use Rattle.state.proofs.InPlace.{line-plan}
-use Rattle.state.proofs.PlanFitting.{few_heard, heard_long}
+use Rattle.state.proofs.PlanFitting.{heard_long}
 use Rattle.items.specs.Items.{place_from}
 use Rattle.items.proofs.Lookup.{senders, Apart, alone, beside, entering-apart}
 use Rattle.buffer.specs.Holds.{AtLane}
-use Rattle.buffer.specs.Look.{number_or}
 use Rattle.buffer.proofs.LookLaws.{place_below}
 use Rattle.buffer.proofs.ReadyLaws.{heard_entering}
-use Rattle.buffer.proofs.OriginLaws.{origin-none, origin_some}
 use Rattle.channel_fields.specs.Raised.{heard_to}
 
 pub raise_fed : (ps hs : List ℕ) → raise_heard ps hs fed ≡ hs
@@ -67,7 +64,7 @@ module _ (p : Plan) (q t : ℕ) where
 
 -- ---- on a channel
 
-module _ (s : List ℕ) (b : ℕ) (at : AtLane s b) (from time : ℕ) where
+module _ (s : List ℕ) (b : ℕ) (at : AtLane s b) (o : Origin) where
   abbrev p : Plan
   p = plan_of s
 
@@ -78,40 +75,29 @@ module _ (s : List ℕ) (b : ℕ) (at : AtLane s b) (from time : ℕ) where
   on = lane_at (line_of s) b
 
   abbrev pub raised : Lane
-  raised = with_heard (raise_heard (parents (line_of s).plan (sender_of (line_of s) b)) on.heard (origin_from from time)) on
-
-  parents_known : length entered ≡ heard_count p (channel_at p b)
-  parents_known = heard_entering s b (record { ready = at.holds.ready; below = at.below })
+  raised = with_heard (raise_heard (parents (line_of s).plan (sender_of (line_of s) b)) on.heard o) on
 
   heard_all : length on.heard ≡ length entered
-  heard_all = heard_long s at.holds.ready.fits b at.below ∙ sym parents_known
+  heard_all = heard_long s at.holds.ready.fits b at.below ∙ sym (heard_entering s b (record { ready = at.holds.ready; below = at.below }))
 
-  raised_by : (from ≡ 0 → ⊥) → raised ≡ with_heard (raise_heard (map (λ (c : ℕ). (channel_at p c).sender) entered) on.heard (made (from - 1) time)) on
-  unfolding parents
-  raised_by named =
-      ap (λ (o : Origin). with_heard (raise_heard (parents (line_of s).plan (sender_of (line_of s) b)) on.heard o) on) (origin_some time from named)
-      ∙ ap (λ (r : Plan). with_heard (raise_heard (parents r (channel_at r b).sender) on.heard (made (from - 1) time)) on) (line-plan s)
-
-  pub raised_none : from ≡ 0 → raised ≡ on
+  pub raised_none : o ≡ fed → raised ≡ on
   raised_none e =
-      ap (λ (o : Origin). with_heard (raise_heard (parents (line_of s).plan (sender_of (line_of s) b)) on.heard o) on) (origin-none time from e)
+      ap (λ (x : Origin). with_heard (raise_heard (parents (line_of s).plan (sender_of (line_of s) b)) on.heard x) on) e
       ∙ ap (λ (hs : List ℕ). with_heard hs on) (raise_fed (parents (line_of s).plan (sender_of (line_of s) b)) on.heard)
 
-  module _ (named : from ≡ 0 → ⊥) (place : ℕ) (e : place ≡ number_or 4 (place_from p (from - 1) 0 entered)) where
-    pub raised_here : place < 4 → (place < length on.heard) × (raised ≡ heard_to place time on)
-    raised_here few = one (place_from p (from - 1) 0 entered) refl
-      where
-        one : (o : Option ℕ) → place_from p (from - 1) 0 entered ≡ o → (place < length on.heard) × (raised ≡ heard_to place time on)
-        one none z = let no : ⊥ = omega (arith, e ∙ ap (number_or 4) z) in absurd no
-        one (some i) z =
-            let ordered = ordered_channels p (fitting p at.holds.ready.fits).channels in
-            let (j, is, raises) = raise_placed p (from - 1) time 0 i on.heard (entering-apart p ordered (channel_at p b).sender) heard_all z in
-            let same : j ≡ place = omega (arith, e ∙ ap (number_or 4) z) in
-            (omega (arith, e ∙ ap (number_or 4) z, place_below p (from - 1) 0 i entered z, heard_all), raised_by named ∙ ap (λ (hs : List ℕ). with_heard hs on) (rw same at raises))
+  module _ (q time : ℕ) (named : o ≡ made q time) where
+    raised_by : raised ≡ with_heard (raise_heard (map (λ (c : ℕ). (channel_at p c).sender) entered) on.heard (made q time)) on
+    unfolding parents
+    raised_by =
+        ap (λ (x : Origin). with_heard (raise_heard (parents (line_of s).plan (sender_of (line_of s) b)) on.heard x) on) named
+        ∙ ap (λ (r : Plan). with_heard (raise_heard (parents r (channel_at r b).sender) on.heard (made q time)) on) (line-plan s)
 
-    pub raised_nowhere : 4 ≤ place → raised ≡ on
-    raised_nowhere past = one (place_from p (from - 1) 0 entered) refl
-      where
-        one : (o : Option ℕ) → place_from p (from - 1) 0 entered ≡ o → raised ≡ on
-        one none z = raised_by named ∙ ap (λ (hs : List ℕ). with_heard hs on) (raise_unplaced p (from - 1) time 0 entered on.heard z)
-        one (some i) z = let no : ⊥ = omega (arith, e ∙ ap (number_or 4) z, place_below p (from - 1) 0 i entered z, few_heard s at.holds.ready.fits b at.below, parents_known) in absurd no
+    pub raised_here : (place : ℕ) → some place ≡ place_from p q 0 entered → (place < length on.heard) × (raised ≡ heard_to place time on)
+    raised_here place e =
+        let ordered = ordered_channels p (fitting p at.holds.ready.fits).channels in
+        let (j, is, raises) = raise_placed p q time 0 place on.heard (entering-apart p ordered (channel_at p b).sender) heard_all (sym e) in
+        let same : j ≡ place = omega (arith, is) in
+        (omega (arith, place_below p q 0 place entered (sym e), heard_all), raised_by ∙ ap (λ (hs : List ℕ). with_heard hs on) (rw same at raises))
+
+    pub raised_nowhere : none ≡ place_from p q 0 entered → raised ≡ on
+    raised_nowhere e = raised_by ∙ ap (λ (hs : List ℕ). with_heard hs on) (raise_unplaced p q time 0 entered on.heard (sym e))

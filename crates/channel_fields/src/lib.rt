@@ -1,24 +1,26 @@
 // A channel's fields, read and written in the state's bytes. What is written leaves every other byte as it was: each function promises the line with that channel's lane changed.
 #![tactic(auto)]
 
-ghost use Rattle.std.specs.Prelude.{◌≡◌, List, [], ◌∷◌, ◌≤◌, ◌<◌, length, get_or};
+ghost use Rattle.std.specs.Prelude.{◌≡◌, List, [], ◌∷◌, ◌+◌, ◌≤◌, ◌<◌, max, length, get_or};
+ghost use Rattle.basics.specs.Put.{put};
 ghost use Rattle.plan.specs.Plan.{plan_of, plan_channels, entering};
+ghost use Rattle.plan.specs.Layout.{bytes_of};
 ghost use Rattle.items.specs.Items.{place_from};
 ghost use Rattle.buffer.specs.Ready.{Ready};
-ghost use Rattle.buffer.specs.Look.{number_or};
 ghost use Rattle.rules.specs.Line.{queue_limit, Message, lane_at, sender_of, parents};
 ghost use Rattle.rules.specs.Clock.{raise_heard};
 ghost use Rattle.rules.specs.Step.{taken_lane};
 ghost use Rattle.state.specs.Lane.{with_heard};
 ghost use Rattle.state.specs.State.{line_of};
+ghost use Rattle.state.specs.Right.{word_at};
 ghost use Rattle.buffer.specs.Holds.{Holds, AtLane, LaneNow};
 ghost use Rattle.state.specs.Changes.{with_mark, with_taken, with_queue, nothing_heard, nothing_low, more_queued, first_gone};
 ghost use Rattle.slots.specs.Slots.{origin_is, message_is};
 ghost use Rattle.buffer.specs.Nothing.{no_message};
-ghost use Rattle.channel_fields.specs.Raised.{taken_to, heard_to, low_to};
+ghost use Rattle.channel_fields.specs.Raised.{place_is, taken_to, heard_to, low_to};
 
 use buffer::{bytes, layout, look};
-use slots::{Made, Sent};
+use slots::{Made, Piece, Sent, list};
 
 // ---- read
 
@@ -62,7 +64,7 @@ pub fn queue_count(s: &[u8], b: usize) -> usize
     requires { AtLane s.now b }
     ensures { (result ≡ length (lane_at (line_of s.now) b).queue) × (result ≤ queue_limit) }
 {
-    bytes::size(bytes::get32(s, layout::BLOCKS + layout::BLOCK * b + layout::QUEUE))
+    list::QUEUE.count(s, layout::BLOCKS + layout::BLOCK * b)
 }
 
 // The queue's first message.
@@ -70,7 +72,7 @@ pub fn first_of(s: &[u8], b: usize) -> Sent
     requires { AtLane s.now b × (0 < length (lane_at (line_of s.now) b).queue) }
     ensures { message_is result ≡ get_or (lane_at (line_of s.now) b).queue 0 no_message }
 {
-    slots::message_at(s, layout::BLOCKS + layout::BLOCK * b + layout::QUEUE_SLOTS)
+    Sent::read(s, layout::BLOCKS + layout::BLOCK * b + layout::QUEUE_SLOTS)
 }
 
 // ---- written
@@ -107,14 +109,22 @@ pub fn clear_low_clock(s: &mut [u8], b: usize)
     bytes::fill_zero(s, at + layout::LOW, at + layout::BLOCK_REST);
 }
 
+// The number at a place, raised to a time.
+fn raise(s: &mut [u8], at: usize, time: u32)
+    requires { at + 4 ≤ length s.old }
+    ensures { s.new ≡ put s.old at (bytes_of 4 (max (word_at at s.old) time)) }
+{
+    let number = bytes::get32(s, at);
+    bytes::put32(s, at, number.max(time));
+}
+
 // The low clock's entry at a place, raised to a time.
 pub fn raise_low_clock(s: &mut [u8], b: usize, place: usize, time: u32)
     requires { AtLane s.old b × (place < length (lane_at (line_of s.old) b).low) }
     ensures { LaneNow s.old b (low_to place time) s.new }
 {
     let at = layout::BLOCKS + layout::BLOCK * b + layout::LOW + 4 * place;
-    let low = bytes::get32(s, at);
-    bytes::put32(s, at, bytes::greater(low, time));
+    raise(s, at, time);
 }
 
 // The queue emptied: its count and the slots used become 0.
@@ -122,9 +132,7 @@ pub fn clear_queue(s: &mut [u8], b: usize)
     requires { AtLane s.old b }
     ensures { LaneNow s.old b (with_queue []) s.new }
 {
-    let count = queue_count(s, b);
-    let at = layout::BLOCKS + layout::BLOCK * b + layout::QUEUE;
-    bytes::fill_zero(s, at, at + layout::COUNT + layout::MESSAGE_SIZE * count);
+    list::QUEUE.clear(s, layout::BLOCKS + layout::BLOCK * b);
 }
 
 // One more message, behind the others.
@@ -132,14 +140,8 @@ pub fn push_message(s: &mut [u8], b: usize, m: Sent)
     requires { AtLane s.old b × (length (lane_at (line_of s.old) b).queue < queue_limit) }
     ensures { LaneNow s.old b (more_queued (message_is m)) s.new }
 {
-    let at = layout::BLOCKS + layout::BLOCK * b + layout::QUEUE;
-    let count = bytes::get32(s, at);
-    bytes::put32(s, at, count + 1);
-    slots::put_message(
-        s,
-        at + layout::COUNT + layout::MESSAGE_SIZE * bytes::size(count),
-        m,
-    );
+    let at = list::QUEUE.add(s, layout::BLOCKS + layout::BLOCK * b);
+    m.write(s, at);
 }
 
 // The queue's first message goes, and those behind it move up.
@@ -150,27 +152,24 @@ pub fn drop_first(s: &mut [u8], b: usize)
     let at = layout::BLOCKS + layout::BLOCK * b + layout::QUEUE;
     let count = bytes::get32(s, at);
     bytes::put32(s, at, count - 1);
-    slots::close_gap(s, at + layout::COUNT, bytes::size(count - 1));
+    slots::close_up::<Sent>(s, at + layout::COUNT, 1, (count - 1) as usize);
 }
 
-// Where a parent stands among the parents of a node, 4 for none.
-fn place_of(s: &[u8], parent: usize, node: usize) -> usize
+// Where a parent stands among the parents of a node, if it is one.
+fn place_of(s: &[u8], parent: usize, node: usize) -> Option<usize>
     requires { Ready s.now }
-    ensures { result ≡ number_or 4 (place_from (plan_of s.now) parent 0 (entering (plan_of s.now) node)) }
+    ensures { place_is result ≡ place_from (plan_of s.now) parent 0 (entering (plan_of s.now) node) }
 {
-    let m = look::channel_count(s);
     let mut place: usize = 0;
-    let mut b: usize = 0;
-    while b < m {
+    for b in 0..look::channel_count(s) {
         if look::receiver_of(s, b) == node {
             if look::sender_of(s, b) == parent {
-                return place;
+                return Some(place);
             }
             place += 1;
         }
-        b += 1;
     }
-    4
+    None
 }
 
 // The entry at a place, raised to a time.
@@ -179,9 +178,7 @@ fn raise_at(s: &mut [u8], b: usize, place: usize, time: u32)
     ensures { LaneNow s.old b (heard_to place time) s.new }
 {
     let at = layout::BLOCKS + layout::BLOCK * b + layout::HEARD + 4 * place;
-    if bytes::get32(s, at) < time {
-        bytes::put32(s, at, time);
-    }
+    raise(s, at, time);
 }
 
 // The entry for the sender's parent that a message was made from, raised to its time.
@@ -189,11 +186,10 @@ pub fn raise_heard(s: &mut [u8], b: usize, m: Made)
     requires { AtLane s.old b }
     ensures { LaneNow s.old b (λ x. with_heard (raise_heard (parents (line_of s.old).plan (sender_of (line_of s.old) b)) x.heard (origin_is m)) x) s.new }
 {
-    if m.from == 0 {
+    let Some(parent) = m.sender() else {
         return;
-    }
-    let place = place_of(s, look::index(m.from - 1), look::sender_of(s, b));
-    if place < 4 {
+    };
+    if let Some(place) = place_of(s, parent, look::sender_of(s, b)) {
         raise_at(s, b, place, m.time);
     }
 }
@@ -203,9 +199,8 @@ fn raise_taken(s: &mut [u8], b: usize, time: u32)
     requires { AtLane s.old b }
     ensures { LaneNow s.old b (taken_to time) s.new }
 {
-    if taken_of(s, b) < time {
-        set_taken(s, b, time);
-    }
+    let at = layout::BLOCKS + layout::BLOCK * b + layout::TAKEN;
+    raise(s, at, time);
 }
 
 // "the receiver removes the belt's first message, raises its clock by it"

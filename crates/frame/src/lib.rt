@@ -1,21 +1,20 @@
 // Frames (document 01, "Clocks and steps"; document 02, 2026-01, 2026-04 and 2026-07): the refusals 9 to 11 and 25, whose frame it is, and what it asks, read once.
 #![tactic(auto)]
 
-ghost use Rattle.std.specs.Prelude.{◌≡◌, cond, ◌+◌, ◌≤◌, ◌<◌, eqb, length, get_or, drop};
-ghost use Rattle.rules.specs.Frame.{feed, frame_version, frame_kind, console_bytes, frame_of_kind, bad_frame_length, bad_kind};
-ghost use Rattle.frame.specs.Reading.{Asks, ReadAs, Versioned, Long};
+ghost use Rattle.std.specs.Prelude.{◌≡◌, ◌+◌, ◌≤◌, length, MatchOption, drop, true, false};
+ghost use Rattle.plan.specs.Record.{record_layout, record_fits};
+ghost use Rattle.rules.specs.Frame.{frame_version, frame_kind, bad_frame_length};
+ghost use Rattle.frame.specs.Reading.{AsksOf, ReadAs, Versioned};
 
-use buffer::{Line, bytes, look, origin};
+use answers::Refusal;
+use buffer::{Line, bytes, origin};
 use plan::Record;
+use slots::Piece;
 
-// What a frame asks of a node or a channel, by its kind. A Feed has its record, and whether its bytes are a record's.
+// What a frame asks of a node or a channel, by its kind. A Feed has its record, if its bytes are a record's.
 #[derive(Clone, Copy)]
 pub enum Frame {
-    Feed {
-        node: usize,
-        what: Record,
-        fits: bool,
-    },
+    Feed { node: usize, what: Option<Record> },
     Send(usize),
     Take(usize),
     Crash(usize),
@@ -25,27 +24,24 @@ pub enum Frame {
     Commit(usize),
 }
 
-// A frame as it is read: the first of 9, 10, 11 and 25 that applies; or the console whose frame it is, and what it asks.
+// A well-formed frame: the console whose frame it is, and what it asks.
 #[derive(Clone, Copy)]
-pub enum Reading {
-    Refused(u32),
-    WellFormed(usize, Frame),
+pub struct Asked {
+    pub console: usize,
+    pub frame: Frame,
 }
 
 // A head of version 1: the frame's length, its version, its kind, and the number of a node or a channel. One of version 2 has the console before that number.
 pub const HEAD: usize = 5;
 
-// A Feed has a record behind its head.
-const FEED: usize = 13;
+// What stands behind a Feed's kind and console: a node's number, and a record.
+const FED: usize = 9;
 
 // 9: shorter than a head, or another length than its length field says.
 fn bad_length(frame: &[u8]) -> bool
     ensures { result ≡ bad_frame_length frame.now }
 {
-    if frame.len() < HEAD {
-        return true;
-    }
-    plan::bytes::count_of(bytes::get16(frame, 0)) != frame.len()
+    frame.len() < HEAD || usize::from(bytes::get16(frame, 0)) != frame.len()
 }
 
 fn version_of(frame: &[u8]) -> u8
@@ -62,86 +58,75 @@ fn kind_of(frame: &[u8]) -> u8
     bytes::get8(frame, 3)
 }
 
-// The length of a frame of a kind, in version 1.
-fn kind_size(kind: u8) -> usize
-    ensures { (result ≡ cond (eqb kind 1) 13 5) × (result ≤ 13) }
+// A record, if the bytes at a place are one's.
+fn record_of(s: &[u8], at: usize) -> Option<Record>
+    requires { at + 8 ≤ length s.now }
+    ensures { MatchOption result (record_fits (drop at s.now) ≡ false) (λ r. (record_layout.read (drop at s.now) ≡ r) × (record_fits (drop at s.now) ≡ true)) }
 {
-    if kind == 1 { FEED } else { HEAD }
+    origin::record_ok(s, at).then_some(Record::read(s, at))
 }
 
-// 11: the kind, or another length than the kind's, with so many bytes for the console.
-fn bad_kind(frame: &[u8], kind: u8, extra: usize) -> bool
-    requires { (kind ≡ frame_kind frame.now) × (extra ≡ console_bytes frame.now) × (extra ≤ 1) }
-    ensures { result ≡ bad_kind frame.now }
+// What a Feed asks, by what stands behind its console.
+fn feed_of(behind: &[u8]) -> Option<Frame>
+    ensures { AsksOf result 1 behind.now }
 {
-    let size = kind_size(kind) + extra;
-    !((1 <= kind) & (kind <= 8) & (frame.len() == size))
-}
-
-// The number of a node or a channel, behind so many bytes for the console.
-fn number_of(frame: &[u8], extra: usize) -> usize
-    requires { (5 + extra ≤ length frame.now) × (extra ≤ 1) }
-    ensures { (result ≡ get_or frame.now (4 + extra) 0) × (result < 256) }
-{
-    look::index(bytes::get8(frame, 4 + extra))
-}
-
-// A Feed of a node, whose record stands at a place.
-fn feed_of(frame: &[u8], node: usize, at: usize) -> Frame
-    requires { at + 8 ≤ length frame.now }
-    ensures { Asks result (feed node (drop at frame.now)) }
-{
-    Frame::Feed {
-        node,
-        what: slots::record_at(frame, at),
-        fits: origin::record_ok(frame, at),
+    if behind.len() != FED {
+        return None;
     }
+    Some(Frame::Feed {
+        node: usize::from(behind[0]),
+        what: record_of(behind, 1),
+    })
 }
 
-// What a frame of a kind asks.
-fn frame_of(frame: &[u8], kind: u8, extra: usize) -> Frame
-    requires { Long frame.now kind extra }
-    ensures { Asks result (frame_of_kind kind (get_or frame.now (4 + extra) 0) (drop (5 + extra) frame.now)) }
+// What a frame of a kind asks, by what stands behind its console; nothing if there is no such kind, or if it has another length.
+fn frame_of(kind: u8, behind: &[u8]) -> Option<Frame>
+    ensures { AsksOf result kind behind.now }
 {
-    let n = number_of(frame, extra);
+    if kind == 1 {
+        return feed_of(behind);
+    }
+    let [number] = behind else {
+        return None;
+    };
+    let n = usize::from(*number);
     match kind {
-        1 => feed_of(frame, n, HEAD + extra),
-        2 => Frame::Send(n),
-        3 => Frame::Take(n),
-        4 => Frame::Crash(n),
-        5 => Frame::Recover(n),
-        6 => Frame::Trim(n),
-        7 => Frame::Ask(n),
-        _ => Frame::Commit(n),
+        2 => Some(Frame::Send(n)),
+        3 => Some(Frame::Take(n)),
+        4 => Some(Frame::Crash(n)),
+        5 => Some(Frame::Recover(n)),
+        6 => Some(Frame::Trim(n)),
+        7 => Some(Frame::Ask(n)),
+        8 => Some(Frame::Commit(n)),
+        _ => None,
     }
 }
 
-// A frame of a console that takes so many bytes: 11, then 25.
-fn read_from(frame: &[u8], console: usize, extra: usize) -> Reading
-    requires { Versioned frame.now console extra }
+// A console's frame, with what stands behind the console: 11, then 25.
+fn read_from(frame: &[u8], console: usize, from: usize) -> Result<Asked, Refusal>
+    requires { Versioned frame.now console from }
     ensures { ReadAs result frame.now }
 {
-    let kind = kind_of(frame);
-    if bad_kind(frame, kind, extra) {
-        return Reading::Refused(11);
-    }
+    let asked = frame_of(kind_of(frame), &frame[from..]).ok_or(Refusal::FrameKind)?;
     if Line::CONSOLES <= console {
-        return Reading::Refused(25);
+        return Err(Refusal::NoSuchConsole);
     }
-    let f = frame_of(frame, kind, extra);
-    Reading::WellFormed(console, f)
+    Ok(Asked {
+        console,
+        frame: asked,
+    })
 }
 
 // A frame: 9, then 10; version 1 frames are console 0's.
-pub fn read(frame: &[u8]) -> Reading
+pub fn read(frame: &[u8]) -> Result<Asked, Refusal>
     ensures { ReadAs result frame.now }
 {
     if bad_length(frame) {
-        return Reading::Refused(9);
+        return Err(Refusal::FrameLength);
     }
     match version_of(frame) {
-        1 => read_from(frame, 0, 0),
-        2 => read_from(frame, look::index(bytes::get8(frame, 4)), 1),
-        _ => Reading::Refused(10),
+        1 => read_from(frame, 0, 4),
+        2 => read_from(frame, usize::from(frame[4]), 5),
+        _ => Err(Refusal::FrameVersion),
     }
 }

@@ -1,20 +1,25 @@
 -- What the check's functions find, tied to the definitions of the whole state.
 use Prim.Native.Nat.{ℕ, suc, ◌+◌, ◌*◌, ◌-◌, ◌≤◌, ◌<◌}
 use mathlib.Core.Path.{◌≡◌, refl, sym, ap, ◌∙◌}
-use mathlib.Core.Bool.{Bool, true, false, not, ◌&&◌, ◌||◌, and_assoc, and-true}
+use mathlib.Core.Bool.{Bool, true, false, true≢false, not, ◌&&◌, ◌||◌, and-true}
 use mathlib.Core.List.{List, [], ◌∷◌}
 use native.Mathlib.Nat.{sub-zero}
-use native.Mathlib.Numerals.{add-one}
 use native.Mathlib.Omega.{arith}
-use borrow.Author.Tests.{ne_eqb, leb-true}
-use lib.Dec.{leb}
-use lib.ListN.{length, take, length-take}
+use borrow.Author.Tests.{ne_eqb, le-leb, lt-leb}
+use lib.ListN.{length, get_or, take, drop, length-take, drop_of_length-le}
+use lib.Seq.{drop-cons}
+use Rattle.std.specs.Result.{is_ok}
+use Rattle.std.specs.declared.result.Result.{Result}
+use Rattle.std.specs.declared.result.Result.TheVariants.{Ok, Err}
+use Rattle.answers.specs.declared.Refusal.{Refusal}
+use Rattle.answers.specs.Number.{number}
+use Rattle.step.proofs.StepLaws.{refusal_some}
 use Rattle.basics.specs.Bools.{both_true, and_left}
 use Rattle.plan.specs.Lawful.{Bytes}
 use Rattle.plan.specs.Plan.{size_by_head, plan_nodes, plan_channels}
 use Rattle.plan.specs.Check.{plan_refusal}
 use Rattle.rules.specs.Lists.{all_of, up_to}
-use Rattle.rules.specs.Line.{Line, node_at, step_limit, steps_from, accepted_steps}
+use Rattle.rules.specs.Line.{Line, node_at, step_limit, accepted_steps}
 use Rattle.rules.specs.Step.{replaying}
 use Rattle.state.specs.Sizes.{state_size, page_size, plan_area, steps_at, steps_rest, node_pages, page_at, lane_blocks, block_size, blocks_at, block_at, tail_at, tail_size, steps_size}
 use Rattle.state.specs.State.{line_of}
@@ -28,12 +33,19 @@ use Rattle.line.proofs.ExactLaws.{page_stands}
 use Rattle.state.proofs.PlanFitting.{fits_counted}
 use Rattle.line.proofs.WholeLaws.{all_stands, plan_stands}
 use Rattle.plan.specs.Layout.{sum_of}
-use Rattle.state.proofs.InPlace.{Counted, line-counts}
-use Rattle.items.proofs.Tests.{all_at}
+
+-- What a call that may be refused answers, by its number.
+pub number_ok : (r : Result (Unit {0}) Refusal) → is_ok r ≡ true → number r ≡ 0
+number_ok (Ok u) e = refl
+number_ok (Err r) e = absurd (true≢false (sym e))
+
+pub number_err : (r : Result (Unit {0}) Refusal) → is_ok r ≡ false → number r ≡ 0 → ⊥
+number_err (Ok u) e = absurd (true≢false e)
+number_err (Err r) e = refusal_some r
 
 -- The stored plan: the part of the state from 0 up to its size.
 module _ (s : List ℕ) (size : ℕ) (is : size ≡ size_by_head s) where
-  abbrev front : List ℕ
+  abbrev pub front : List ℕ
   front = take (size - 0) s
 
   pub front_stored : front ≡ stored_plan s
@@ -60,24 +72,6 @@ rest_found s n m e f few few' a b c d =
     let blocks : tail_at - block_at m ≡ block_size * (lane_blocks - m) = omega arith in
     rw (a, b, c, d, pages, blocks, e, f)
 
--- ---- a test of each of n numbers, of which those below k are done
-
-pub record Tested (f : ℕ → Bool) (n : ℕ) (ok : Bool) (k : ℕ) : Type 0 where
-  pub within : k ≤ n
-  pub left : all_of f (up_to 0 n) ≡ (ok && all_of f (up_to k (n - k)))
-
-module _ (f : ℕ → Bool) (n : ℕ) where
-  pub tested_start : Tested f n true 0
-  tested_start = record { within = omega arith; left = rw sub-zero refl }
-
-  pub tested_turn : (ok : Bool) (k : ℕ) {r : Bool} → k < n → r ≡ f k → Tested f n ok k → Tested f n (ok && r) (k + 1)
-  tested_turn ok k {r} h e t =
-      let more : n - k ≡ suc (n - suc k) = omega arith in
-      record { within = omega arith; left = t.left ∙ rw (more, add-one, e) (sym (and_assoc ok (f k) (all_of f (up_to (suc k) (n - suc k))))) }
-
-  pub tested_end : (ok : Bool) (k : ℕ) → n ≤ k → Tested f n ok k → ok ≡ all_of f (up_to 0 n)
-  tested_end ok k h t = let none : n - k ≡ 0 = omega arith in sym (t.left ∙ rw none (and-true ok))
-
 -- ---- the whole state
 
 -- A state whose stored plan would not be refused can be read.
@@ -92,29 +86,41 @@ pub restart_parts : (l : Line) (k : ℕ) → ((not (replaying l k) || replay_rig
 unfolding restart_right
 restart_parts l k = refl
 
--- The counts, one for each console: tested, and added up.
-module _ (s : List ℕ) (few : Counted s) where
-  abbrev count : ℕ → ℕ
-  count c = steps_from (line_of s) c
+-- The counts, one for each console: those before the i-th are within the limit, and added up.
+pub record Counting (l : Line) (all i : ℕ) : Type 0 where
+  pub within : i ≤ length l.steps
+  pub few : all ≤ i * step_limit
+  pub sum : all + sum_of (drop i l.steps) ≡ accepted_steps l
+  pub right : steps_right (drop i l.steps) ≡ steps_right l.steps
 
-  four_counts : (line_of s).steps ≡ count 0 ∷ count 1 ∷ count 2 ∷ count 3 ∷ []
-  four_counts = rw (line-counts s few)
+pub counting_start : (l : Line) → Counting l 0 0
+counting_start l = record { within = omega arith; few = omega arith; sum = omega arith; right = refl }
 
-  pub steps_tested : (leb (steps_from (line_of s) 0) step_limit && (leb (steps_from (line_of s) 1) step_limit && (leb (steps_from (line_of s) 2) step_limit && leb (steps_from (line_of s) 3) step_limit))) ≡ steps_right (line_of s).steps
-  steps_tested = one (leb (count 0) step_limit) (leb (count 1) step_limit) (leb (count 2) step_limit) (leb (count 3) step_limit) ∙ ap steps_right (sym four_counts)
-    where
-      one : (x y z w : Bool) → (x && (y && (z && w))) ≡ (x && (y && (z && (w && true))))
-      one true true true true = refl
-      one true true true false = refl
-      one true true false w = refl
-      one true false z w = refl
-      one false y z w = refl
+module _ (l : Line) (all i : ℕ) (c : Counting l all i) where
+  -- One more.
+  module _ (h : i < length l.steps) where
+    next : drop i l.steps ≡ get_or l.steps i 0 ∷ drop (suc i) l.steps
+    next = drop-cons l.steps i 0 h
 
-  pub steps_added : steps_from (line_of s) 0 + (steps_from (line_of s) 1 + (steps_from (line_of s) 2 + steps_from (line_of s) 3)) ≡ accepted_steps (line_of s)
-  steps_added = let sum = ap sum_of four_counts in omega arith
+    pub counting_more : get_or l.steps i 0 ≤ step_limit → Counting l (all + get_or l.steps i 0) (i + 1)
+    counting_more few =
+        let one : i + 1 ≡ suc i = omega arith in
+        rw one
+        (record {
+          within = h;
+          few = omega (arith, c.few);
+          sum = let s = ap sum_of next in omega (arith, c.sum, s);
+          right = sym (ap steps_right next ∙ rw (le-leb (get_or l.steps i 0) step_limit few) refl) ∙ c.right;
+        })
 
-  pub steps-within : steps_right (line_of s).steps ≡ true → (c : ℕ) → steps_from (line_of s) c ≤ step_limit
-  steps-within e c = leb-true (count c) step_limit (all_at (λ (k : ℕ). leb k step_limit) (line_of s).steps c 0 refl e)
+    pub counting_past : step_limit < get_or l.steps i 0 → steps_right l.steps ≡ false
+    counting_past many = sym c.right ∙ ap steps_right next ∙ rw (lt-leb (get_or l.steps i 0) step_limit many) refl
+
+  pub counting_end : length l.steps ≤ i → (steps_right l.steps ≡ true) × (all ≡ accepted_steps l)
+  counting_end h =
+      let none : drop i l.steps ≡ [] = drop_of_length-le l.steps h in
+      let sum = ap sum_of none in
+      (sym c.right ∙ ap steps_right none, omega (arith, c.sum, sum))
 
 pub steps_wrong : (s : List ℕ) → plan_exact s ≡ true → steps_right (line_of s).steps ≡ false → false ≡ state_checked s
 unfolding state_checked

@@ -1,8 +1,11 @@
 -- The whole state as the check goes over it. `check_answer` of the proofs says that it is `state_answer`; the outer contract does not rest on believing this.
-use Rattle.std.specs.Prelude.{ℕ, ◌+◌, ◌*◌, ◌-◌, ◌<◌, Bool, ◌&&◌, List, take, eqb}
+use Rattle.std.specs.Prelude.{ℕ, ◌+◌, ◌*◌, ◌-◌, ◌<◌, ◌≡◌, Bool, true, false, ◌&&◌, List, take, eqb}
+use Rattle.std.specs.declared.option.Option.{Option}
+use Rattle.std.specs.declared.option.Option.TheVariants.{None, Some}
 use Rattle.plan.specs.Plan.{plan_of, size_by_head, plan_nodes, plan_channels, channel_at}
 use Rattle.plan.specs.Check.{plan_refusal}
 use Rattle.rules.specs.Lists.{all_of, up_to}
+use Rattle.rules.specs.Line.{Line, accepted_steps}
 use Rattle.state.specs.Sizes.{plan_area, steps_at, steps_size, steps_rest, page_at, page_size, node_pages, block_at, block_size, lane_blocks, tail_at, tail_size}
 use Rattle.state.specs.Right.{NodeRight}
 use Rattle.state.specs.Lane.{heard_count}
@@ -40,3 +43,8 @@ unfolding plan_exact rest_exact node_checked channel_checked restart_right
 state_checked s =
     plan_exact s && rest_exact s && steps_right (line_of s).steps && all_of (node_checked s) (up_to 0 (plan_nodes s)) && all_of (channel_checked s) (up_to 0 (plan_channels s))
     && all_of (restart_right (line_of s)) (up_to 0 (plan_nodes s))
+
+-- All accepted steps, or none where those of some console are past the limit.
+abbrev pub AllSteps : Line → Option ℕ → Type 0
+AllSteps l None = steps_right l.steps ≡ false
+AllSteps l (Some n) = (steps_right l.steps ≡ true) × (n ≡ accepted_steps l)

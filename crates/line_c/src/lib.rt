@@ -13,7 +13,7 @@ pub extern "C" fn line_load(plan: &[u8], state: &mut [u8]) -> u32
     ensures { (result ≡ load_answer plan.now state.old)
         × (state.new ≡ load_left plan.now state.old) }
 {
-    line::line_load(plan, state)
+    answers::number(line::line_load(plan, state))
 }
 
 // Check: 8 for a state of another size or a damaged one, 0 for a line.
@@ -21,7 +21,7 @@ pub extern "C" fn line_load(plan: &[u8], state: &mut [u8]) -> u32
 pub extern "C" fn line_check(state: &[u8]) -> u32
     ensures { result ≡ state_answer state.now }
 {
-    line::line_check(state)
+    answers::number(line::line_check(state))
 }
 
 // Write: 8 as the check says, 23 for an output shorter than the plan, or 0 with the state's plan in the output.
@@ -30,7 +30,7 @@ pub extern "C" fn line_write(state: &[u8], plan: &mut [u8]) -> u32
     ensures { (result ≡ write_answer state.now plan.old)
         × (plan.new ≡ write_left state.now plan.old) }
 {
-    line::line_write(state, plan)
+    answers::number(line::line_write(state, plan))
 }
 
 // Step: 8 as the check says, then what the frame's step answers; accepted, the state holds the line that the step leaves.
@@ -39,5 +39,5 @@ pub extern "C" fn line_step(state: &mut [u8], frame: &[u8]) -> u32
     ensures { (result ≡ step_answer state.old frame.now)
         × (state.new ≡ step_left state.old frame.now) }
 {
-    line::line_step(state, frame)
+    answers::number(line::line_step(state, frame))
 }

@@ -8,11 +8,11 @@ use native.Mathlib.Omega.{arith}
 use native.Mathlib.Numerals.{add-one}
 use lib.ListN.{length, get_or}
 use lib.Dec.{eqb, leb}
-use borrow.Author.Tests.{lt-ltb, le-ltb}
+use Rattle.std.specs.Prelude.{Some, None}
 use Rattle.placing.specs.Item.{Item, items_of}
 use Rattle.placing.proofs.ItemsLaws.{items_at}
 use Rattle.marking.specs.Mark.{breaks_alone, breaks, first_broken}
-use Rattle.marking.specs.Loops.{Beside, place_of, FoundBy}
+use Rattle.marking.specs.Loops.{Beside, FoundBy}
 
 pub beside_more : (rows columns : List ℕ) (k j : ℕ) (found : Bool) → j < length rows → k < length rows → Beside rows columns k j found
     → Beside rows columns k (j + 1) (found || (eqb (get_or columns j 0) (get_or columns k 0) || (eqb (get_or rows j 0) (get_or rows k 0) && leb (get_or columns k 0) (get_or columns j 0))))
@@ -31,7 +31,6 @@ module _ (low high : ℕ) (table : List Item) (columns : List ℕ) (k n : ℕ) (
 
 -- From item k on, none before it breaks a rule.
 pub record Going (low high : ℕ) (rows fixed floors columns : List ℕ) (k : ℕ) : Type 0 where
-  pub within : k ≤ length rows
   pub same : (times : List ℕ) → first_broken low high (items_of rows times fixed floors) columns 0 (length rows) ≡ first_broken low high (items_of rows times fixed floors) columns k (length rows - k)
 
 module _ (low high : ℕ) (rows fixed floors columns : List ℕ) (k : ℕ) (l : k < length rows) (alone beside : Bool) (a : alone ≡ breaks_alone low high (get_or fixed k 0) (get_or floors k 0) (get_or columns k 0)) (b : Beside rows columns k k beside) (g : Going low high rows fixed floors columns k) where
@@ -39,19 +38,19 @@ module _ (low high : ℕ) (rows fixed floors columns : List ℕ) (k : ℕ) (l : 
   unfolding breaks
   broken_is times = rw (items_at rows times fixed floors k l, ← b times fixed floors, a)
 
-  pub found_here : (alone || beside) ≡ true → FoundBy low high rows fixed floors columns k
-  found_here e = (omega arith, λ times. rw (lt-ltb k (length rows) l, place_of) (sym (g.same times ∙ first_here low high (items_of rows times fixed floors) columns k (length rows) l (broken_is times ∙ e))))
+  pub found_here : (alone || beside) ≡ true → FoundBy low high rows fixed floors columns (Some k)
+  found_here e = (l, λ times. sym (g.same times ∙ first_here low high (items_of rows times fixed floors) columns k (length rows) l (broken_is times ∙ e)))
 
   pub found_later : (alone || beside) ≡ false → Going low high rows fixed floors columns (k + 1)
-  found_later e = record { within = omega arith; same = λ times. g.same times ∙ first_later low high (items_of rows times fixed floors) columns k (length rows) l (broken_is times ∙ e) }
+  found_later e = record { same = λ times. g.same times ∙ first_later low high (items_of rows times fixed floors) columns k (length rows) l (broken_is times ∙ e) }
 
-pub found_none : (low high : ℕ) (rows fixed floors columns : List ℕ) (k : ℕ) → length rows ≤ k → Going low high rows fixed floors columns k → FoundBy low high rows fixed floors columns k
+pub found_none : (low high : ℕ) (rows fixed floors columns : List ℕ) (k : ℕ) → length rows ≤ k → Going low high rows fixed floors columns k → FoundBy low high rows fixed floors columns None
 found_none low high rows fixed floors columns k h g =
     let z : length rows - k ≡ 0 = omega arith in
-    (g.within, λ times. rw (le-ltb k (length rows) h, place_of) (sym (g.same times ∙ ap (first_broken low high (items_of rows times fixed floors) columns k) z)))
+    (tt, λ times. sym (g.same times ∙ ap (first_broken low high (items_of rows times fixed floors) columns k) z))
 
 pub going_begun : (low high : ℕ) (rows fixed floors columns : List ℕ) → Going low high rows fixed floors columns 0
-going_begun low high rows fixed floors columns = record { within = omega arith; same = λ times. ap (first_broken low high (items_of rows times fixed floors) columns 0) (from_zero (length rows)) }
+going_begun low high rows fixed floors columns = record { same = λ times. ap (first_broken low high (items_of rows times fixed floors) columns 0) (from_zero (length rows)) }
   where
     from_zero : (n : ℕ) → n ≡ n - 0
     from_zero n = omega arith

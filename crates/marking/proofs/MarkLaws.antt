@@ -1,26 +1,35 @@
 -- The mark, case by case.
-use Prim.Native.Nat.{ℕ, ◌+◌, ◌<◌, ◌≤◌}
+use Prim.Native.Nat.{ℕ, ◌≤◌}
 use mathlib.Core.Path.{◌≡◌, refl, sym, ap, ◌∙◌}
 use mathlib.Core.Logic.{◌≢◌}
 use mathlib.Core.Bool.{Bool, true, false, not, ◌&&◌, true≢false}
 use mathlib.Core.List.{List}
-use mathlib.Core.Option.{none, some}
 use native.Mathlib.Omega.{arith}
 use lib.ListN.{length}
+use Rattle.std.specs.Prelude.{Some, None}
 use lib.Dec.{leb}
-use borrow.Author.Tests.{eq-eqb, ne_eqb, lt-ltb, le-ltb, leb-true, not-false}
+use borrow.Author.Tests.{eq-eqb, ne_eqb, leb-true, not-false}
 use Rattle.basics.specs.Bools.{both_true}
 use Rattle.placing.specs.Item.{Item, items_of}
 use Rattle.placing.specs.Table.{malformed, lengths_agree, table_fits, bounds_fit, items_fit, most_items}
 use Rattle.placing.proofs.ItemsLaws.{length_items, lengths_are}
 use Rattle.marking.specs.declared.Mark.TheVariants.{Yes, No, Refused}
 use Rattle.marking.specs.Mark.{first_broken, mark_by, mark_table, mark}
-use Rattle.marking.specs.Loops.{place_of, FoundBy, Aligned}
+use Rattle.marking.specs.Loops.{FoundBy, Aligned}
 
 -- A table that fits, with a column for each item.
 pub table_by : (low high : ℕ) (table : List Item) (columns : List ℕ) → table_fits low high table ≡ true → length columns ≡ length table → mark_table low high table columns ≡ mark_by (first_broken low high table columns 0 (length table))
 unfolding mark_table
 table_by low high table columns f q = rw (f, mark_table, eq-eqb (length columns) (length table) q, mark_table)
+
+-- A table that is not malformed has at most 64 items.
+pub few_rows : (low high : ℕ) (rows times fixed floors : List ℕ) → malformed low high rows times fixed floors ≡ false → length rows ≤ 64
+unfolding malformed table_fits
+few_rows low high rows times fixed floors e =
+    let table = items_of rows times fixed floors in
+    let few = leb (length table) most_items in
+    let fits = both_true (lengths_agree rows times fixed floors) (table_fits low high table) (not-false (lengths_agree rows times fixed floors && table_fits low high table) e) in
+    omega (arith, leb-true (length table) most_items (both_true few (bounds_fit low high) (both_true (few && bounds_fit low high) (items_fit low high 0 0 table) fits.1).0).0, length_items rows times fixed floors)
 
 module _ (low high : ℕ) (rows times fixed floors columns : List ℕ) where
   abbrev table : List Item
@@ -48,22 +57,12 @@ module _ (low high : ℕ) (rows times fixed floors columns : List ℕ) where
     unfolding mark
     marks_by q = rw (formed.0, mark) (table_by low high table columns formed.1 (q ∙ sym (length_items rows times fixed floors)) ∙ ap (λ (n : ℕ). mark_by (first_broken low high table columns 0 n)) (length_items rows times fixed floors))
 
-    few_rows : length rows ≤ 64
-    unfolding table_fits
-    few_rows =
-        let few = leb (length table) most_items in
-        omega (arith, leb-true (length table) most_items (both_true few (bounds_fit low high) (both_true (few && bounds_fit low high) (items_fit low high 0 0 table) formed.1).0).0, length_items rows times fixed floors)
-
     pub aligned : length columns ≡ length rows → Aligned rows fixed floors columns
     aligned q = let (_, f, g) = lengths_are rows times fixed floors formed.0 in record { fixed_long = f; floors_long = g; columns_long = q }
 
-    module _ (q : length columns ≡ length rows) (k : ℕ) (found : FoundBy low high rows fixed floors columns k) where
-      pub marks_no : k < length rows → (No k ≡ mark low high rows times fixed floors columns) × (256 + k < 320)
-      marks_no h =
-          let here : place_of k (length rows) ≡ some k = rw (lt-ltb k (length rows) h, place_of) in
-          (sym (marks_by q ∙ ap mark_by (sym (found.1 times) ∙ here)), omega (arith, few_rows))
+    module _ (q : length columns ≡ length rows) where
+      pub marks_no : (k : ℕ) → FoundBy low high rows fixed floors columns (Some k) → No k ≡ mark low high rows times fixed floors columns
+      marks_no k found = sym (marks_by q ∙ ap mark_by (sym (found.1 times)))
 
-      pub marks_yes : length rows ≤ k → Yes ≡ mark low high rows times fixed floors columns
-      marks_yes h =
-          let past : place_of k (length rows) ≡ none = rw (le-ltb k (length rows) h, place_of) in
-          sym (marks_by q ∙ ap mark_by (sym (found.1 times) ∙ past))
+      pub marks_yes : FoundBy low high rows fixed floors columns None → Yes ≡ mark low high rows times fixed floors columns
+      marks_yes found = sym (marks_by q ∙ ap mark_by (sym (found.1 times)))

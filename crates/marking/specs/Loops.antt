@@ -1,5 +1,7 @@
 -- Words of the marker's inner functions.
-use Rattle.std.specs.Prelude.{ℕ, ◌≤◌, ◌≡◌, Bool, true, false, List, length, ltb}
+use Rattle.std.specs.Prelude.{ℕ, ◌<◌, ◌≡◌, Bool, List, length}
+use Rattle.std.specs.declared.option.Option as rust
+use Rattle.std.specs.declared.option.Option.TheVariants.{None, Some}
 use Rattle.std.proofs.Math.Option.{Option, none, some}
 use Rattle.placing.specs.Item.{items_of}
 use Rattle.marking.specs.Mark.{clashes, first_broken}
@@ -8,13 +10,19 @@ use Rattle.marking.specs.Mark.{clashes, first_broken}
 abbrev pub Beside : List ℕ → List ℕ → ℕ → ℕ → Bool → Type 0
 Beside rows columns k j found = (times fixed floors : List ℕ) → found ≡ clashes (items_of rows times fixed floors) columns k j
 
+-- A place, or none.
+abbrev pub place_of : rust.Option ℕ → Option ℕ
+place_of None = none
+place_of (Some k) = some k
+
 -- A place among n items, or none.
-abbrev pub place_of : ℕ → ℕ → Option ℕ
-place_of k n = elim (ltb k n) [ true ↦ some k | false ↦ none ]
+abbrev pub WithinItems : ℕ → rust.Option ℕ → Type 0
+WithinItems n None = Unit {0}
+WithinItems n (Some k) = k < n
 
 -- The first that breaks a rule among all items, whatever their times.
-abbrev pub FoundBy : ℕ → ℕ → List ℕ → List ℕ → List ℕ → List ℕ → ℕ → Type 0
-FoundBy low high rows fixed floors columns k = (k ≤ length rows) × ((times : List ℕ) → place_of k (length rows) ≡ first_broken low high (items_of rows times fixed floors) columns 0 (length rows))
+abbrev pub FoundBy : ℕ → ℕ → List ℕ → List ℕ → List ℕ → List ℕ → rust.Option ℕ → Type 0
+FoundBy low high rows fixed floors columns o = WithinItems (length rows) o × ((times : List ℕ) → place_of o ≡ first_broken low high (items_of rows times fixed floors) columns 0 (length rows))
 
 -- Slices of one length.
 pub record Aligned (rows fixed floors columns : List ℕ) : Type 0 where

@@ -4,6 +4,9 @@
 ghost use Rattle.std.specs.Prelude.{◌≡◌};
 ghost use Rattle.marking.specs.Mark.{mark, mark_number};
 
+use marking::mark_of;
+use placing::Table;
+
 // The mark of a candidate's columns, as one number.
 #[unsafe(no_mangle)]
 pub extern "C" fn marking_mark(
@@ -17,5 +20,13 @@ pub extern "C" fn marking_mark(
 ) -> u32
     ensures { result ≡ mark_number (mark low high rows.now times.now fixed.now floors.now columns.now) }
 {
-    marking::marking_mark(low, high, rows, times, fixed, floors, columns)
+    let table = Table {
+        low,
+        high,
+        rows,
+        times,
+        fixed,
+        floors,
+    };
+    u32::from(mark_of(&table, columns))
 }

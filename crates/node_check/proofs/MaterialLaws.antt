@@ -4,7 +4,7 @@ use mathlib.Core.Path.{◌≡◌, refl, sym, ap, ◌∙◌}
 use mathlib.Core.Bool.{Bool, true, false, cond, ◌&&◌, and-true, or-false, true≢false}
 use mathlib.Core.Logic.{inl, inr}
 use mathlib.Core.List.{List, [], ◌∷◌}
-use native.Mathlib.Nat.{add-zero, mul-zero, mul-one, mod-one, div-one}
+use native.Mathlib.Nat.{add-zero, mul-zero, mul-one, mod-one}
 use native.Mathlib.Omega.{arith}
 use borrow.Author.Tests.{ltb-true, ltb-false, leb-true, eqb-true, eqb-false, lt-ltb, le-ltb, le-leb, ne_eqb}
 use lib.Dec.{leb, ltb, eqb}
@@ -19,7 +19,6 @@ use Rattle.plan.specs.Plan.{Plan, node_count, channel_count, channel_at, leaving
 use Rattle.plan.specs.Ticks.{tick}
 use Rattle.plan.specs.Check.{plan_fits}
 use Rattle.plan.proofs.MaskLaws.{bit_at_most}
-use Rattle.plan.proofs.SetLaws.{halved}
 use Rattle.plan.proofs.AcceptedLaws.{channels_at}
 use Rattle.plan.proofs.FitsLaws.{fitting}
 use Rattle.plan.proofs.TickLaws.{tick-parts, known_cases}
@@ -45,43 +44,41 @@ below_next j i d = go (ltb j i) refl
     go true e = lt-ltb j (suc i) (omega (arith, ltb-true j i e))
     go false e = le-ltb j (suc i) (omega (arith, ltb-false j i e, d))
 
--- Added so far at the places below i; left has the mask's bits from there on.
-pub record Adding (t : List ℕ) (mask bit : ℕ) (u : List ℕ) (i left : ℕ) : Type 0 where
+-- Added so far at the places below i.
+pub record Adding (t : List ℕ) (mask bit : ℕ) (u : List ℕ) (i : ℕ) : Type 0 where
   pub long : length u ≡ 32
   pub within : i ≤ 16
-  pub rest : left ≡ mask / (2 ^ i)
   pub so_far : (j : ℕ) → get_or u j 0 ≡ get_or t j 0 + cond (ltb j i && bit_set mask j) bit 0
 
 module _ (t : List ℕ) (mask bit : ℕ) where
-  pub adding_start : length t ≡ 32 → Adding t mask bit t 0 mask
-  adding_start h = record { long = h; within = omega arith; rest = sym (div-one mask); so_far = λ j. rw (le-ltb j 0 (omega arith)) (sym (add-zero (get_or t j 0))) }
+  pub adding_start : length t ≡ 32 → Adding t mask bit t 0
+  adding_start h = record { long = h; within = omega arith; so_far = λ j. rw (le-ltb j 0 (omega arith)) (sym (add-zero (get_or t j 0))) }
 
-  module _ (u : List ℕ) (i left : ℕ) (a : Adding t mask bit u i left) where
+  module _ (u : List ℕ) (i : ℕ) (a : Adding t mask bit u i) where
     pub adding_same : (j : ℕ) → i ≤ j → get_or u j 0 ≡ get_or t j 0
     adding_same j h = a.so_far j ∙ rw (le-ltb j i h) (add-zero (get_or t j 0))
 
-    pub adding_few : bit * (left % 2) ≤ bit
-    adding_few = rw (times_bit bit (left % 2) (omega arith)) (bit_at_most (eqb (left % 2) 1) bit)
+    abbrev last : ℕ
+    last = mask / (2 ^ i) % 2
 
-    pub adding_more : i < 16 → Adding t mask bit (set u i (get_or u i 0 + bit * (left % 2))) (suc i) (left / 2)
+    pub adding_more : i < 16 → Adding t mask bit (set u i (get_or u i 0 + bit * last)) (suc i)
     unfolding bit_set
     adding_more h = record {
-      long = length-set u i (get_or u i 0 + bit * (left % 2)) ∙ a.long;
+      long = length-set u i (get_or u i 0 + bit * last) ∙ a.long;
       within = h;
-      rest = ap (λ (x : ℕ). x / 2) a.rest ∙ halved mask i;
       so_far = λ j. go j (eqb j i) refl;
     }
       where
-        go : (j : ℕ) (e : Bool) → eqb j i ≡ e → get_or (set u i (get_or u i 0 + bit * (left % 2))) j 0 ≡ get_or t j 0 + cond (ltb j (suc i) && bit_set mask j) bit 0
+        go : (j : ℕ) (e : Bool) → eqb j i ≡ e → get_or (set u i (get_or u i 0 + bit * last)) j 0 ≡ get_or t j 0 + cond (ltb j (suc i) && bit_set mask j) bit 0
         go j true e =
-            rw (eqb-true j i e, get_or-set_same u i (get_or u i 0 + bit * (left % 2)) 0 (omega (arith, a.long)), lt-ltb i (suc i) (omega arith), adding_same i (omega arith), times_bit bit (left % 2) (omega arith), a.rest) refl
-        go j false e = get_or-set_other u i j (get_or u i 0 + bit * (left % 2)) 0 (eqb-false j i e) ∙ rw (below_next j i (eqb-false j i e)) (a.so_far j)
+            rw (eqb-true j i e, get_or-set_same u i (get_or u i 0 + bit * last) 0 (omega (arith, a.long)), lt-ltb i (suc i) (omega arith), adding_same i (omega arith), times_bit bit last (omega arith)) refl
+        go j false e = get_or-set_other u i j (get_or u i 0 + bit * last) 0 (eqb-false j i e) ∙ rw (below_next j i (eqb-false j i e)) (a.so_far j)
 
-  pub adding_end : (u : List ℕ) (left : ℕ) → Adding t mask bit u 16 left → Added t mask bit (set u 31 (get_or u 31 0 + bit))
-  adding_end u left a = record { long = length-set u 31 (get_or u 31 0 + bit) ∙ a.long; sets = λ j. go j (eqb j 31) refl }
+  pub adding_end : (u : List ℕ) → Adding t mask bit u 16 → Added t mask bit (set u 31 (get_or u 31 0 + bit))
+  adding_end u a = record { long = length-set u 31 (get_or u 31 0 + bit) ∙ a.long; sets = λ j. go j (eqb j 31) refl }
     where
       go : (j : ℕ) (e : Bool) → eqb j 31 ≡ e → get_or (set u 31 (get_or u 31 0 + bit)) j 0 ≡ get_or t j 0 + cond (takes_place mask j) bit 0
-      go j true e = rw (eqb-true j 31 e, get_or-set_same u 31 (get_or u 31 0 + bit) 0 (omega (arith, a.long))) (ap (λ (x : ℕ). x + bit) (adding_same u 16 left a 31 (omega arith)))
+      go j true e = rw (eqb-true j 31 e, get_or-set_same u 31 (get_or u 31 0 + bit) 0 (omega (arith, a.long))) (ap (λ (x : ℕ). x + bit) (adding_same u 16 a 31 (omega arith)))
       go j false e = get_or-set_other u 31 j (get_or u 31 0 + bit) 0 (eqb-false j 31 e) ∙ a.so_far j ∙ rw (e, or-false) refl
 
 -- ---- open channels
@@ -157,7 +154,7 @@ module _ (p : Plan) (n first : ℕ) where
           all = l.all ∙ ap (all_of is_open_at) (leavers_here p n b h e) ∙ rw wide refl;
         }
 
-        pub listing_closed : is_open (channel_at p b) ≡ false → ByMaterial p n t false
+        pub listing_closed : is_open (channel_at p b) ≡ false → ByMaterial p n no_sets false
         listing_closed shut = record { all = sym (l.all ∙ ap (all_of is_open_at) (leavers_here p n b h e) ∙ rw shut refl); listed = λ z. absurd (true≢false (sym z)) }
 
       -- None is left.

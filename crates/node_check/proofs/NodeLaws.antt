@@ -5,29 +5,29 @@ use mathlib.Core.Bool.{Bool, true, false, not, ◌&&◌, ◌||◌, and-true, and
 use mathlib.Core.List.{List, [], ◌∷◌}
 use native.Mathlib.Nat.{add-zero}
 use native.Mathlib.Omega.{arith}
-use borrow.Author.Tests.{le-leb, lt-leb, eq-eqb, ne_eqb}
-use lib.Dec.{leb, ltb, eqb, eqb-suc-zero}
+use borrow.Author.Tests.{ltb-true, ltb-false, le-leb, lt-leb, eq-eqb, ne_eqb}
+use lib.Dec.{leb, ltb, eqb}
 use lib.Bits.{bit_or}
 use lib.ListN.{length, get_or, set}
 use lib.Seq.{ext_get_or}
 use Rattle.plan.specs.Plan.{Plan, plan_of, is_source, is_sink}
 use Rattle.rules.specs.Lists.{all_of, is_empty}
-use Rattle.rules.specs.Line.{log_limit, held_limit, target_limit, Entry, Held, Target, Node, Line, node_at, is_up, accepted_steps}
+use Rattle.rules.specs.Line.{log_limit, held_limit, target_limit, Entry, Held, Target, Status, up, down, replay, Node, Line, node_at, is_up, accepted_steps}
 use Rattle.rules.specs.Step.{is_nothing}
 use Rattle.rules.specs.Damaged.{mark_missing, mark_on_end, node_holds, holds_by_status}
 use Rattle.rules.specs.Replay.{passed_on}
 use Rattle.state.specs.Sizes.{page_at, count_size, time_at, log_at, entry_size, held_at, held_size, targets_at, target_size, kept_at, kept_size, node_rest_at, node_rest}
-use Rattle.state.specs.Node.{status_of, crash_of}
+use Rattle.state.specs.Node.{status_number}
 use Rattle.state.specs.State.{line_of}
 use Rattle.state.specs.Right.{word_at}
 use Rattle.state.proofs.InPlace.{Counted, line-plan}
-use Rattle.state.proofs.OffsetLaws.{line_status, line_crashed, line_time, line_log_count, line-log_at, line_held_count, line-held_at, line_targets_count, line-target_at}
+use Rattle.state.proofs.OffsetLaws.{line_time, line_log_count, line-log_at, line_held_count, line-held_at, line_targets_count, line-target_at}
 use Rattle.items.specs.Items.{is_inner, may_follow, log_rise, entry_right, entries_right, set_right, log_right, held_rise, none_held, held_right, held_all_right, target_right, counts_right, status_right, node_plain}
 use Rattle.buffer.specs.Exact.{zero_at, entry_exact, held_exact, target_exact, asked_exact, slots_exact, list_exact, page_exact}
-use Rattle.node_check.specs.NodeCheck.{PageOf, entry_in, held_in, target_in, head_exact, entry_plain, entry_made, held_plain, held_made, page_end_exact, holds_nothing, slots_pass, entry_passes, entry_next, log_pass}
+use Rattle.node_check.specs.NodeCheck.{PageOf, entry_in, held_in, target_in, head_exact, entry_plain, entry_made, held_plain, held_made, page_end_exact, holds_nothing, slots_pass, entry_passes, entry_next, log_pass, ListFound}
 use Rattle.buffer.specs.Nothing.{no_entry, no_held, no_target}
 use Rattle.buffer.specs.Check.{record_in}
-use Rattle.node_check.proofs.SlotLaws.{swap_middle, slots_in, passes, length-slots, slots_at, slots_pass_lem, pass_more}
+use Rattle.node_check.proofs.SlotLaws.{Going, going_start, swap_middle, slots_in, passes, length-slots, slots_at, slots_pass_lem, pass_more}
 use Rattle.buffer.proofs.BytesLaws.{two_zero}
 use Rattle.buffer.proofs.ReadyLaws.{counted, kept_counted}
 use Rattle.buffer.proofs.PieceReads.{entry_in_lem, held_in_lem}
@@ -35,13 +35,6 @@ use Rattle.node_check.proofs.PieceBytes.{entry_ordered, held_ordered}
 
 pub page_room : {s : List ℕ} {n at : ℕ} → PageOf s n at → at + 4096 ≤ length s
 page_room page = omega (arith, page.ready.long, page.ready.nodes, page.within, page.start)
-
--- A pass over the slots of a list: those left, and that what is asked of all is what was found so far and what is left.
-pub record Going (room size start slot count left : ℕ) (whole now : Bool) : Type 0 where
-  pub within : left ≤ count
-  pub there : slot + size * left ≡ start + size * count
-  pub fits : start + size * count ≤ room
-  pub same : whole ≡ now
 
 -- A list in a page is what its slots hold.
 module _ {A : Type 0} (item : ℕ → List ℕ → A) (d : A) (size a count : ℕ) (s : List ℕ) (xs : List A) where
@@ -111,6 +104,11 @@ module _ (s : List ℕ) (n : ℕ) where
         slots_pass_lem entry_in entry_size s entry_exact (entry_passes line_in n node_in.time) entry_next 0 (page_at n + log_at + count_size) count
         ∙ ap (λ (t : Bool). slots_exact entry_exact entry_size (page_at n + log_at + count_size) count s && t) (ap (passes (entry_passes line_in n node_in.time) entry_next 0) (sym log_slots) ∙ log_passes line_in n node_in.time 0 node_in.log)
 
+    pub log_going : Going (log_pass s n) (at + 12) entry_size count (slots_exact entry_exact entry_size (page_at n + log_at + count_size) count s && entries_right line_in n node_in.log) 0 0
+    log_going =
+        let there : at + 12 ≡ page_at n + log_at + count_size = omega (arith, page.start) in
+        rw (there, ← log_whole) (going_start (log_pass s n) (page_at n + log_at + count_size) entry_size count 0)
+
 -- ---- held records
 
 module _ (l : Line) (n : ℕ) where
@@ -150,7 +148,7 @@ module _ (s : List ℕ) (n : ℕ) where
       held_more after x m = held_turn ∙ rw (← g, h, ← i, ← j, m, x) refl
 
   module _ (at : ℕ) (page : PageOf s n at) (count : ℕ) (is : count ≡ word_at (page_at n + held_at) s) (small : count ≤ held_limit) where
-    held-slots : (node_at (line_of s) n).held ≡ slots_in held_in held_size (page_at n + held_at + count_size) count s
+    pub held-slots : (node_at (line_of s) n).held ≡ slots_in held_in held_size (page_at n + held_at + count_size) count s
     held-slots =
         list_slots held_in no_held held_size (page_at n + held_at + count_size) count s (node_at (line_of s) n).held
         (line_held_count s (counted page.ready) n page.within ∙ rw (← is) (omega arith))
@@ -163,6 +161,11 @@ module _ (s : List ℕ) (n : ℕ) where
     held_whole =
         slots_pass_lem held_in held_size s held_exact (held_passes (line_of s) n) (held_next (line_of s) n) none_held (page_at n + held_at + count_size) count
         ∙ ap (λ (t : Bool). slots_exact held_exact held_size (page_at n + held_at + count_size) count s && t) (ap (passes (held_passes (line_of s) n) (held_next (line_of s) n) none_held) (sym held-slots) ∙ held_passes_lem (line_of s) n none_held (node_at (line_of s) n).held)
+
+    pub held_going : Going (held_pass s n) (at + 1552) held_size count (slots_exact held_exact held_size (page_at n + held_at + count_size) count s && held_all_right (line_of s) n (node_at (line_of s) n).held) none_held 0
+    held_going =
+        let there : at + 1552 ≡ page_at n + held_at + count_size = omega (arith, page.start) in
+        rw (there, ← held_whole) (going_start (held_pass s n) (page_at n + held_at + count_size) held_size count none_held)
 
 -- ---- targets
 
@@ -187,7 +190,7 @@ module _ (s : List ℕ) (n : ℕ) where
   target_more one a k g = pass_more target_in target_size s target_exact (target_passes (line_of s) n) (target_next (line_of s) n) true 0 a k ∙ rw g refl
 
   module _ (at : ℕ) (page : PageOf s n at) (count : ℕ) (is : count ≡ word_at (page_at n + targets_at) s) (small : count ≤ target_limit) where
-    target-slots : (node_at (line_of s) n).targets ≡ slots_in target_in target_size (page_at n + targets_at + count_size) count s
+    pub target-slots : (node_at (line_of s) n).targets ≡ slots_in target_in target_size (page_at n + targets_at + count_size) count s
     target-slots =
         list_slots target_in no_target target_size (page_at n + targets_at + count_size) count s (node_at (line_of s) n).targets
         (line_targets_count s (counted page.ready) n page.within ∙ rw (← is) (omega arith))
@@ -217,40 +220,37 @@ module _ (slot : ℕ → List ℕ → Bool) (limit size a : ℕ) (s : List ℕ) 
   unfolding list_exact
   list_few used unused h e f = rw (e, f, le-leb (word_at a s) limit h) (list_parts (slots_exact slot size (a + count_size) (word_at a s) s) (zero_at (a + count_size + size * word_at a s) (size * (limit - word_at a s)) s) right)
 
--- The log: its entries, their sets, and what stands behind them.
-module _ (s : List ℕ) (n : ℕ) where
-  abbrev at : ℕ
-  at = page_at n + log_at
+  -- What was found of a list, by what its test says.
+  pub list_found : {says : ℕ → Bool → Type 0} {found : Bool} → ListFound says limit size a s found
+      → ((used : Bool) → word_at a s ≤ limit → says (word_at a s) used → used ≡ (slots_exact slot size (a + count_size) (word_at a s) s && right))
+      → found ≡ (list_exact slot limit size a s && right)
+  list_found {found = found} f is = go (ltb limit (word_at a s)) refl
+    where
+      go : (t : Bool) → ltb limit (word_at a s) ≡ t → found ≡ (list_exact slot limit size a s && right)
+      go true e = let many = ltb-true limit (word_at a s) e in f.many many ∙ sym (list_many many)
+      go false e =
+          let few = ltb-false limit (word_at a s) e in
+          let (used, says, found) = f.few few in
+          found ∙ list_few used _ few (is used few says) refl
 
-  abbrev log : List Entry
-  log = (node_at (line_of s) n).log
+-- The end of a page: a kept answer has no bytes that are asked of.
+asked_slots : (size a n : ℕ) (s : List ℕ) → slots_exact asked_exact size a n s ≡ true
+asked_slots size a zero s = refl
+asked_slots size a (suc n) s = asked_slots size (a + size) n s
 
-  abbrev behind : Bool
-  behind = zero_at (at + count_size + entry_size * word_at at s) (entry_size * (log_limit - word_at at s)) s
+pub rest_found : {says : ℕ → Bool → Type 0} {found : Bool} (s : List ℕ) (a : ℕ) → ListFound says 1 kept_size (a + kept_at) s found → ((used : Bool) → says (word_at (a + kept_at) s) used → used ≡ true)
+    → (behind : Bool) → behind ≡ zero_at (a + node_rest_at) node_rest s → (found && behind) ≡ page_end_exact a s
+rest_found s a f is behind e =
+    let kept = list_found asked_exact 1 kept_size (a + kept_at) s true f (λ used few k. is used k ∙ sym (and-true _ ∙ asked_slots kept_size (a + kept_at + count_size) (word_at (a + kept_at) s) s)) in
+    (λ i. (kept ∙ and-true (list_exact asked_exact 1 kept_size (a + kept_at) s)) i && e i)
 
-  -- As many as there may be, and whether they are right but for their sets.
-  pub record LogUsed (used : Bool) : Type 0 where
-    pub few : word_at at s ≤ log_limit
-    pub is : used ≡ (slots_exact entry_exact entry_size (at + count_size) (word_at at s) s && entries_right (line_of s) n log)
-
-  module _ (used : Bool) (u : LogUsed used) where
-    log_tested : (sets unused : Bool) → sets ≡ all_of (set_right (plan_of s) n) log → unused ≡ behind → (used && sets && unused) ≡ (list_exact entry_exact log_limit entry_size at s && log_right (line_of s) n log)
-    unfolding log_right
-    log_tested sets unused e f =
-        list_few entry_exact log_limit entry_size at s (log_right (line_of s) n log) (used && sets) unused u.few
-        ((λ i. u.is i && (e ∙ ap (λ (p : Plan). all_of (set_right p n) log) (sym (line-plan s))) i)
-        ∙ and_assoc (slots_exact entry_exact entry_size (at + count_size) (word_at at s) s) (entries_right (line_of s) n log) (all_of (set_right (line_of s).plan n) log))
-        f
-
-    pub log_unused : used ≡ false → false ≡ (list_exact entry_exact log_limit entry_size at s && log_right (line_of s) n log)
-    log_unused h = sym (ap (λ (t : Bool). t && all_of (set_right (plan_of s) n) log && behind) h) ∙ log_tested (all_of (set_right (plan_of s) n) log) behind refl refl
-
-    module _ (sets : Bool) (right : used ≡ true) (e : sets ≡ all_of (set_right (plan_of s) n) log) where
-      pub log_unset : sets ≡ false → false ≡ (list_exact entry_exact log_limit entry_size at s && log_right (line_of s) n log)
-      log_unset h = sym (λ i. right i && h i && behind) ∙ log_tested sets behind e refl
-
-      pub log_used : sets ≡ true → (unused : Bool) → unused ≡ behind → unused ≡ (list_exact entry_exact log_limit entry_size at s && log_right (line_of s) n log)
-      log_used h unused f = sym (λ i. right i && h i && unused) ∙ log_tested sets unused e f
+-- A log's entries, and their sets.
+pub log_both : (s : List ℕ) (n : ℕ) (slots : Bool)
+    → ((slots && entries_right (line_of s) n (node_at (line_of s) n).log) && all_of (set_right (plan_of s) n) (node_at (line_of s) n).log) ≡ (slots && log_right (line_of s) n (node_at (line_of s) n).log)
+unfolding log_right
+log_both s n slots =
+    let log = (node_at (line_of s) n).log in
+    and_assoc slots (entries_right (line_of s) n log) (all_of (set_right (plan_of s) n) log) ∙ ap (λ (p : Plan). slots && (entries_right (line_of s) n log && all_of (set_right p n) log)) (sym (line-plan s))
 
 -- ---- the head, the status
 
@@ -258,33 +258,16 @@ empty_count : {A : Type 0} (xs : List A) (c : ℕ) → length xs ≡ min c 64 �
 empty_count [] c e = sym (eq-eqb c 0 (omega arith))
 empty_count (x ∷ xs) c e = sym (ne_eqb c 0 (λ z. omega arith))
 
-crash_mark : (c : ℕ) → not (eqb c 0) ≡ crash_of c
-crash_mark zero = refl
-crash_mark (suc c) = ap not (eqb-suc-zero c)
+not_missing : (status : Status) (mark : Bool) → (is_up status || mark) ≡ not (not (is_up status) && not mark)
+not_missing up mark = refl
+not_missing down mark = sym (not-not mark)
+not_missing replay mark = sym (not-not mark)
 
-not_missing : (status : ℕ) (mark : Bool) → (eqb status 0 || mark) ≡ not (not (is_up (status_of status)) && not mark)
-not_missing zero mark = refl
-not_missing (suc zero) mark = sym (not-not mark)
-not_missing (suc (suc n)) mark = rw (eqb-suc-zero (suc n)) (sym (not-not mark))
-
-holds_not : (x : Node) (status time log held targets kept : ℕ) → time ≡ x.time → is_empty x.log ≡ eqb log 0 → is_empty x.held ≡ eqb held 0 → is_empty x.targets ≡ eqb targets 0 → is_nothing x.asked ≡ eqb kept 0
-    → holds_nothing status time log held targets kept ≡ not (holds_by_status (status_of status) x)
-holds_not x zero time log held targets kept t l h g k = rw (← h, ← g, ← k) (sym (not-not (is_empty x.held && is_empty x.targets && is_nothing x.asked)))
-holds_not x (suc zero) time log held targets kept t l h g k = rw (t, ← l, ← h, ← g, ← k) (sym (not-not (eqb x.time 0 && is_empty x.log && is_empty x.held && (is_empty x.targets || not (is_nothing x.asked)))))
-holds_not x (suc (suc n)) time log held targets kept t l h g k = rw (← l, ← k) (sym (not-not (is_empty x.log && is_nothing x.asked)))
-
--- What a node of a status may not hold, by the status as it is tested.
-module _ (status time log held targets kept : ℕ) where
-  pub nothing_up : status ≡ 0 → (eqb held 0 && eqb targets 0 && eqb kept 0) ≡ holds_nothing status time log held targets kept
-  nothing_up e = rw e refl
-
-  pub nothing_down : status ≡ 1 → (eqb time 0 && eqb log 0 && eqb held 0 && (eqb targets 0 || not (eqb kept 0))) ≡ holds_nothing status time log held targets kept
-  nothing_down e = rw e refl
-
-pub nothing_replay : (status time log held targets kept : ℕ) → (status ≡ 0 → ⊥) → (status ≡ 1 → ⊥) → (eqb log 0 && eqb kept 0) ≡ holds_nothing status time log held targets kept
-nothing_replay zero time log held targets kept a b = absurd (a refl)
-nothing_replay (suc zero) time log held targets kept a b = absurd (b refl)
-nothing_replay (suc (suc n)) time log held targets kept a b = refl
+holds_not : (x : Node) (status : Status) (time log held targets kept : ℕ) → time ≡ x.time → is_empty x.log ≡ eqb log 0 → is_empty x.held ≡ eqb held 0 → is_empty x.targets ≡ eqb targets 0 → is_nothing x.asked ≡ eqb kept 0
+    → holds_nothing (status_number status) time log held targets kept ≡ not (holds_by_status status x)
+holds_not x up time log held targets kept t l h g k = rw (← h, ← g, ← k) (sym (not-not (is_empty x.held && is_empty x.targets && is_nothing x.asked)))
+holds_not x down time log held targets kept t l h g k = rw (t, ← l, ← h, ← g, ← k) (sym (not-not (eqb x.time 0 && is_empty x.log && is_empty x.held && (is_empty x.targets || not (is_nothing x.asked)))))
+holds_not x replay time log held targets kept t l h g k = rw (← l, ← k) (sym (not-not (is_empty x.log && is_nothing x.asked)))
 
 pub head_tested : (s : List ℕ) (a steps time : ℕ) → a + 8 ≤ length s → time ≡ word_at (a + time_at) s
     → (leb (get_or s a 0) 2 && leb (get_or s (a + 1) 0) 1 && eqb (bit_or (get_or s (a + 2) 0) (get_or s (a + 3) 0)) 0 && leb time steps) ≡ (head_exact a s && leb (word_at (a + time_at) s) steps)
@@ -305,16 +288,14 @@ module _ (s : List ℕ) (n at : ℕ) (page : PageOf s n at) where
   pub head_node : (steps : ℕ) → steps ≡ accepted_steps (line_of s) → (head_exact at s && leb (word_at (at + time_at) s) steps) ≡ (head_exact (page_at n) s && leb x.time (accepted_steps (line_of s)))
   head_node steps e = rw (← time_in s n at page (word_at (at + time_at) s) refl, ← e, ← page.start) refl
 
-  pub status_tested : (status mark time log held targets kept : ℕ) (end nothing : Bool)
-      → status ≡ get_or s at 0 → mark ≡ get_or s (at + 1) 0 → time ≡ word_at (at + time_at) s → log ≡ word_at (at + log_at) s → held ≡ word_at (at + held_at) s → targets ≡ word_at (at + targets_at) s → kept ≡ word_at (at + kept_at) s
-      → end ≡ (not (eqb mark 0) && (is_source (plan_of s) n || is_sink (plan_of s) n)) → nothing ≡ holds_nothing status time log held targets kept
-      → ((eqb status 0 || not (eqb mark 0)) && not end && nothing) ≡ status_right (line_of s).plan n x
+  pub status_tested : (status : Status) (is-up crashed end nothing : Bool) (time log held targets kept : ℕ)
+      → status ≡ x.status → is-up ≡ is_up status → crashed ≡ x.crashed → time ≡ word_at (at + time_at) s → log ≡ word_at (at + log_at) s → held ≡ word_at (at + held_at) s → targets ≡ word_at (at + targets_at) s → kept ≡ word_at (at + kept_at) s
+      → end ≡ (crashed && (is_source (plan_of s) n || is_sink (plan_of s) n)) → nothing ≡ holds_nothing (status_number status) time log held targets kept
+      → ((is-up || crashed) && not end && nothing) ≡ status_right (line_of s).plan n x
   unfolding status_right mark_missing mark_on_end node_holds
-  status_tested status mark time log held targets kept end nothing a b c d e f i g h =
-      let is : x.status ≡ status_of status = line_status s few n page.within ∙ ap status_of (rw (page.start, ← add-zero (page_at n)) at (sym a)) in
-      let marked : x.crashed ≡ not (eqb mark 0) = line_crashed s few n page.within ∙ ap crash_of (rw page.start at (sym b)) ∙ sym (crash_mark mark) in
+  status_tested status is-up crashed end nothing time log held targets kept a u b c d e f i g h =
       let empty = holds_not x status time log held targets kept (time_in s n at page time c) (empty_count x.log log (line_log_count s few n page.within ∙ rw (at_page log_at log d) refl)) (empty_count x.held held (line_held_count s few n page.within ∙ rw (at_page held_at held e) refl)) (empty_count x.targets targets (line_targets_count s few n page.within ∙ rw (at_page targets_at targets f) refl)) (kept_counted s page.ready n page.within kept (at_page kept_at kept i)) in
-      rw (is, marked, line-plan s, h, empty, g, not_missing status (not (eqb mark 0))) refl
+      rw (u, g, h, empty, ← a, ← b, line-plan s, not_missing status crashed) refl
 
   counts_right_lem : counts_right x ≡ true
   unfolding counts_right

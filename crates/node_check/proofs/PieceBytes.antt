@@ -1,5 +1,5 @@
 -- What stands in a slot, byte by byte.
-use Prim.Native.Nat.{ℕ, ◌+◌, ◌-◌, ◌^◌, ◌≤◌, ◌<◌}
+use Prim.Native.Nat.{ℕ, ◌+◌, ◌-◌, ◌≤◌, ◌<◌}
 use mathlib.Core.Path.{◌≡◌, refl, sym, ap, ◌∙◌}
 use mathlib.Core.Bool.{Bool, true, false, not, ◌&&◌, and-true, and-false, and_assoc}
 use mathlib.Core.List.{List, [], ◌∷◌}
@@ -10,10 +10,10 @@ use lib.ListN.{length, get_or, take, drop}
 use Rattle.plan.specs.declared.Record.{Record}
 use Rattle.plan.specs.Layout.{bytes_of}
 use Rattle.plan.specs.Lawful.{Bytes}
-use Rattle.plan.specs.Record.{record_fields, record_layout}
-use Rattle.plan.specs.Plan.{plan_of, plan_channels, is_none, entering, leaving}
-use Rattle.plan.specs.Mask.{taking, some_takes, plan_mask}
-use Rattle.plan.proofs.TakingLaws.{taking_some}
+use Rattle.plan.specs.Record.{record_layout}
+use Rattle.plan.specs.Plan.{Plan, plan_of, plan_channels, is_none, entering, leaving}
+use Rattle.plan.specs.Mask.{taking, takes_at, among}
+use Rattle.plan.proofs.TakingLaws.{taking-among}
 use Rattle.rules.specs.Lists.{is_empty}
 use Rattle.rules.specs.Line.{Entry, Held, Line, made, accepted_steps}
 use Rattle.rules.specs.Replay.{passed_on}
@@ -24,6 +24,7 @@ use Rattle.items.specs.Items.{if_found, from_sender, record_right, origin_right,
 use Rattle.buffer.specs.Exact.{zero_at, record_exact, time_named, origin_exact, entry_exact, held_exact, target_exact}
 use Rattle.buffer.specs.Zero.{zero_bytes}
 use Rattle.buffer.specs.Check.{record_in}
+use Rattle.buffer.specs.Ready.{Ready}
 use Rattle.buffer.specs.Words.{number64}
 use Rattle.buffer.proofs.BytesLaws.{one_zero, two_zero, three_zero}
 use Rattle.buffer.proofs.WordLaws.{part_written}
@@ -38,13 +39,9 @@ zero_part from to at k s e f = λ i. zero_bytes (take (f i) (drop (e i) s))
 
 -- ---- log entries and held records
 
--- A record by its fields, of the number that its bytes spell.
-pub record_fields_lem : (a : ℕ) (s : List ℕ) (number piece material mass : ℕ) → Bytes s → a + 8 ≤ length s → number ≡ number64 a s
-    → piece ≡ get_or (record_fields.read (bytes_of 8 number)) 0 0 → material ≡ get_or (record_fields.read (bytes_of 8 number)) 1 0 → mass ≡ get_or (record_fields.read (bytes_of 8 number)) 3 0
-    → ◌≡◌ {A = Record} (record { piece = piece; material = material; mass = mass }) (record_in a s)
-unfolding record_layout
-record_fields_lem a s number piece material mass bytes long e f g h =
-    (λ i. record { piece = f i; material = g i; mass = h i }) ∙ ap (λ (x : ℕ). record_layout.read (bytes_of 8 x)) e ∙ ap record_layout.read (part_written 8 a s bytes long)
+-- A record, of the number that its bytes spell.
+pub record_spelled : (a : ℕ) (s : List ℕ) (number : ℕ) → Bytes s → a + 8 ≤ length s → number ≡ number64 a s → record_layout.read (bytes_of 8 number) ≡ record_in a s
+record_spelled a s number bytes long e = ap (λ (x : ℕ). record_layout.read (bytes_of 8 x)) e ∙ ap record_layout.read (part_written 8 a s bytes long)
 
 -- A log entry's record and its byte unused; a held record's and its two.
 pub entry_plain_lem : (a : ℕ) (s : List ℕ) (what : Bool) → a + 23 < length s → what ≡ (record_exact a s && record_right (record_in a s)) → (what && eqb (get_or s (a + 23) 0) 0) ≡ entry_plain a s
@@ -102,14 +99,17 @@ held_ordered n a s rises =
     ap (λ (x : Record). ((record_exact a s && origin_exact (a + 13) s && zero_at (a + 18) 2 s) && ((record_right x && origin_right (line_of s) n (made (held_in a s).sender (held_in a s).time) (held_in a s).before && passed_on (line_of s).plan n x) && rises))) (ap (λ (x : Held). x.what) (held_in_lem a s))
     ∙ held-parts (record_exact a s) (origin_exact (a + 13) s) (zero_at (a + 18) 2 s) (record_right (record_in a s)) (origin_right (line_of s) n (made (held_in a s).sender (held_in a s).time) (held_in a s).before) (passed_on (line_of s).plan n (record_in a s)) rises
 
--- Whether some channel that leaves a node takes a record, by the mask of those that leave it.
-pub passed_mask : (s : List ℕ) (n : ℕ) (r : Record) (mask : ℕ) → mask < 2 ^ 32 → plan_channels s ≤ 24 → mask ≡ plan_mask s (leaving (plan_of s) n) → some_takes (plan_of s) r mask ≡ passed_on (plan_of s) n r
+-- Whether some channel that leaves a node takes a record.
+passed_some : (p : Plan) (n : ℕ) (r : Record) → not (is_none (among (takes_at p r) (leaving p n))) ≡ passed_on p n r
 unfolding passed_on
-passed_mask s n r mask small few e = taking_some s n r mask e small few ∙ ap not (one (taking (plan_of s) n r))
+passed_some p n r = ap (λ (bs : List ℕ). not (is_none bs)) (sym (taking-among p n r)) ∙ ap not (one (taking p n r))
   where
     one : (bs : List ℕ) → is_none bs ≡ is_empty bs
     one [] = refl
     one (b ∷ bs) = refl
+
+pub passed_by : (s : List ℕ) (n at : ℕ) → Ready s → (bs : List ℕ) → (plan_channels s ≤ 24 → bs ≡ leaving (plan_of s) n) → not (is_none (among (takes_at (plan_of s) (record_in at s)) bs)) ≡ passed_on (plan_of s) n (record_in at s)
+passed_by s n at ready bs is = ap (λ (cs : List ℕ). not (is_none (among (takes_at (plan_of s) (record_in at s)) cs))) (is ready.channels) ∙ passed_some (plan_of s) n (record_in at s)
 
 -- ---- a target
 

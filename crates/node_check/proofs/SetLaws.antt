@@ -1,5 +1,5 @@
 -- The sets in a node's log, entry by entry.
-use Prim.Native.Nat.{ℕ, zero, suc, ◌+◌, ◌*◌, ◌-◌, ◌/◌, ◌%◌, ◌^◌, ◌≤◌, ◌<◌}
+use Prim.Native.Nat.{ℕ, zero, suc, ◌+◌, ◌*◌, ◌/◌, ◌%◌, ◌^◌, ◌≤◌, ◌<◌}
 use mathlib.Core.Path.{◌≡◌, refl, sym, ap, ◌∙◌}
 use mathlib.Core.Bool.{Bool, beq, true, false, cond, ◌&&◌}
 use mathlib.Core.List.{List, [], ◌∷◌, map}
@@ -17,7 +17,7 @@ use Rattle.plan.specs.Check.{plan_fits}
 use Rattle.plan.proofs.AcceptedLaws.{four_at}
 use Rattle.plan.proofs.SetLaws.{bit, halved}
 use Rattle.plan.proofs.FitsLaws.{fitting}
-use Rattle.rules.specs.Lists.{all_of}
+use Rattle.rules.specs.Lists.{all_of, up_to}
 use Rattle.rules.specs.Line.{Entry, node_at}
 use Rattle.rules.proofs.Undamaged.Restored.{all_same}
 use Rattle.state.specs.Sizes.{page_at, count_size, log_at, entry_size}
@@ -32,8 +32,9 @@ use Rattle.buffer.proofs.LookLaws.{numbers_end}
 use Rattle.buffer.proofs.SetLaws.{leavers_on, leavers_here, none_left}
 use Rattle.node_check.specs.NodeCheck.{entry_in}
 use Rattle.node_check.specs.Sets.{LogOf, bit_right, none_past, Listed}
-use Rattle.node_check.proofs.SlotLaws.{slots_in}
-use Rattle.node_check.proofs.NodeLaws.{page_room, log_slots}
+use Rattle.node_check.proofs.WalkLaws.{each_of}
+use Rattle.node_check.proofs.SlotLaws.{each_slot}
+use Rattle.node_check.proofs.NodeLaws.{log_slots}
 
 -- ---- an entry's set
 
@@ -64,53 +65,28 @@ module _ (s : List ℕ) (a : ℕ) where
       same false (suc zero) h = refl
       same t (suc (suc y)) h = let no : ⊥ = omega arith in absurd no
 
--- ---- a pass over the log
+-- ---- the entries of a log
 
--- What is asked of each entry, beside what is right of it already.
-module _ (s : List ℕ) (n : ℕ) (asked : Entry → Bool) where
-  abbrev log : List Entry
-  log = (node_at (line_of s) n).log
+module _ (s : List ℕ) (n at count : ℕ) (l : LogOf s n at count) where
+  abbrev slot : ℕ → ℕ
+  slot i = at + 12 + entry_size * i
 
-  -- So far so good: what is asked of the whole log is asked of so many entries from an offset on, which are right but for their sets.
-  pub record SetsLeft (a left : ℕ) : Type 0 where
-    pub room : a + entry_size * left ≤ length s
-    pub right : all_of (entry_right (line_of s) n) (slots_in entry_in entry_size a left s) ≡ true
-    pub same : all_of asked (node_at (line_of s) n).log ≡ all_of asked (slots_in entry_in entry_size a left s)
-
-  pub sets_start : (at count : ℕ) → LogOf s n at count → SetsLeft (at + 12) count
-  unfolding entries_right
-  sets_start at count l =
+  -- What is asked of each entry of the log is asked of each slot.
+  pub log_asked : (asked : Entry → Bool) → all_of (λ i. asked (entry_in (at + 12 + entry_size * i) s)) (up_to 0 count) ≡ all_of asked (node_at (line_of s) n).log
+  log_asked asked =
       let there : at + 12 ≡ page_at n + log_at + count_size = omega (arith, l.page.start) in
-      let slots : log ≡ slots_in entry_in entry_size (at + 12) count s = rw there (log_slots s n at l.page count l.is l.small) in
+      each_slot entry_in entry_size s asked (at + 12) count ∙ ap (all_of asked) (rw there (sym (log_slots s n at l.page count l.is l.small)))
+
+  -- Each entry's record is right.
+  pub record_known : (i : ℕ) → i < count → record_right (record_in (at + 12 + entry_size * i) s) ≡ true
+  unfolding entries_right entry_right
+  record_known i h =
+      let log = (node_at (line_of s) n).log in
+      let e = entry_in (at + 12 + entry_size * i) s in
       let (right, _) = all_true (all_of (entry_right (line_of s) n) log) (log_rise (is_inner (line_of s).plan n) 0 (node_at (line_of s) n).time log ∷ []) l.right in
-      record { room = omega (arith, page_room l.page, l.small); right = ap (all_of (entry_right (line_of s) n)) (sym slots) ∙ right; same = ap (all_of asked) slots }
-
-  pub sets_known : (a left : ℕ) → 0 < left → SetsLeft a left → record_right (record_in a s) ≡ true
-  unfolding entry_right
-  sets_known a zero h v = let no : ⊥ = omega arith in absurd no
-  sets_known a (suc k) h v =
-      let e = entry_in a s in
-      let (first, _) = all_true (record_right e.what) (origin_right (line_of s) n e.origin e.before ∷ all_of (entry_right (line_of s) n) (slots_in entry_in entry_size (a + entry_size) k s) ∷ []) v.right in
-      ap record_right (sym (record_of s a)) ∙ first
-
-  module _ (one : Bool) where
-    pub sets_wrong : (a left : ℕ) → 0 < left → SetsLeft a left → one ≡ asked (entry_in a s) → one ≡ false → false ≡ all_of asked (node_at (line_of s) n).log
-    sets_wrong a zero h v is e = let no : ⊥ = omega arith in absurd no
-    sets_wrong a (suc k) h v is e = sym (v.same ∙ ap (λ (t : Bool). t && all_of asked (slots_in entry_in entry_size (a + entry_size) k s)) (sym is ∙ e))
-
-    pub sets_more : (a left : ℕ) → 0 < left → SetsLeft a left → one ≡ asked (entry_in a s) → one ≡ true → SetsLeft (a + entry_size) (left - 1)
-    sets_more a zero h v is e = let no : ⊥ = omega arith in absurd no
-    sets_more a (suc k) h v is e =
-        let (_, right) = all_true (entry_right (line_of s) n (entry_in a s)) (all_of (entry_right (line_of s) n) (slots_in entry_in entry_size (a + entry_size) k s) ∷ []) v.right in
-        let less : suc k - 1 ≡ k = omega arith in
-        rw less (record { room = omega (arith, v.room); right = right; same = v.same ∙ ap (λ (t : Bool). t && all_of asked (slots_in entry_in entry_size (a + entry_size) k s)) (sym is ∙ e) })
-
-  pub sets_end : (a left : ℕ) → left ≡ 0 → SetsLeft a left → true ≡ all_of asked (node_at (line_of s) n).log
-  sets_end a left e v = sym (v.same ∙ ap (λ (k : ℕ). all_of asked (slots_in entry_in entry_size a k s)) e)
-
-  -- Nothing is asked of an empty log.
-  pub sets_none : (at count : ℕ) → LogOf s n at count → count ≡ 0 → true ≡ all_of asked (node_at (line_of s) n).log
-  sets_none at count l e = sets_end (at + 12) count e (sets_start at count l)
+      let here = each_of (λ i. entry_right (line_of s) n (entry_in (at + 12 + entry_size * i) s)) count (log_asked (entry_right (line_of s) n) ∙ right) i h in
+      let (first, _) = all_true (record_right e.what) (origin_right (line_of s) n e.origin e.before ∷ []) here in
+      ap record_right (sym (record_of s (at + 12 + entry_size * i))) ∙ first
 
 -- ---- channel by channel
 

@@ -1,10 +1,11 @@
 -- What the check of a node's page goes by: where it starts, its head, its slots one by one, and what a node of a status may not hold.
-use Rattle.std.specs.Prelude.{ℕ, zero, suc, ◌+◌, ◌<◌, ◌≡◌, Bool, true, not, ◌&&◌, ◌||◌, List, get_or, take, drop, leb, eqb}
+use Rattle.std.specs.Prelude.{ℕ, zero, suc, ◌+◌, ◌*◌, ◌-◌, ◌≤◌, ◌<◌, ◌≡◌, Bool, true, false, not, ◌&&◌, ◌||◌, List, get_or, take, drop, leb, eqb}
 use Rattle.plan.specs.Plan.{plan_nodes}
 use Rattle.rules.specs.Line.{Entry, Held, Target, Line, made, node_at}
-use Rattle.state.specs.Sizes.{page_at, status_at, crashed_at, entry_size, held_size, target_size, kept_at, kept_size, node_rest_at, node_rest}
+use Rattle.state.specs.Sizes.{page_at, count_size, status_at, crashed_at, entry_size, held_size, target_size, kept_at, kept_size, node_rest_at, node_rest}
 use Rattle.state.specs.Pieces.{entry_layout, held_layout, target_layout}
 use Rattle.state.specs.State.{line_of}
+use Rattle.state.specs.Right.{word_at}
 use Rattle.buffer.specs.Exact.{zero_at, record_exact, origin_exact, entry_exact, asked_exact, list_exact}
 use Rattle.buffer.specs.Check.{record_in}
 use Rattle.buffer.specs.Ready.{Ready}
@@ -70,3 +71,8 @@ entry_next last e = e.time
 
 abbrev pub log_pass : List ℕ → ℕ → ℕ → ℕ → ℕ → Bool
 log_pass s n last a k = slots_pass entry_in entry_size s entry_exact (entry_passes (line_of s) n (node_at (line_of s) n).time) entry_next last a k
+
+-- What is found of a list at a: false where its count is past the limit; else what a test says of so many slots, and whether the bytes behind them are 0.
+pub record ListFound (says : ℕ → Bool → Type 0) (limit size a : ℕ) (s : List ℕ) (found : Bool) : Type 0 where
+  pub many : limit < word_at a s → found ≡ false
+  pub few : word_at a s ≤ limit → (used : Bool) × says (word_at a s) used × (found ≡ (used && zero_at (a + count_size + size * word_at a s) (size * (limit - word_at a s)) s))

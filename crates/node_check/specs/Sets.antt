@@ -1,5 +1,7 @@
 -- What the check of the sets in a node's log goes by (document 02, 2026-06): the log; a channel's bit; and the sets by material where its channels are open.
-use Rattle.std.specs.Prelude.{ℕ, ◌+◌, ◌/◌, ◌%◌, ◌^◌, ◌≤◌, ◌<◌, ◌≡◌, Bool, true, cond, ◌&&◌, ◌||◌, List, length, get_or, replicate, ltb, eqb}
+use Rattle.std.specs.Prelude.{ℕ, ◌+◌, ◌/◌, ◌%◌, ◌^◌, ◌≤◌, ◌<◌, ◌≡◌, Bool, true, false, cond, ◌&&◌, ◌||◌, List, length, get_or, replicate, ltb, eqb}
+use Rattle.std.specs.declared.option.Option.{Option}
+use Rattle.std.specs.declared.option.Option.TheVariants.{None, Some}
 use Rattle.plan.specs.declared.Record.{Record}
 use Rattle.plan.specs.declared.Channel.{Channel}
 use Rattle.plan.specs.Channel.{bit_set, takes}
@@ -56,3 +58,8 @@ Listed p n t = (r : Record) → record_right r ≡ true → get_or t (r.material
 pub record ByMaterial (p : Plan) (n : ℕ) (t : List ℕ) (r : Bool) : Type 0 where
   pub all : r ≡ all_of (λ (b : ℕ). is_open (channel_at p b)) (leaving p n)
   pub listed : r ≡ true → Listed p n t
+
+-- The table, or none where a channel is not open.
+abbrev pub material_table : Plan → ℕ → Option (List ℕ) → Type 0
+material_table p n None = ByMaterial p n no_sets false
+material_table p n (Some t) = ByMaterial p n t true

@@ -1,25 +1,38 @@
 // The check of a node's page.
 #![tactic(auto)]
 
-ghost use Rattle.std.specs.Prelude.{◌≡◌, ◌&&◌, ◌||◌, ◌+◌, ◌*◌, ◌≤◌, ◌<◌, length, get_or, set, leb};
-ghost use Rattle.plan.specs.Plan.{plan_of, plan_nodes, leaving, is_source, is_sink};
-ghost use Rattle.plan.specs.Mask.{plan_mask};
+ghost use Rattle.std.specs.Prelude.{◌≡◌, not, ◌&&◌, ◌||◌, ◌+◌, ◌*◌, ◌-◌, ◌≤◌, ◌<◌, length, get_or, leb};
+ghost use Rattle.plan.specs.Plan.{plan_of, plan_nodes, is_none, is_source, is_sink};
+ghost use Rattle.plan.specs.Mask.{listed, among, takes_at};
 ghost use Rattle.rules.specs.Lists.{all_of};
 ghost use Rattle.rules.specs.Line.{node_at, accepted_steps, log_limit, held_limit, target_limit};
-ghost use Rattle.rules.specs.Replay.{passed_on};
 ghost use Rattle.state.specs.Sizes.{page_at, count_size, time_at, log_at, entry_size, held_at, held_size, targets_at, target_size};
+ghost use Rattle.state.specs.Node.{status_number};
 ghost use Rattle.state.specs.State.{line_of};
 ghost use Rattle.state.specs.Right.{word_at};
 ghost use Rattle.items.specs.Items.{may_follow, entries_right, log_right, held_all_right, target_right, status_right, node_plain};
 ghost use Rattle.buffer.specs.Exact.{entry_exact, held_exact, target_exact, slots_exact, list_exact, page_exact};
-ghost use Rattle.node_check.specs.NodeCheck.{PageOf, target_in, head_exact, entry_plain, entry_made, held_plain, held_made, page_end_exact, holds_nothing, log_pass};
-ghost use Rattle.buffer.specs.Check.{Tabled, record_in};
-ghost use Rattle.buffer.specs.Ready.{Ready};
-ghost use Rattle.buffer.specs.Table.{Table};
+ghost use Rattle.buffer.specs.Check.{record_in};
+ghost use Rattle.buffer.specs.Status.{status_is};
+ghost use Rattle.node_check.specs.NodeCheck.{PageOf, target_in, head_exact, entry_plain, entry_made, held_plain, held_made, page_end_exact, holds_nothing, log_pass, ListFound};
 
-use buffer::{Line, bytes, layout, look, origin, record, table};
+use buffer::joins::Joins;
+use buffer::status::Status;
+use buffer::{Line, bytes, layout, look, origin, record};
+use plan::masks::Channels;
 
 mod sets;
+
+// A node's page of a ready state: where it starts, and all accepted steps, which no time passes.
+#[derive(Clone, Copy)]
+struct Page<'a> {
+    joins: Joins<'a>,
+    n: usize,
+    at: usize,
+    steps: u32,
+    ghost there: { PageOf joins.state.now n at },
+    ghost all: { steps ≡ accepted_steps (line_of joins.state.now) },
+}
 
 // A log entry's record and its unused byte.
 fn entry_plain(s: &[u8], at: usize) -> bool
@@ -28,18 +41,6 @@ fn entry_plain(s: &[u8], at: usize) -> bool
 {
     let what = origin::record_ok(s, at);
     what & (s[at + 23] == 0)
-}
-
-// What a log entry was made from, and what that was made from.
-fn entry_made(s: &[u8], t: &[u8; 156], n: usize, at: usize) -> bool
-    requires { Ready s.now × Table s.now t.now × (at + 24 ≤ length s.now) }
-    ensures { result ≡ entry_made n at s.now }
-{
-    let from = look::index(s[at + 12]);
-    let time = bytes::get32(s, at + 13);
-    let earlier = look::index(s[at + 17]);
-    let since = bytes::get32(s, at + 18);
-    origin::origin_ok(s, t, n, from, time, earlier, since)
 }
 
 // Whether an entry is plain, its time not past the top, and one that may follow another: it is later or, at an inner node's entry with an empty set, the same (document 02, 2026-08).
@@ -51,101 +52,6 @@ fn follows(s: &[u8], inner: bool, slot: usize, plain: bool, last: u32, time: u32
     plain & (((last < time) | again) & (time <= top))
 }
 
-// The entries from the first on that is not plain, later than the last and within the top, so many: times may repeat there.
-fn entries_on(
-    s: &[u8],
-    t: &[u8; 156],
-    n: usize,
-    from: usize,
-    count: u32,
-    last: u32,
-    top: u32,
-) -> bool
-    requires { Ready s.now × Table s.now t.now × (from + entry_size * count ≤ length s.now) × (top ≡ (node_at (line_of s.now) n).time) }
-    ensures { result ≡ log_pass s.now n last from count }
-{
-    let source = table::source_in(s, t, n);
-    let sink = look::is_sink(s, n);
-    let inner = !(source | sink);
-    let mut so_far = last;
-    let mut slot = from;
-    let mut left = count;
-    while 0 < left {
-        let time = bytes::get32(s, slot + 8);
-        let plain = entry_plain(s, slot);
-        if !follows(s, inner, slot, plain, so_far, time, top) {
-            return false;
-        }
-        if !entry_made(s, t, n, slot) {
-            return false;
-        }
-        so_far = time;
-        slot += layout::ENTRY_SIZE;
-        left -= 1;
-    }
-    true
-}
-
-// The log's entries, so many: their times rise to the node's, or repeat where their sets are empty. The sets themselves are looked at behind this.
-fn entries_ok(s: &[u8], t: &[u8; 156], n: usize, at: usize, count: u32) -> bool
-    requires { PageOf s.now n at × Table s.now t.now × (count ≡ word_at (page_at n + log_at) s.now) × (count ≤ log_limit) }
-    ensures { result ≡ (slots_exact entry_exact entry_size (page_at n + log_at + count_size) count s.now && entries_right (line_of s.now) n (node_at (line_of s.now) n).log) }
-{
-    let top = bytes::get32(s, at + layout::TIME);
-    let mut last: u32 = 0;
-    let mut slot = at + layout::LOG_SLOTS;
-    let mut left = count;
-    while 0 < left {
-        let time = bytes::get32(s, slot + 8);
-        let plain = entry_plain(s, slot);
-        if !(plain & ((last < time) & (time <= top))) {
-            return entries_on(s, t, n, slot, left, last, top);
-        }
-        if !entry_made(s, t, n, slot) {
-            return false;
-        }
-        last = time;
-        slot += layout::ENTRY_SIZE;
-        left -= 1;
-    }
-    true
-}
-
-// The log: its count, its entries, their sets, and zero bytes behind them.
-fn log_ok(s: &[u8], t: &[u8; 156], n: usize, at: usize) -> bool
-    requires { PageOf s.now n at × Table s.now t.now }
-    ensures { result ≡ (list_exact entry_exact log_limit entry_size (page_at n + log_at) s.now && log_right (line_of s.now) n (node_at (line_of s.now) n).log) }
-{
-    let count = bytes::get32(s, at + layout::LOG);
-    if Line::LOG_LIMIT < count {
-        return false;
-    }
-    let used = entries_ok(s, t, n, at, count);
-    if !used {
-        return false;
-    }
-    if !sets::sets_ok(s, n, at, count) {
-        return false;
-    }
-    bytes::all_zero(
-        s,
-        at + layout::LOG_SLOTS + layout::ENTRY_SIZE * (count as usize),
-        at + layout::HELD,
-    )
-}
-
-// Whether one of the channels that leave a node, as a mask, takes the record.
-fn passed_on(s: &[u8], n: usize, mask: u32, at: usize) -> bool
-    requires { Ready s.now × (mask ≡ plan_mask s.now (leaving (plan_of s.now) n)) × (at + 8 ≤ length s.now) }
-    ensures { result ≡ passed_on (plan_of s.now) n (record_in at s.now) }
-{
-    let number = bytes::get64(s, at);
-    let piece = record::piece_of(number);
-    let material = record::material_of(number);
-    let mass = record::mass_of(number);
-    plan::masks::some_takes(s, mask, piece, material, mass)
-}
-
 // A held record's record and its two unused bytes.
 fn held_plain(s: &[u8], at: usize) -> bool
     requires { at + 20 ≤ length s.now }
@@ -155,209 +61,309 @@ fn held_plain(s: &[u8], at: usize) -> bool
     what & ((s[at + 18] | s[at + 19]) == 0)
 }
 
-// What a held record was made from, a sender and its time, and what that was made from.
-fn held_made(s: &[u8], t: &[u8; 156], n: usize, at: usize) -> bool
-    requires { Ready s.now × Table s.now t.now × (at + 20 ≤ length s.now) }
-    ensures { result ≡ held_made n at s.now }
-{
-    let sender = look::index(s[at + 8]);
-    let time = bytes::get32(s, at + 9);
-    let earlier = look::index(s[at + 13]);
-    let since = bytes::get32(s, at + 14);
-    origin::made_ok(s, t, n, sender, time, earlier, since)
+// What a node of a status may not have: its time, and how many log entries, held records, targets and kept answers.
+#[derive(Clone, Copy)]
+struct Counts {
+    time: u32,
+    log: u32,
+    held: u32,
+    targets: u32,
+    kept: u32,
 }
 
-// The last time of each row, by sender: a plan has at most 12 nodes.
-fn row_last(last: &[u32; 12], sender: usize) -> u32
-    requires { length last.now ≡ 12 }
-    ensures { result ≡ get_or last.now sender 0 }
-{
-    if sender < 12 { last[sender] } else { 0 }
-}
-
-fn row_set(last: &mut [u32; 12], sender: usize, time: u32)
-    requires { length last.old ≡ 12 }
-    ensures { last.new ≡ set last.old sender time }
-{
-    if sender < 12 {
-        last[sender] = time;
-    }
-}
-
-// The held records, so many: the times of a row rise.
-fn held_each_ok(s: &[u8], t: &[u8; 156], n: usize, at: usize, count: u32) -> bool
-    requires { PageOf s.now n at × Table s.now t.now × (count ≡ word_at (page_at n + held_at) s.now) × (count ≤ held_limit) }
-    ensures { result ≡ (slots_exact held_exact held_size (page_at n + held_at + count_size) count s.now && held_all_right (line_of s.now) n (node_at (line_of s.now) n).held) }
-{
-    if count == 0 {
-        return true;
-    }
-    let mask = plan::masks::leaving_mask(s, n);
-    let mut last: [u32; 12] = [0; 12];
-    let mut slot = at + layout::HELD_SLOTS;
-    let mut left = count;
-    while 0 < left {
-        let sender = look::index(s[slot + 8]);
-        let time = bytes::get32(s, slot + 9);
-        let plain = held_plain(s, slot);
-        let row = row_last(&last, sender);
-        if !(plain & (row < time)) {
-            return false;
+impl Counts {
+    // Held records, targets and a kept answer where it is up; anything but a kept answer and its targets where it is down; a log and a kept answer where it replays.
+    fn suit(self, status: Status) -> bool
+        ensures { result ≡ holds_nothing (status_number (status_is status)) self.time self.log self.held self.targets self.kept }
+    {
+        match status {
+            Status::Up => (self.held == 0) & (self.targets == 0) & (self.kept == 0),
+            Status::Down => {
+                (self.time == 0)
+                    & (self.log == 0)
+                    & (self.held == 0)
+                    & ((self.targets == 0) | (self.kept != 0))
+            }
+            Status::Replaying => (self.log == 0) & (self.kept == 0),
         }
-        let made = held_made(s, t, n, slot);
-        let passed = passed_on(s, n, mask, slot);
-        if !(made & passed) {
-            return false;
-        }
-        row_set(&mut last, sender, time);
-        slot += layout::HELD_SIZE;
-        left -= 1;
     }
-    true
 }
 
-// The list of held records: its count, the records, and zero bytes behind them.
-fn held_ok(s: &[u8], t: &[u8; 156], n: usize, at: usize) -> bool
-    requires { PageOf s.now n at × Table s.now t.now }
-    ensures { result ≡ (list_exact held_exact held_limit held_size (page_at n + held_at) s.now && held_all_right (line_of s.now) n (node_at (line_of s.now) n).held) }
-{
-    let count = bytes::get32(s, at + layout::HELD);
-    if Line::HELD_LIMIT < count {
-        return false;
-    }
-    let used = held_each_ok(s, t, n, at, count);
-    let unused = bytes::all_zero(
-        s,
-        at + layout::HELD_SLOTS + layout::HELD_SIZE * (count as usize),
-        at + layout::TARGETS,
-    );
-    used & unused
-}
-
-// A target: the node's time, the parent's time, the parent, three bytes unused.
-fn target_ok(s: &[u8], t: &[u8; 156], steps: u32, n: usize, at: usize) -> bool
-    requires { Tabled s.now t.now steps × (at + 12 ≤ length s.now) }
-    ensures { result ≡ (target_exact at s.now && target_right (line_of s.now) n (target_in at s.now)) }
-{
-    let parent = look::index(s[at + 8]);
-    let code = table::joined(s, t, parent, n);
-    // Read behind the lookup, each number is one load.
-    let time = bytes::get32(s, at);
-    let other = bytes::get32(s, at + 4);
-    let unused = ((s[at + 9] | s[at + 10]) | s[at + 11]) == 0;
-    unused & ((time <= steps) & (other <= steps) & (code != 255))
-}
-
-// The targets, so many.
-fn target_each_ok(s: &[u8], t: &[u8; 156], steps: u32, n: usize, at: usize, count: u32) -> bool
-    requires { PageOf s.now n at × Tabled s.now t.now steps × (count ≡ word_at (page_at n + targets_at) s.now) × (count ≤ target_limit) }
-    ensures { result ≡ (slots_exact target_exact target_size (page_at n + targets_at + count_size) count s.now && all_of (target_right (line_of s.now) n) (node_at (line_of s.now) n).targets) }
-{
-    let mut slot = at + layout::TARGET_SLOTS;
-    let mut left = count;
-    while 0 < left {
-        if !target_ok(s, t, steps, n, slot) {
-            return false;
-        }
-        slot += layout::TARGET_SIZE;
-        left -= 1;
-    }
-    true
-}
-
-// The list of targets: its count, the targets, and zero bytes behind them.
-fn targets_ok(s: &[u8], t: &[u8; 156], steps: u32, n: usize, at: usize) -> bool
-    requires { PageOf s.now n at × Tabled s.now t.now steps }
-    ensures { result ≡ (list_exact target_exact target_limit target_size (page_at n + targets_at) s.now && all_of (target_right (line_of s.now) n) (node_at (line_of s.now) n).targets) }
-{
-    let count = bytes::get32(s, at + layout::TARGETS);
-    if Line::TARGET_LIMIT < count {
-        return false;
-    }
-    let used = target_each_ok(s, t, steps, n, at, count);
-    let unused = bytes::all_zero(
-        s,
-        at + layout::TARGET_SLOTS + layout::TARGET_SIZE * (count as usize),
-        at + layout::KEPT,
-    );
-    used & unused
-}
-
-// The end of a page: how many answers are kept, one at most, and zero bytes where none is and behind it.
-fn rest_ok(s: &[u8], at: usize) -> bool
-    requires { at + 4_096 ≤ length s.now }
-    ensures { result ≡ page_end_exact at s.now }
-{
-    let count = bytes::get32(s, at + layout::KEPT);
-    if count == 0 {
-        return bytes::all_zero(s, at + layout::KEPT_SLOT, at + layout::PAGE);
-    }
-    let unused = bytes::all_zero(s, at + layout::PAGE_REST, at + layout::PAGE);
-    (count == 1) & unused
-}
-
-// Status, crash mark, two bytes unused, time.
-fn head_ok(s: &[u8], steps: u32, at: usize) -> bool
+// Whether one of some channels takes a record.
+fn passed_on(s: &[u8], channels: Channels, at: usize) -> bool
     requires { at + 8 ≤ length s.now }
-    ensures { result ≡ (head_exact at s.now && leb (word_at (at + time_at) s.now) steps) }
+    ensures { result ≡ not (is_none (among (takes_at (plan_of s.now) (record_in at s.now)) (listed channels))) }
 {
-    let time = bytes::get32(s, at + layout::TIME);
-    let unused = (s[at + 2] | s[at + 3]) == 0;
-    (s[at] <= 2) & (s[at + 1] <= 1) & unused & (time <= steps)
+    let what = record::record_of(bytes::get64(s, at));
+    channels.some_takes(s, what.piece, what.material, what.mass)
 }
 
-// What a node of a status may not hold: held records, targets and a kept answer where it is up; anything but a kept answer and its targets where it is down; a log and a kept answer where it replays.
-fn holds_nothing(status: u8, time: u32, log: u32, held: u32, targets: u32, kept: u32) -> bool
-    ensures { result ≡ holds_nothing status time log held targets kept }
+// A list: its count, which is within a limit, so many slots that pass a test, and zero bytes behind them.
+fn list_ok<F: Fn(usize) -> bool>(s: &[u8], at: usize, limit: u32, size: usize, used: F) -> bool
+    requires room { at + 4 + size * limit ≤ length s.now }
+    requires asked { word_at at s.now ≤ limit → F.pre used (word_at at s.now) }
+    ensures { ListFound (F.post used) limit size at s.now result }
 {
-    if status == 0 {
-        return (held == 0) & (targets == 0) & (kept == 0);
+    let count = bytes::get32(s, at);
+    if limit < count {
+        return false;
     }
-    if status == 1 {
-        return (time == 0) & (log == 0) & (held == 0) & ((targets == 0) | (kept != 0));
-    }
-    (log == 0) & (kept == 0)
+    let slots = at + layout::COUNT;
+    used(count as usize)
+        && bytes::all_zero(
+            s,
+            slots + size * (count as usize),
+            slots + size * (limit as usize),
+        )
 }
 
-// Whether a crash mark is on a source or a sink.
-fn marks_an_end(s: &[u8], t: &[u8; 156], n: usize, crashed: bool) -> bool
-    requires { Ready s.now × Table s.now t.now }
-    ensures { result ≡ (crashed && (is_source (plan_of s.now) n || is_sink (plan_of s.now) n)) }
-{
-    if crashed {
-        return table::source_in(s, t, n) | look::is_sink(s, n);
+impl Page<'_> {
+    // What a log entry was made from, and what that was made from.
+    fn entry_made(&self, slot: usize) -> bool
+        requires { slot + 24 ≤ length self.now.joins.state.now }
+        ensures { result ≡ entry_made self.now.n slot self.now.joins.state.now }
+    {
+        let s = self.joins.state;
+        let from = usize::from(s[slot + 12]);
+        let time = bytes::get32(s, slot + 13);
+        let earlier = usize::from(s[slot + 17]);
+        let since = bytes::get32(s, slot + 18);
+        self.joins.origin_ok(self.n, from, time, earlier, since)
     }
-    false
-}
 
-// Status and crash mark, by what the node holds and where it stands in the plan.
-fn status_ok(s: &[u8], t: &[u8; 156], n: usize, at: usize) -> bool
-    requires { PageOf s.now n at × Table s.now t.now }
-    ensures { result ≡ status_right (line_of s.now).plan n (node_at (line_of s.now) n) }
-{
-    let status = s[at];
-    let crashed = s[at + 1] != 0;
-    let time = bytes::get32(s, at + layout::TIME);
-    let log = bytes::get32(s, at + layout::LOG);
-    let held = bytes::get32(s, at + layout::HELD);
-    let targets = bytes::get32(s, at + layout::TARGETS);
-    let kept = bytes::get32(s, at + layout::KEPT);
-    let end = marks_an_end(s, t, n, crashed);
-    let nothing = holds_nothing(status, time, log, held, targets, kept);
-    ((status == 0) | crashed) & !end & nothing
+    // A loop of its own beside entries_ok: with the test of repeated times in that one a full check took 13 in a hundred longer.
+    // The log's entries from the first on that is not plain, later than the last and within the top: times may repeat there.
+    fn entries_on(&self, first: usize, count: usize, last: u32, top: u32) -> bool
+        requires { (first ≤ count) × (count ≤ log_limit) × (top ≡ (node_at (line_of self.now.joins.state.now) self.now.n).time) }
+        ensures { result ≡ log_pass self.now.joins.state.now self.now.n last (self.now.at + 12 + entry_size * first) (count - first) }
+    {
+        let s = self.joins.state;
+        let source = self.joins.is_source(self.n);
+        let sink = look::is_sink(s, self.n);
+        let inner = !(source | sink);
+        let mut so_far = last;
+        for i in first..count {
+            let slot = self.at + layout::LOG_SLOTS + layout::ENTRY_SIZE * i;
+            let time = bytes::get32(s, slot + 8);
+            let plain = entry_plain(s, slot);
+            if !follows(s, inner, slot, plain, so_far, time, top) {
+                return false;
+            }
+            if !self.entry_made(slot) {
+                return false;
+            }
+            so_far = time;
+        }
+        true
+    }
+
+    // The log's entries, so many: their times rise to the node's, or repeat where their sets are empty. The sets themselves are looked at behind this.
+    fn entries_ok(&self, count: usize) -> bool
+        requires { (count ≡ word_at (page_at self.now.n + log_at) self.now.joins.state.now) × (count ≤ log_limit) }
+        ensures { result ≡ (slots_exact entry_exact entry_size (page_at self.now.n + log_at + count_size) count self.now.joins.state.now
+            && entries_right (line_of self.now.joins.state.now) self.now.n (node_at (line_of self.now.joins.state.now) self.now.n).log) }
+    {
+        let s = self.joins.state;
+        let top = bytes::get32(s, self.at + layout::TIME);
+        let mut last: u32 = 0;
+        for i in 0..count {
+            let slot = self.at + layout::LOG_SLOTS + layout::ENTRY_SIZE * i;
+            let time = bytes::get32(s, slot + 8);
+            let plain = entry_plain(s, slot);
+            if !(plain & ((last < time) & (time <= top))) {
+                return self.entries_on(i, count, last, top);
+            }
+            if !self.entry_made(slot) {
+                return false;
+            }
+            last = time;
+        }
+        true
+    }
+
+    // The log: its entries, and their sets.
+    fn log_ok(&self) -> bool
+        ensures { result ≡ (list_exact entry_exact log_limit entry_size (page_at self.now.n + log_at) self.now.joins.state.now
+            && log_right (line_of self.now.joins.state.now) self.now.n (node_at (line_of self.now.joins.state.now) self.now.n).log) }
+    {
+        list_ok(
+            self.joins.state,
+            self.at + layout::LOG,
+            Line::LOG_LIMIT,
+            layout::ENTRY_SIZE,
+            |count| { self.entries_ok(count) && self.sets_ok(count) },
+        )
+    }
+
+    // What a held record was made from, a sender and its time, and what that was made from.
+    fn held_made(&self, slot: usize) -> bool
+        requires { slot + 20 ≤ length self.now.joins.state.now }
+        ensures { result ≡ held_made self.now.n slot self.now.joins.state.now }
+    {
+        let s = self.joins.state;
+        let sender = usize::from(s[slot + 8]);
+        let time = bytes::get32(s, slot + 9);
+        let earlier = usize::from(s[slot + 13]);
+        let since = bytes::get32(s, slot + 14);
+        self.joins.made_ok(self.n, sender, time, earlier, since)
+    }
+
+    // The held records, so many: the times of a row rise.
+    fn held_each_ok(&self, count: usize) -> bool
+        requires { (count ≡ word_at (page_at self.now.n + held_at) self.now.joins.state.now) × (count ≤ held_limit) }
+        ensures { result ≡ (slots_exact held_exact held_size (page_at self.now.n + held_at + count_size) count self.now.joins.state.now
+            && held_all_right (line_of self.now.joins.state.now) self.now.n (node_at (line_of self.now.joins.state.now) self.now.n).held) }
+    {
+        if count == 0 {
+            return true;
+        }
+        let s = self.joins.state;
+        let channels = plan::masks::leaving(s, self.n);
+        // The last time of each row, by sender: a plan has at most 12 nodes.
+        let mut rows: [u32; 12] = [0; 12];
+        for i in 0..count {
+            let slot = self.at + layout::HELD_SLOTS + layout::HELD_SIZE * i;
+            let sender = usize::from(s[slot + 8]);
+            let time = bytes::get32(s, slot + 9);
+            let plain = held_plain(s, slot);
+            let last = rows.get(sender).copied().unwrap_or(0);
+            if !(plain & (last < time)) {
+                return false;
+            }
+            let made = self.held_made(slot);
+            let passed = passed_on(s, channels, slot);
+            if !(made & passed) {
+                return false;
+            }
+            if sender < rows.len() {
+                rows[sender] = time;
+            }
+        }
+        true
+    }
+
+    // The list of held records.
+    fn held_ok(&self) -> bool
+        ensures { result ≡ (list_exact held_exact held_limit held_size (page_at self.now.n + held_at) self.now.joins.state.now
+            && held_all_right (line_of self.now.joins.state.now) self.now.n (node_at (line_of self.now.joins.state.now) self.now.n).held) }
+    {
+        list_ok(
+            self.joins.state,
+            self.at + layout::HELD,
+            Line::HELD_LIMIT,
+            layout::HELD_SIZE,
+            |count| { self.held_each_ok(count) },
+        )
+    }
+
+    // A target: the node's time, the parent's time, the parent, three bytes unused.
+    fn target_ok(&self, slot: usize) -> bool
+        requires { slot + 12 ≤ length self.now.joins.state.now }
+        ensures { result ≡ (target_exact slot self.now.joins.state.now && target_right (line_of self.now.joins.state.now) self.now.n (target_in slot self.now.joins.state.now)) }
+    {
+        let s = self.joins.state;
+        let parent = self.joins.is_parent(usize::from(s[slot + 8]), self.n);
+        // Read behind the lookup, each number is one load.
+        let time = bytes::get32(s, slot);
+        let other = bytes::get32(s, slot + 4);
+        let unused = ((s[slot + 9] | s[slot + 10]) | s[slot + 11]) == 0;
+        unused & ((time <= self.steps) & (other <= self.steps) & parent)
+    }
+
+    // The targets, so many.
+    fn target_each_ok(&self, count: usize) -> bool
+        requires { (count ≡ word_at (page_at self.now.n + targets_at) self.now.joins.state.now) × (count ≤ target_limit) }
+        ensures { result ≡ (slots_exact target_exact target_size (page_at self.now.n + targets_at + count_size) count self.now.joins.state.now
+            && all_of (target_right (line_of self.now.joins.state.now) self.now.n) (node_at (line_of self.now.joins.state.now) self.now.n).targets) }
+    {
+        (0..count).all(|i| self.target_ok(self.at + layout::TARGET_SLOTS + layout::TARGET_SIZE * i))
+    }
+
+    // The list of targets.
+    fn targets_ok(&self) -> bool
+        ensures { result ≡ (list_exact target_exact target_limit target_size (page_at self.now.n + targets_at) self.now.joins.state.now
+            && all_of (target_right (line_of self.now.joins.state.now) self.now.n) (node_at (line_of self.now.joins.state.now) self.now.n).targets) }
+    {
+        list_ok(
+            self.joins.state,
+            self.at + layout::TARGETS,
+            Line::TARGET_LIMIT,
+            layout::TARGET_SIZE,
+            |count| { self.target_each_ok(count) },
+        )
+    }
+
+    // The end of a page: one kept answer at most, and zero bytes behind it.
+    fn rest_ok(&self) -> bool
+        ensures { result ≡ page_end_exact self.now.at self.now.joins.state.now }
+    {
+        let kept = list_ok(
+            self.joins.state,
+            self.at + layout::KEPT,
+            1,
+            layout::PAGE_REST - layout::KEPT_SLOT,
+            |_| true,
+        );
+        kept & bytes::all_zero(
+            self.joins.state,
+            self.at + layout::PAGE_REST,
+            self.at + layout::PAGE,
+        )
+    }
+
+    // Status, crash mark, two bytes unused, time.
+    fn head_ok(&self) -> bool
+        ensures { result ≡ (head_exact self.now.at self.now.joins.state.now && leb (word_at (self.now.at + time_at) self.now.joins.state.now) self.now.steps) }
+    {
+        let s = self.joins.state;
+        let at = self.at;
+        let time = bytes::get32(s, at + layout::TIME);
+        let unused = (s[at + 2] | s[at + 3]) == 0;
+        (s[at] <= 2) & (s[at + 1] <= 1) & unused & (time <= self.steps)
+    }
+
+    // Whether a crash mark is on a source or a sink.
+    fn marks_an_end(&self, crashed: bool) -> bool
+        ensures { result ≡ (crashed && (is_source (plan_of self.now.joins.state.now) self.now.n || is_sink (plan_of self.now.joins.state.now) self.now.n)) }
+    {
+        crashed && (self.joins.is_source(self.n) | look::is_sink(self.joins.state, self.n))
+    }
+
+    // Status and crash mark, by what the node holds and where it stands in the plan.
+    fn status_ok(&self) -> bool
+        ensures { result ≡ status_right (line_of self.now.joins.state.now).plan self.now.n (node_at (line_of self.now.joins.state.now) self.now.n) }
+    {
+        let s = self.joins.state;
+        let status = look::status_of(s, self.n);
+        let crashed = look::has_crashed(s, self.n);
+        let counts = Counts {
+            time: bytes::get32(s, self.at + layout::TIME),
+            log: bytes::get32(s, self.at + layout::LOG),
+            held: bytes::get32(s, self.at + layout::HELD),
+            targets: bytes::get32(s, self.at + layout::TARGETS),
+            kept: bytes::get32(s, self.at + layout::KEPT),
+        };
+        let end = self.marks_an_end(crashed);
+        ((status == Status::Up) | crashed) & !end & counts.suit(status)
+    }
 }
 
 // A node's page: right bytes, and a right node but for what its restart asks.
-pub fn node_ok(s: &[u8], t: &[u8; 156], n: usize, steps: u32) -> bool
-    requires { Ready s.now × Table s.now t.now × (n < plan_nodes s.now) × (steps ≡ accepted_steps (line_of s.now)) }
-    ensures { result ≡ (page_exact (page_at n) s.now && node_plain (line_of s.now) n) }
+pub fn node_ok(joins: &Joins, n: usize, steps: u32) -> bool
+    requires { (n < plan_nodes joins.now.state.now) × (steps ≡ accepted_steps (line_of joins.now.state.now)) }
+    ensures { result ≡ (page_exact (page_at n) joins.now.state.now && node_plain (line_of joins.now.state.now) n) }
 {
-    let at = layout::PAGE + layout::PAGE * n;
-    let head = head_ok(s, steps, at);
-    let log = log_ok(s, t, n, at);
-    let held = held_ok(s, t, n, at);
-    let targets = targets_ok(s, t, steps, n, at);
-    let rest = rest_ok(s, at);
-    let status = status_ok(s, t, n, at);
+    let page = Page {
+        joins: *joins,
+        n,
+        at: layout::PAGE + layout::PAGE * n,
+        steps,
+    };
+    let head = page.head_ok();
+    let log = page.log_ok();
+    let held = page.held_ok();
+    let targets = page.targets_ok();
+    let rest = page.rest_ok();
+    let status = page.status_ok();
     head & log & held & targets & (rest & status)
 }

@@ -1,13 +1,12 @@
 // A node's fields, read and written in the state's bytes. What is written leaves every other byte as it was: each function promises the line with that node changed.
 #![tactic(auto)]
 
-ghost use Rattle.std.specs.Prelude.{◌≡◌, true, not, [], ◌∷◌, ◌≤◌, ◌<◌, length, get_or, drop};
+ghost use Rattle.std.specs.Prelude.{◌≡◌, true, not, [], ◌≤◌, ◌<◌, length, get_or, drop};
 ghost use Rattle.std.proofs.Math.Option.{none, some};
 ghost use Rattle.plan.specs.Plan.{plan_nodes};
 ghost use Rattle.rules.specs.Line.{log_limit, held_limit, target_limit, Asked, node_at};
 ghost use Rattle.rules.specs.Step.{is_nothing};
 ghost use Rattle.state.specs.Pieces.{asked_numbers};
-ghost use Rattle.state.specs.Node.{status_of};
 ghost use Rattle.state.specs.State.{line_of};
 ghost use Rattle.buffer.specs.Ready.{Ready};
 ghost use Rattle.buffer.specs.Holds.{AtNode, NodeNow};
@@ -15,9 +14,20 @@ ghost use Rattle.rules.specs.Trim.{with_log};
 ghost use Rattle.state.specs.Changes.{with_status, with_crashed, with_time, with_held, with_targets, with_asked, more_logged, more_held, more_targets};
 ghost use Rattle.slots.specs.Slots.{entry_is, held_is, target_is};
 ghost use Rattle.buffer.specs.Nothing.{no_entry, no_held, no_target};
+ghost use Rattle.buffer.specs.Status.{status_is};
+ghost use Rattle.node_fields.specs.Kept.{kept_is, keeps};
 
+use buffer::status::Status;
 use buffer::{bytes, layout};
-use slots::{Goal, Logged, Waiting};
+use slots::{Goal, Logged, Piece, Waiting, list};
+
+// An answer that is kept: the low and the high time, and the restored entry of each parent.
+#[derive(Clone, Copy, Debug, PartialEq, Eq)]
+pub struct Kept {
+    pub low: u32,
+    pub high: u32,
+    pub entries: [u32; 4],
+}
 
 // ---- read
 
@@ -32,21 +42,21 @@ pub fn log_count(s: &[u8], n: usize) -> usize
     requires { AtNode s.now n }
     ensures { (result ≡ length (node_at (line_of s.now) n).log) × (result ≤ log_limit) }
 {
-    bytes::size(bytes::get32(s, layout::PAGE * (1 + n) + layout::LOG))
+    list::LOG.count(s, layout::PAGE * (1 + n))
 }
 
 pub fn held_count(s: &[u8], n: usize) -> usize
     requires { AtNode s.now n }
     ensures { (result ≡ length (node_at (line_of s.now) n).held) × (result ≤ held_limit) }
 {
-    bytes::size(bytes::get32(s, layout::PAGE * (1 + n) + layout::HELD))
+    list::HELD.count(s, layout::PAGE * (1 + n))
 }
 
 pub fn target_count(s: &[u8], n: usize) -> usize
     requires { AtNode s.now n }
     ensures { (result ≡ length (node_at (line_of s.now) n).targets) × (result ≤ target_limit) }
 {
-    bytes::size(bytes::get32(s, layout::PAGE * (1 + n) + layout::TARGETS))
+    list::TARGETS.count(s, layout::PAGE * (1 + n))
 }
 
 // Entry i of the log, held record i, target i.
@@ -54,38 +64,48 @@ pub fn entry_of(s: &[u8], n: usize, i: usize) -> Logged
     requires { AtNode s.now n × (i < length (node_at (line_of s.now) n).log) }
     ensures { entry_is result ≡ get_or (node_at (line_of s.now) n).log i no_entry }
 {
-    slots::entry_at(
-        s,
-        layout::PAGE * (1 + n) + layout::LOG_SLOTS + layout::ENTRY_SIZE * i,
-    )
+    Logged::read(s, list::LOG.place(layout::PAGE * (1 + n), i))
 }
 
 pub fn held_of(s: &[u8], n: usize, i: usize) -> Waiting
     requires { AtNode s.now n × (i < length (node_at (line_of s.now) n).held) }
     ensures { held_is result ≡ get_or (node_at (line_of s.now) n).held i no_held }
 {
-    slots::held_at(
-        s,
-        layout::PAGE * (1 + n) + layout::HELD_SLOTS + layout::HELD_SIZE * i,
-    )
+    Waiting::read(s, list::HELD.place(layout::PAGE * (1 + n), i))
 }
 
 pub fn target_of(s: &[u8], n: usize, i: usize) -> Goal
     requires { AtNode s.now n × (i < length (node_at (line_of s.now) n).targets) }
     ensures { target_is result ≡ get_or (node_at (line_of s.now) n).targets i no_target }
 {
-    slots::target_at(
-        s,
-        layout::PAGE * (1 + n) + layout::TARGET_SLOTS + layout::TARGET_SIZE * i,
-    )
+    Goal::read(s, list::TARGETS.place(layout::PAGE * (1 + n), i))
 }
 
-// Whether an answer is kept with the node (document 02, 2026-07), and number i of a kept answer: low, high, the entries.
+// Whether an answer is kept with the node (document 02, 2026-07); the answer; and its number i: low, high, the entries.
 pub fn has_kept(s: &[u8], n: usize) -> bool
     requires { Ready s.now × (n < plan_nodes s.now) }
     ensures { result ≡ not (is_nothing (node_at (line_of s.now) n).asked) }
 {
     bytes::get32(s, layout::PAGE * (1 + n) + layout::KEPT) != 0
+}
+
+pub fn kept_of(s: &[u8], n: usize) -> Option<Kept>
+    requires { Ready s.now × (n < plan_nodes s.now) }
+    ensures { keeps result ≡ (node_at (line_of s.now) n).asked }
+{
+    if !has_kept(s, n) {
+        return None;
+    }
+    Some(Kept {
+        low: kept_number(s, n, 0),
+        high: kept_number(s, n, 1),
+        entries: [
+            kept_number(s, n, 2),
+            kept_number(s, n, 3),
+            kept_number(s, n, 4),
+            kept_number(s, n, 5),
+        ],
+    })
 }
 
 pub fn kept_number(s: &[u8], n: usize, i: usize) -> u32
@@ -97,12 +117,11 @@ pub fn kept_number(s: &[u8], n: usize, i: usize) -> u32
 
 // ---- written
 
-// The status is 0 for up, 1 for down, 2 for replay.
-pub fn set_status(s: &mut [u8], n: usize, status: u8)
-    requires { AtNode s.old n × (status ≤ 2) }
-    ensures { NodeNow s.old n (with_status (status_of status)) s.new }
+pub fn set_status(s: &mut [u8], n: usize, status: Status)
+    requires { AtNode s.old n }
+    ensures { NodeNow s.old n (with_status (status_is status)) s.new }
 {
-    bytes::put8(s, layout::PAGE * (1 + n), status);
+    bytes::put8(s, layout::PAGE * (1 + n), u8::from(status));
 }
 
 pub fn mark_crashed(s: &mut [u8], n: usize)
@@ -124,47 +143,33 @@ pub fn clear_log(s: &mut [u8], n: usize)
     requires { AtNode s.old n }
     ensures { NodeNow s.old n (with_log []) s.new }
 {
-    let count = log_count(s, n);
-    let at = layout::PAGE * (1 + n) + layout::LOG;
-    bytes::fill_zero(s, at, at + layout::COUNT + layout::ENTRY_SIZE * count);
+    list::LOG.clear(s, layout::PAGE * (1 + n));
 }
 
 pub fn clear_held(s: &mut [u8], n: usize)
     requires { AtNode s.old n }
     ensures { NodeNow s.old n (with_held []) s.new }
 {
-    let count = held_count(s, n);
-    let at = layout::PAGE * (1 + n) + layout::HELD;
-    bytes::fill_zero(s, at, at + layout::COUNT + layout::HELD_SIZE * count);
+    list::HELD.clear(s, layout::PAGE * (1 + n));
 }
 
 pub fn clear_targets(s: &mut [u8], n: usize)
     requires { AtNode s.old n }
     ensures { NodeNow s.old n (with_targets []) s.new }
 {
-    let count = target_count(s, n);
-    let at = layout::PAGE * (1 + n) + layout::TARGETS;
-    bytes::fill_zero(s, at, at + layout::COUNT + layout::TARGET_SIZE * count);
+    list::TARGETS.clear(s, layout::PAGE * (1 + n));
 }
 
 // The kept answer written, and emptied.
-pub fn set_kept(
-    s: &mut [u8],
-    n: usize,
-    low: u32,
-    high: u32,
-    first: u32,
-    second: u32,
-    third: u32,
-    fourth: u32,
-)
+pub fn set_kept(s: &mut [u8], n: usize, kept: Kept)
     requires { AtNode s.old n }
-    ensures { NodeNow s.old n (with_asked (some (record { low = low; high = high; entries = first ∷ second ∷ third ∷ fourth ∷ [] }))) s.new }
+    ensures { NodeNow s.old n (with_asked (some (kept_is kept))) s.new }
 {
     let at = layout::PAGE * (1 + n) + layout::KEPT;
+    let [first, second, third, fourth] = kept.entries;
     bytes::put32(s, at, 1);
-    bytes::put32(s, at + 4, low);
-    bytes::put32(s, at + 8, high);
+    bytes::put32(s, at + 4, kept.low);
+    bytes::put32(s, at + 8, kept.high);
     bytes::put32(s, at + 12, first);
     bytes::put32(s, at + 16, second);
     bytes::put32(s, at + 20, third);
@@ -184,42 +189,24 @@ pub fn append_entry(s: &mut [u8], n: usize, e: Logged)
     requires { AtNode s.old n × (length (node_at (line_of s.old) n).log < log_limit) }
     ensures { NodeNow s.old n (more_logged (entry_is e)) s.new }
 {
-    let at = layout::PAGE * (1 + n) + layout::LOG;
-    let count = bytes::get32(s, at);
-    bytes::put32(s, at, count + 1);
-    slots::put_entry(
-        s,
-        at + layout::COUNT + layout::ENTRY_SIZE * bytes::size(count),
-        e,
-    );
+    let at = list::LOG.add(s, layout::PAGE * (1 + n));
+    e.write(s, at);
 }
 
 pub fn append_held(s: &mut [u8], n: usize, h: Waiting)
     requires { AtNode s.old n × (length (node_at (line_of s.old) n).held < held_limit) }
     ensures { NodeNow s.old n (more_held (held_is h)) s.new }
 {
-    let at = layout::PAGE * (1 + n) + layout::HELD;
-    let count = bytes::get32(s, at);
-    bytes::put32(s, at, count + 1);
-    slots::put_held(
-        s,
-        at + layout::COUNT + layout::HELD_SIZE * bytes::size(count),
-        h,
-    );
+    let at = list::HELD.add(s, layout::PAGE * (1 + n));
+    h.write(s, at);
 }
 
 pub fn append_target(s: &mut [u8], n: usize, g: Goal)
     requires { AtNode s.old n × (length (node_at (line_of s.old) n).targets < target_limit) × (g.parent < 256) }
     ensures { NodeNow s.old n (more_targets (target_is g)) s.new }
 {
-    let at = layout::PAGE * (1 + n) + layout::TARGETS;
-    let count = bytes::get32(s, at);
-    bytes::put32(s, at, count + 1);
-    slots::put_target(
-        s,
-        at + layout::COUNT + layout::TARGET_SIZE * bytes::size(count),
-        g,
-    );
+    let at = list::TARGETS.add(s, layout::PAGE * (1 + n));
+    g.write(s, at);
 }
 
 // So many entries at the log's front go, and those behind them move up.
@@ -230,5 +217,5 @@ pub fn drop_entries(s: &mut [u8], n: usize, count: usize)
     let left = log_count(s, n) - count;
     let at = layout::PAGE * (1 + n) + layout::LOG;
     bytes::put32(s, at, left as u32);
-    slots::close_entries(s, at + layout::COUNT, count, left);
+    slots::close_up::<Logged>(s, at + layout::COUNT, count, left);
 }

@@ -61,9 +61,6 @@ module _ (mark : ℕ) (log : List Entry) where
   abbrev Late : ℕ → Type 0
   Late k = Each (λ (e : Entry). mark < e.time) (drop k log)
 
-  pub none-later : (k : ℕ) → k ≡ length log → Each (λ (e : Entry). mark < e.time) (drop k log)
-  none-later k q = subst Late (sym q) (subst (Each (λ (e : Entry). mark < e.time)) (sym (drop-length log)) tt)
-
   -- Looked at from the last entry back: one that is later, and the first that is not.
   module _ (k : ℕ) (some : 0 < k) (within : k ≤ length log) (late : Each (λ (e : Entry). mark < e.time) (drop k log)) (e : Entry) (q : e ≡ get_or log (k - 1) no_entry) where
     before : suc (k - 1) ≡ k
@@ -74,16 +71,13 @@ module _ (mark : ℕ) (log : List Entry) where
         subst (Each (λ (e : Entry). mark < e.time)) (sym (drop-cons log (k - 1) no_entry (omega arith)))
         (subst (λ (x : Entry). mark < x.time) q t, subst Late (sym before) late)
 
-    pub later_from : {p : Plan} {n : ℕ} → LogRises p n 0 log → e.time ≤ mark → LaterFrom mark log k
+    pub later_from : {p : Plan} {n : ℕ} → LogRises p n 0 log → e.time ≤ mark → LaterFrom mark log (k - 1 + 1)
     later_from {p} {n} rises t =
         record {
-          within = within;
-          early = subst (λ (j : ℕ). Each (λ (e : Entry). e.time ≤ mark) (take j log)) before (up_to p n mark 0 (k - 1) log rises (omega arith) (subst (λ (x : Entry). x.time ≤ mark) q t)).1;
-          late = late;
+          within = omega (arith, within);
+          early = subst (λ (j : ℕ). Each (λ (e : Entry). e.time ≤ mark) (take j log)) (sym (add-one (k - 1))) (up_to p n mark 0 (k - 1) log rises (omega arith) (subst (λ (x : Entry). x.time ≤ mark) q t)).1;
+          late = subst Late (sym (add-one (k - 1) ∙ before)) late;
         }
-
-  pub all_later : (k : ℕ) → k ≤ 0 → Each (λ (e : Entry). mark < e.time) (drop k log) → LaterFrom mark log 0
-  all_later k z late = record { within = omega arith; early = tt; late = subst Late (let q : k ≡ 0 = omega arith in q) late }
 
 -- What is not later than the mark is passed over.
 early_passed : (c : Channel) (mark : ℕ) (log : List Entry) (r : ℕ) → r ≤ length log → Each (λ (e : Entry). e.time ≤ mark) (take r log) → Passed c mark log r

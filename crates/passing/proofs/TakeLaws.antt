@@ -1,10 +1,9 @@
 -- What Take answers of a receiver that is up.
-use Prim.Native.Nat.{ℕ, ◌+◌, ◌≤◌, ◌<◌}
+use Prim.Native.Nat.{ℕ, ◌≤◌, ◌<◌}
 use mathlib.Core.Path.{◌≡◌, refl, sym, ap, ◌∙◌}
 use mathlib.Core.Bool.{false}
 use mathlib.Core.List.{List, [], ◌∷◌}
 use mathlib.Core.Option.{some}
-use native.Mathlib.Numerals.{add-one}
 use native.Mathlib.Omega.{arith}
 use borrow.Author.Tests.{le-leb, lt-leb}
 use lib.ListN.{length, get_or, drop}
@@ -13,12 +12,11 @@ use Rattle.plan.specs.declared.Channel.{Channel}
 use Rattle.plan.specs.Plan.{Plan, plan_of, channel_count, channel_at}
 use Rattle.plan.specs.Mask.{set_of}
 use Rattle.rules.specs.Lists.{is_empty}
-use Rattle.rules.specs.Line.{log_limit, Message, Line, node_at, lane_at, receiver_of}
+use Rattle.rules.specs.Line.{made, log_limit, Message, Line, node_at, lane_at, receiver_of}
 use Rattle.rules.specs.Frame.{take}
 use Rattle.rules.specs.Clock.{logged}
 use Rattle.rules.specs.Replay.{time_for}
 use Rattle.rules.specs.Step.{replaying, made_by, taken_up, taken_lane, taken_first, effect}
-use Rattle.state.specs.Pieces.{origin_from}
 use Rattle.state.specs.State.{line_of}
 use Rattle.state.proofs.InPlace.{line-plan}
 use Rattle.buffer.specs.Holds.{Holds, NodeNow, Did}
@@ -63,12 +61,12 @@ module _ (s t : List ℕ) (b : ℕ) (m : Message) (rest : List Message) (h : Hol
 
   -- The message logged by the receiver.
   pub taken_up_lem : (u : List ℕ) (c : Channel) (n : ℕ) (what : Record) → c ≡ channel_at (plan_of s) b → n ≡ c.receiver → what ≡ made_by (line_of t) n m.what
-      → NodeNow t n (logged (time_for (line_of t).plan n what (node_at (line_of t) n).time) (set_of (line_of t).plan n what) what (origin_from (c.sender + 1) m.time) m.origin) u → Holds u (taken_up b m (taken_lane b m rest (line_of s)))
+      → NodeNow t n (logged (time_for (line_of t).plan n what (node_at (line_of t) n).time) (set_of (line_of t).plan n what) what (made c.sender m.time) m.origin) u → Holds u (taken_up b m (taken_lane b m rest (line_of s)))
   unfolding taken_up
   taken_up_lem u c n what on to is now =
       let k = taken_lane b m rest (line_of s) in
       let along : c ≡ channel_at k.plan b = on ∙ ap (λ (p : Plan). channel_at p b) (sym (taken-plan b m rest (line_of s) ∙ line-plan s)) in
-      rw (is, h.same, to, along, add-one) at now.holds
+      rw (is, h.same, to, along) at now.holds
 
 take-effect : (l : Line) (b : ℕ) (m : Message) (rest : List Message) → (lane_at l b).queue ≡ m ∷ rest → replaying l (receiver_of l b) ≡ false → effect l (take b) ≡ some (taken_up b m (taken_lane b m rest l))
 unfolding effect

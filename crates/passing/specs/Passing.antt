@@ -1,6 +1,7 @@
 -- What Feed, Send and Take go by.
 use Rattle.std.specs.Prelude.{ℕ, ◌≤◌, ◌<◌, ◌≡◌, false, List, length, take, drop}
-use Rattle.std.proofs.Math.Option.{Option, none, some}
+use Rattle.std.specs.Prelude.{Option, Some, None}
+use Rattle.std.proofs.Math.Option as maybe
 use Rattle.plan.specs.Lawful.{Each}
 use Rattle.plan.specs.Plan.{plan_channels}
 use Rattle.rules.specs.Line as line
@@ -8,13 +9,13 @@ use Rattle.rules.specs.Line.{log_limit, node_at, lane_at, receiver_of, time_limi
 use Rattle.rules.specs.Step.{end_down, replaying}
 use Rattle.state.specs.State.{line_of}
 use Rattle.buffer.specs.Holds.{AtNode, Undamaged}
+use Rattle.slots.specs.declared.Logged.{Logged}
 use Rattle.slots.specs.Slots.{entry_is}
-use Rattle.passing.specs.declared.Next.{Next}
-use Rattle.passing.specs.declared.Next.TheVariants.{Entry, Nothing}
 
-abbrev pub next_is : Next → Option line.Entry
-next_is (Entry e) = some (entry_is e)
-next_is Nothing = none
+-- What a Send finds in the sender's log, as the line has it.
+abbrev pub next_is : Option Logged → maybe.Option line.Entry
+next_is (Some e) = maybe.some (entry_is e)
+next_is None = maybe.none
 
 -- The first r entries of a log are not later than a mark, and all behind them are.
 pub record LaterFrom (mark : ℕ) (log : List line.Entry) (r : ℕ) : Type 0 where

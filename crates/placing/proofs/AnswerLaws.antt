@@ -2,11 +2,13 @@
 use Prim.Native.Nat.{ℕ, ◌<◌, ◌≤◌}
 use mathlib.Core.Path.{◌≡◌, refl, sym, ◌∙◌}
 use mathlib.Core.Logic.{◌≢◌}
-use mathlib.Core.Bool.{Bool, true, false}
+use mathlib.Core.Bool.{Bool, true, false, cond}
 use mathlib.Core.List.{List, ◌++◌}
 use native.Mathlib.Omega.{arith}
 use lib.ListN.{length, drop}
 use borrow.Author.Tests.{eq-eqb, ne_eqb, lt-ltb, le-ltb}
+use Rattle.answers.specs.declared.Refusal.{Refusal}
+use Rattle.answers.specs.Number.{refusal_number}
 use Rattle.placing.specs.Walk.{walked, none_wait}
 use Rattle.placing.specs.Item.{items_of}
 use Rattle.placing.specs.Table.{malformed}
@@ -35,6 +37,15 @@ first_short true s u e = let clash : ⊥ = omega arith in absurd clash
 first_short false true u e = (refl, refl)
 first_short false false true e = let clash : ⊥ = omega arith in absurd clash
 first_short false false false e = let clash : ⊥ = omega arith in absurd clash
+
+-- What the walk's outcome tells of what is left waiting.
+pub some_wait : (r : Refusal) (placed : Bool) → refusal_number r ≡ cond placed 0 24 → (placed ≡ false) × (refusal_number r ≡ 24)
+some_wait r true e = let clash : ⊥ = grind arith in absurd clash
+some_wait r false e = (refl, e)
+
+pub all_placed : (n : ℕ) (placed : Bool) → n ≡ 0 → n ≡ cond placed 0 24 → placed ≡ true
+all_placed n true z e = refl
+all_placed n false z e = let clash : ⊥ = omega arith in absurd clash
 
 module _ (low high : ℕ) (rows times fixed floors columns : List ℕ) where
   pub left_accepted : answer low high rows times fixed floors columns ≡ 0 → columns_left low high rows times fixed floors columns ≡ chosen_columns low high (items_of rows times fixed floors) ++ drop (length rows) columns

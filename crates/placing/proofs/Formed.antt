@@ -1,5 +1,5 @@
 -- What a table that is not malformed tells the code.
-use Prim.Native.Nat.{ℕ, ◌≤◌}
+use Prim.Native.Nat.{ℕ}
 use mathlib.Core.Path.{◌≡◌, sym, ◌∙◌}
 use mathlib.Core.Bool.{false, ◌&&◌}
 use mathlib.Core.List.{List}
@@ -9,18 +9,11 @@ use lib.Dec.{leb}
 use borrow.Author.Tests.{not-false, leb-true}
 use Rattle.placing.specs.Item.{items_of}
 use Rattle.placing.specs.Table.{most_items, greatest, malformed, lengths_agree, items_fit}
-use Rattle.placing.specs.Places.{Ordered}
+use Rattle.placing.specs.Places.{Formed}
 use Rattle.basics.specs.Bools.{both_true}
 use Rattle.placing.proofs.TableLaws.{rows_rise, rows_four}
 use Rattle.placing.proofs.ItemsLaws.{malformed_is, lengths_are}
 use Rattle.placing.proofs.PrepareLaws.{row_is, in_table}
-
-pub record Formed (low high : ℕ) (rows fixed floors : List ℕ) : Type 0 where
-  pub ordered : Ordered rows
-  pub bounds : low ≤ high
-  pub high_fits : high ≤ greatest
-  pub fixed_long : length fixed ≡ length rows
-  pub floors_long : length floors ≡ length rows
 
 pub formed : (low high : ℕ) (rows times fixed floors : List ℕ) → malformed low high rows times fixed floors ≡ false → Formed low high rows fixed floors
 formed low high rows times fixed floors e =

@@ -49,6 +49,15 @@ pub malformed_is : (low high : ℕ) (rows times fixed floors : List ℕ)
 unfolding malformed table_fits bounds_fit
 malformed_is low high rows times fixed floors = rw length_items
 
+-- By the code's test of the lengths and the bounds, before the items'.
+pub malformed_by : (low high : ℕ) (rows times fixed floors : List ℕ) (well : Bool) → (lengths_agree rows times fixed floors && (leb (length rows) most_items && leb low high && leb high greatest)) ≡ well
+    → malformed low high rows times fixed floors ≡ not (well && items_fit low high 0 0 (items_of rows times fixed floors))
+malformed_by low high rows times fixed floors well e =
+    let bounds = and_assoc (leb (length rows) most_items) (leb low high) (leb high greatest) in
+    let fit = items_fit low high 0 0 (items_of rows times fixed floors) in
+    malformed_is low high rows times fixed floors
+    ∙ ap not (sym (and_assoc (lengths_agree rows times fixed floors) (leb (length rows) most_items && (leb low high && leb high greatest)) fit) ∙ ap (λ (b : Bool). b && fit) (ap (λ (b : Bool). lengths_agree rows times fixed floors && b) (sym bounds) ∙ e))
+
 module _ (rows times fixed floors : List ℕ) where
   pub lengths_are : lengths_agree rows times fixed floors ≡ true → (length times ≡ length rows) × (length fixed ≡ length rows) × (length floors ≡ length rows)
   unfolding lengths_agree

@@ -6,13 +6,14 @@ use mathlib.Core.Bool.{cond}
 use mathlib.Core.List.{List, ◌∷◌}
 use native.Mathlib.Omega.{arith}
 use native.Mathlib.Decide.{dec_lt, ℕ_discrete}
-use lib.ListN.{length, get_or, set}
+use lib.ListN.{length, get_or, set, length-set}
 use lib.Seq.{get_or-set_same, get_or-set_other}
 use lib.Dec.{ltb, eqb}
 use borrow.Author.Tests.{lt-ltb, le-ltb, eq-eqb, ne_eqb}
 use Rattle.placing.specs.Item.{Item, items_of, item_at}
+use Rattle.placing.specs.Table.{most_items, row_count}
 use Rattle.placing.specs.Walk.{Waiting, last_column}
-use Rattle.placing.specs.Places.{row_at, row_from, Ordered, BeginsAt, Prepared, PrepareAsks}
+use Rattle.placing.specs.Places.{row_at, row_from, Ordered, BeginsAt, Prepared}
 use Rattle.placing.proofs.Rows.{Sorted, from_head, from_skip, from_end}
 use Rattle.placing.proofs.Fits.{last_fixed, last_free, last_none}
 use Rattle.placing.proofs.ItemsLaws.{length_items, items_at}
@@ -36,11 +37,13 @@ module _ (rows times fixed floors : List ℕ) where
   pub sorted_table : Ordered rows → Sorted (items_of rows times fixed floors)
   sorted_table o j k p q = rw (row_is j (omega (arith, in_rows q)), row_is k (in_rows q)) (o.rise j k p (in_rows q))
 
-pub prepared_start : (high : ℕ) (rows fixed lasts next : List ℕ) → PrepareAsks high rows fixed lasts next → Prepared high (length rows) rows fixed lasts next
-prepared_start high rows fixed lasts next p =
+pub prepared_start : (high : ℕ) (rows fixed lasts next : List ℕ) → length lasts ≡ most_items → length next ≡ row_count → ((r : ℕ) → r < row_count → get_or next r 0 ≡ length rows) → Prepared high (length rows) rows fixed lasts next
+prepared_start high rows fixed lasts next long four p =
     record {
+      lasts_long = long;
+      next_long = four;
       lasts_are = λ k l m times floors. absurd (past k l m);
-      begins = λ r l times floors. rw (p.next_past r l) (at_end r times floors);
+      begins = λ r l times floors. rw (p r l) (at_end r times floors);
     }
   where
     past : (k : ℕ) → length rows ≤ k → k < length rows → ⊥
@@ -110,18 +113,19 @@ module _ (high : ℕ) (rows fixed lasts next : List ℕ) (o : Ordered rows) (k :
         }
 
   -- The turn.
-  pub prepared_more : length rows ≤ length lasts → length next ≡ 4
-      → Prepared high k rows fixed (set lasts k (last_of (get_or fixed k 0) (behind_of high rows lasts (get_or next (get_or rows k 0) 0)))) (set next (get_or rows k 0) k)
-  prepared_more long four =
+  pub prepared_more : Prepared high k rows fixed (set lasts k (last_of (get_or fixed k 0) (behind_of high rows lasts (get_or next (get_or rows k 0) 0)))) (set next (get_or rows k 0) k)
+  prepared_more =
       record {
+        lasts_long = length-set lasts k _ ∙ p.lasts_long;
+        next_long = length-set next (get_or rows k 0) k ∙ p.next_long;
         lasts_are = λ j q m times floors. elim (ℕ_discrete j k) [
           | yes e ↦ subst (λ (i : ℕ). get_or (set lasts k (last_of (get_or fixed k 0) (behind_of high rows lasts (get_or next (get_or rows k 0) 0)))) i 0 ≡ last_column high (row_from (items_of rows times fixed floors) (row_at (items_of rows times fixed floors) i) i)) (sym e)
-              (get_or-set_same lasts k _ 0 (omega arith) ∙ last_is times floors ∙ ap (λ (s : ℕ). last_column high (row_from (items_of rows times fixed floors) s k)) (sym (row_is rows times fixed floors k l)))
+              (get_or-set_same lasts k _ 0 (omega (arith, p.lasts_long, o.few)) ∙ last_is times floors ∙ ap (λ (s : ℕ). last_column high (row_from (items_of rows times fixed floors) s k)) (sym (row_is rows times fixed floors k l)))
           | no d ↦ get_or-set_other lasts k j _ 0 d ∙ p.lasts_are j (omega arith) m times floors
         ];
         begins = λ s q times floors. elim (ℕ_discrete s (get_or rows k 0)) [
           | yes e ↦ subst (λ (i : ℕ). BeginsAt (items_of rows times fixed floors) i k (get_or (set next (get_or rows k 0) k) i 0)) (sym e)
-              (rw (get_or-set_same next (get_or rows k 0) k 0 (omega (arith, o.four k l))) (begins_here times floors))
+              (rw (get_or-set_same next (get_or rows k 0) k 0 (omega (arith, p.next_long, o.four k l))) (begins_here times floors))
           | no d ↦ rw (get_or-set_other next (get_or rows k 0) s k 0 d) (begins_else times floors s (get_or next s 0) d (p.begins s q times floors))
         ];
       }

@@ -10,12 +10,16 @@ use lib.ListN.{length, get_or, set, take, replicate, length-set}
 use lib.Seq.{get_or-set_same, get_or-set_other}
 use lib.Dec.{eqb}
 use borrow.Author.Tests.{eq-eqb}
+use Rattle.std.specs.Prelude.{cond, Bool}
+use Rattle.std.specs.declared.result.Result.{Result}
+use Rattle.answers.specs.declared.Refusal.{Refusal}
+use Rattle.answers.specs.Number.{number}
 use Rattle.placing.specs.Item.{Item, items_of}
 use Rattle.placing.specs.Table.{most_items, row_count}
 use Rattle.placing.specs.Walk.{Walk, Candidate, sooner, or_else, chosen_row, place_in, walk, begun, walked, none_wait, rows_of}
 use Rattle.placing.specs.declared.Offer.{Offer}
 use Rattle.placing.specs.declared.Offer.TheVariants.{Fixed, Free, Passed, Nothing}
-use Rattle.placing.specs.Places.{row_from, RowsAtLeast, shut_until, ShutRows, NextColumn, offer_at, WalkAsks, WalkGives}
+use Rattle.placing.specs.Places.{row_from, RowsAtLeast, shut_until, ShutRows, NextColumn, offer_at, Formed, Prepared, WalkGives}
 use Rattle.placing.proofs.ItemsLaws.{length_items}
 use Rattle.placing.proofs.PrepareLaws.{row_is, in_rows, sorted_table}
 use Rattle.placing.proofs.Choice.{row_of, GivesNone, ChoiceSays, choice_says}
@@ -29,9 +33,15 @@ pub record Searching (high : ℕ) (rows fixed floors next : List ℕ) (c : ℕ) 
   pub within : r ≤ 4
   pub searched : (times : List ℕ) → Searched high c (rows_now (items_of rows times fixed floors) next) r best
 
+-- Last columns and next places as `prepare` leaves them, and no column yet.
+pub record Begun (low high : ℕ) (rows fixed floors lasts next work : List ℕ) : Type 0 where
+  pub formed : Formed low high rows fixed floors
+  pub work_clear : work ≡ replicate most_items 0
+  pub prepared : Prepared high 0 rows fixed lasts next
+
 -- The columns before c are walked, whatever the times.
 pub record Walking (low high : ℕ) (rows fixed floors lasts next₀ work₀ next work : List ℕ) (left c : ℕ) : Type 0 where
-  pub asks : WalkAsks low high rows fixed floors lasts next₀ work₀
+  pub begun : Begun low high rows fixed floors lasts next₀ work₀
   pub above : low < c
   pub within : c ≤ high + 1
   pub next_long : length next ≡ row_count
@@ -78,7 +88,7 @@ module _ {low high : ℕ} {rows fixed floors lasts next₀ work₀ next work : L
           record {
             within = omega arith;
             searched = λ times.
-                (let t = offer_free (all.each r l) inside lasts last (sym gives ∙ e) times (λ m. w.asks.prepared.lasts_are (get_or next r 0) (omega arith) m times floors) in
+                (let t = offer_free (all.each r l) inside lasts last (sym gives ∙ e) times (λ m. w.begun.prepared.lasts_are (get_or next r 0) (omega arith) m times floors) in
                 let same = row_now (items_of rows times fixed floors) next r l in
                 search_free high c (rows_now (items_of rows times fixed floors) next) r best (there times) (s.searched times) (rw same t.0) (rw same t.1) last (rw same t.2));
           }
@@ -92,7 +102,7 @@ module _ {low high : ℕ} {rows fixed floors lasts next₀ work₀ next work : L
       turn_nothing e = shut_here (all.each r l) (offer_nothing (all.each r l) inside lasts (sym gives ∙ e))
 
   step_of : (a : ℕ) → Chosen high rows fixed floors next c (some a) → (times : List ℕ) → Step (items_of rows times fixed floors) next work a c
-  step_of a e times = step (items_of rows times fixed floors) (sorted_table rows times fixed floors w.asks.ordered) next work w.next_long (w.lows times) high c a (e times)
+  step_of a e times = step (items_of rows times fixed floors) (sorted_table rows times fixed floors w.begun.formed.ordered) next work w.next_long (w.lows times) high c a (e times)
 
   -- The chosen row is one of the four, and its next place is in the table.
   pub chosen_inside : (a : ℕ) → Chosen high rows fixed floors next c (some a) → (a < 4) × (get_or next a 0 < length rows)
@@ -104,7 +114,7 @@ module _ {low high : ℕ} {rows fixed floors lasts next₀ work₀ next work : L
   unfolding view
   column_taken a q e =
       record {
-        asks = w.asks;
+        begun = w.begun;
         above = omega (arith, w.above);
         within = omega arith;
         next_long = length-set next a (get_or next a 0 + 1) ∙ w.next_long;
@@ -121,7 +131,7 @@ module _ {low high : ℕ} {rows fixed floors lasts next₀ work₀ next work : L
   unfolding view
   columns_empty d p q h =
       record {
-        asks = w.asks;
+        begun = w.begun;
         above = omega (arith, w.above);
         within = q;
         next_long = w.next_long;
@@ -150,7 +160,7 @@ module _ {low high : ℕ} {rows fixed floors lasts next₀ work₀ next work : L
       let after : ℕ = get_or next a 0 + 1 in
       let now : get_or (set next a after) a 0 ≡ after = get_or-set_same next a after 0 (omega (arith, w.next_long)) in
       all_set (set next a after) a (shut_until high rows fixed floors a after) four (λ q h. get_or-set_other next a q after 0 h)
-      (rw now (shut_until_lem high rows fixed floors a after w.asks.ordered (λ times. rw now at ((step_of a e times).lows a four)) c (omega (arith, w.above)))) s
+      (rw now (shut_until_lem high rows fixed floors a after w.begun.formed.ordered (λ times. rw now at ((step_of a e times).lows a four)) c (omega (arith, w.above)))) s
 
   finished : (high < c) ⊎ (left ≡ 0) → (times : List ℕ) → walked low high (items_of rows times fixed floors) ≡ view (items_of rows times fixed floors) next work
   unfolding view
@@ -160,11 +170,13 @@ module _ {low high : ℕ} {rows fixed floors lasts next₀ work₀ next work : L
       w.same times ∙ walk_idle high (suc high - c) c (view table next work) (sym (none_total (rows_now table next)) ∙ eq-eqb (total (rows_now table next)) 0 (sym (w.left_is times) ∙ none_left))
 
   -- The walk is over: past the last column, or with nothing left to place.
-  pub walking_done : (high < c) ⊎ (left ≡ 0) → WalkGives low high rows fixed floors (eqb left 0) work
+  pub walking_done : (high < c) ⊎ (left ≡ 0) → (outcome : Result Unit Refusal) → number outcome ≡ cond (eqb left 0) 0 24 → WalkGives low high rows fixed floors outcome work
   unfolding view
-  walking_done e =
+  walking_done e outcome is =
       record {
-        placed_is = λ times. ap (λ (n : ℕ). eqb n 0) (w.left_is times) ∙ none_total (rows_now (items_of rows times fixed floors) next) ∙ ap (λ (s : Walk). none_wait s.waiting) (sym (finished e times));
+        number_is = λ times. is
+            ∙ ap (λ (placed : Bool). cond placed 0 24)
+            (ap (λ (n : ℕ). eqb n 0) (w.left_is times) ∙ none_total (rows_now (items_of rows times fixed floors) next) ∙ ap (λ (s : Walk). none_wait s.waiting) (sym (finished e times)));
         columns_are = λ times. ap (λ (n : ℕ). take n work) (sym (length_items rows times fixed floors)) ∙ ap (λ (s : Walk). s.columns) (sym (finished e times));
       }
 
@@ -177,19 +189,24 @@ rows_begun : (table : List Item) (next : List ℕ) → ((r : ℕ) → r < 4 → 
 unfolding rows_now rows_of row_from
 rows_begun table next h = λ k. h 0 (omega arith) k ∷ h 1 (omega arith) k ∷ h 2 (omega arith) k ∷ h 3 (omega arith) k ∷ []
 
+pub take-replicate : (n m x : ℕ) → n ≤ m → take n (replicate m x) ≡ replicate n x
+take-replicate zero m x l = refl
+take-replicate (suc n) zero x l = let no : ⊥ = omega arith in absurd no
+take-replicate (suc n) (suc m) x l = ap (λ (xs : List ℕ). x ∷ xs) (take-replicate n m x (omega arith))
+
 -- The walk begins.
-pub walking_begun : (low high : ℕ) (rows fixed floors lasts next work : List ℕ) → WalkAsks low high rows fixed floors lasts next work → Walking low high rows fixed floors lasts next work next work (length rows) (low + 1)
+pub walking_begun : (low high : ℕ) (rows fixed floors lasts next work : List ℕ) → Begun low high rows fixed floors lasts next work → Walking low high rows fixed floors lasts next work next work (length rows) (low + 1)
 unfolding view walked begun
 walking_begun low high rows fixed floors lasts next work a =
     record {
-      asks = a;
+      begun = a;
       above = omega arith;
-      within = omega (arith, a.bounds);
-      next_long = a.next_long;
-      work_long = a.work_long;
+      within = omega (arith, a.formed.bounds);
+      next_long = a.prepared.next_long;
+      work_long = rw a.work_clear refl;
       lows = λ times r l. (a.prepared.begins r l times floors).low;
       left_is = λ times.
-          sym (ap total (sym (rows_same times)) ∙ total_begun (items_of rows times fixed floors) (λ k l. rw (row_is rows times fixed floors k (in_rows rows times fixed floors l)) (a.ordered.four k (in_rows rows times fixed floors l))) ∙ length_items rows times fixed floors);
+          sym (ap total (sym (rows_same times)) ∙ total_begun (items_of rows times fixed floors) (λ k l. rw (row_is rows times fixed floors k (in_rows rows times fixed floors l)) (a.formed.ordered.four k (in_rows rows times fixed floors l))) ∙ length_items rows times fixed floors);
       same = λ times. λ k. walk high (count k) (sym (add-one low) k) (record { waiting = rows_same times k; columns = clear times k });
     }
   where
@@ -200,17 +217,12 @@ walking_begun low high rows fixed floors lasts next work a =
     count = omega arith
 
     clear : (times : List ℕ) → replicate (length (items_of rows times fixed floors)) 0 ≡ take (length (items_of rows times fixed floors)) work
-    clear times = rw length_items (sym a.work_clear)
+    clear times = rw (length_items, a.work_clear) (sym (take-replicate (length rows) most_items 0 a.formed.ordered.few))
 
 -- The rows as they are shut at first.
-pub shut_begun : {low high : ℕ} {rows fixed floors lasts next work shut : List ℕ} → WalkAsks low high rows fixed floors lasts next work → ShutRows high rows fixed floors next row_count shut → AllShut high rows fixed floors next (low + 1) shut
+pub shut_begun : {low high : ℕ} {rows fixed floors lasts next work shut : List ℕ} → Begun low high rows fixed floors lasts next work → ShutRows high rows fixed floors next row_count shut → AllShut high rows fixed floors next (low + 1) shut
 shut_begun {low} {high} {rows} {fixed} {floors} {next = next} a s =
     record {
       long = s.long;
-      each = λ r l. rw (s.until r l) (shut_until_lem high rows fixed floors r (get_or next r 0) a.ordered (λ times. (a.prepared.begins r l times floors).low) (low + 1) (omega arith));
+      each = λ r l. rw (s.until r l) (shut_until_lem high rows fixed floors r (get_or next r 0) a.formed.ordered (λ times. (a.prepared.begins r l times floors).low) (low + 1) (omega arith));
     }
-
-pub take-replicate : (n m x : ℕ) → n ≤ m → take n (replicate m x) ≡ replicate n x
-take-replicate zero m x l = refl
-take-replicate (suc n) zero x l = let no : ⊥ = omega arith in absurd no
-take-replicate (suc n) (suc m) x l = ap (λ (xs : List ℕ). x ∷ xs) (take-replicate n m x (omega arith))

@@ -1,13 +1,17 @@
 -- Where each row's items stand in a table, which the code goes by. Only the contracts of functions within the crate cite this.
-use Rattle.std.specs.Prelude.{ℕ, ◌+◌, ◌-◌, ◌<◌, ◌≤◌, ◌≡◌, Bool, true, false, cond, ◌&&◌, List, length, get_or, take, drop, replicate, ltb, eqb}
+use Rattle.std.specs.Prelude.{ℕ, ◌+◌, ◌-◌, ◌<◌, ◌≤◌, ◌≡◌, Bool, true, false, cond, ◌&&◌, List, length, get_or, take, drop, ltb, eqb}
 use Rattle.std.proofs.Math.Option.{Option, none, some}
 use Rattle.placing.specs.Item.{Item, items_of, item_at}
 use Rattle.placing.specs.Table.{most_items, greatest, row_count}
 use Rattle.placing.specs.Walk.{Waiting, Candidate, in_row, last_column, walked, none_wait}
 use Rattle.placing.specs.declared.Offer.{Offer}
 use Rattle.placing.specs.declared.Offer.TheVariants.{Fixed, Free, Passed, Nothing}
+use Rattle.answers.specs.Number.{number}
+use Rattle.answers.specs.declared.Refusal.{Refusal}
+use Rattle.std.specs.declared.result.Result.{Result}
+use Rattle.std.specs.declared.option.Option as rust
+use Rattle.std.specs.declared.option.Option.TheVariants.{None, Some}
 use Rattle.placing.specs.declared.Pick.{Pick}
-use Rattle.placing.specs.declared.Pick.TheVariants.{Row, Empty}
 
 abbrev pub row_at : List Item → ℕ → ℕ
 row_at table k = (item_at table k).row
@@ -40,24 +44,18 @@ Tables rows fixed P = (times floors : List ℕ) → P (items_of rows times fixed
 
 -- The items from place i on have their last columns, and each row its next place.
 pub record Prepared (high i : ℕ) (rows fixed lasts next : List ℕ) : Type 0 where
+  pub lasts_long : length lasts ≡ most_items
+  pub next_long : length next ≡ row_count
   pub lasts_are : (k : ℕ) → i ≤ k → k < length rows → Tables rows fixed λ table. get_or lasts k 0 ≡ last_column high (row_from table (row_at table k) k)
   pub begins : (r : ℕ) → r < row_count → Tables rows fixed λ table. BeginsAt table r i (get_or next r 0)
 
--- What `prepare` asks: nothing prepared yet, each row's next place past the table.
-pub record PrepareAsks (high : ℕ) (rows fixed lasts next : List ℕ) : Type 0 where
+-- What a table that is not malformed tells the code.
+pub record Formed (low high : ℕ) (rows fixed floors : List ℕ) : Type 0 where
   pub ordered : Ordered rows
+  pub bounds : low ≤ high
   pub high_fits : high ≤ greatest
   pub fixed_long : length fixed ≡ length rows
-  pub lasts_long : length lasts ≡ most_items
-  pub next_long : length next ≡ row_count
-  pub next_past : (r : ℕ) → r < row_count → get_or next r 0 ≡ length rows
-
--- The slices that the walk reads beside one another.
-pub record Aligned (rows fixed floors lasts : List ℕ) : Type 0 where
-  pub few : length rows ≤ most_items
-  pub fixed_long : length fixed ≡ length rows
   pub floors_long : length floors ≡ length rows
-  pub lasts_long : length lasts ≡ most_items
 
 -- The last column that finds an item shut: its floor, or the one before its fixed column.
 abbrev pub shut_before : ℕ → ℕ → ℕ
@@ -90,22 +88,11 @@ unfoldable pub offer_at : List ℕ → List ℕ → ℕ → ℕ → ℕ → Offe
 offer_at fixed lasts shut i c = offer_by (ltb shut c) (eqb (get_or fixed i 0) c) (eqb (get_or fixed i 0) 0) (get_or lasts i 0)
 
 -- The candidate that the code's pick stands for.
-abbrev pub candidate_of : Pick → Option Candidate
-candidate_of (Row row last) = some (record { row = row; last = last })
-candidate_of Empty = none
+abbrev pub candidate_of : rust.Option Pick → Option Candidate
+candidate_of None = none
+candidate_of (Some p) = some (record { row = p.row; last = p.last })
 
--- What `walk` asks: last columns and next places as `prepare` leaves them, and no column yet.
-pub record WalkAsks (low high : ℕ) (rows fixed floors lasts next work : List ℕ) : Type 0 where
-  pub ordered : Ordered rows
-  pub aligned : Aligned rows fixed floors lasts
-  pub bounds : low ≤ high
-  pub high_fits : high ≤ greatest
-  pub next_long : length next ≡ row_count
-  pub work_long : length work ≡ most_items
-  pub work_clear : take (length rows) work ≡ replicate (length rows) 0
-  pub prepared : Prepared high 0 rows fixed lasts next
-
--- What it gives: whether nothing is left waiting, and the columns of the whole walk.
-pub record WalkGives (low high : ℕ) (rows fixed floors : List ℕ) (placed : Bool) (work : List ℕ) : Type 0 where
-  pub placed_is : (times : List ℕ) → placed ≡ none_wait (walked low high (items_of rows times fixed floors)).waiting
+-- What `walk` gives: the columns of the whole walk, and a refusal where something is left waiting.
+pub record WalkGives (low high : ℕ) (rows fixed floors : List ℕ) (outcome : Result Unit Refusal) (work : List ℕ) : Type 0 where
+  pub number_is : (times : List ℕ) → number outcome ≡ cond (none_wait (walked low high (items_of rows times fixed floors)).waiting) 0 24
   pub columns_are : (times : List ℕ) → take (length rows) work ≡ (walked low high (items_of rows times fixed floors)).columns

@@ -1,5 +1,5 @@
 -- The limits and the order of a replay table: refusal 22 (document 01, "Placing" and "Numbers returned").
-use Rattle.std.specs.Prelude.{ℕ, Bool, true, not, ◌&&◌, ◌||◌, List, [], ◌∷◌, length, leb, ltb, eqb}
+use Rattle.std.specs.Prelude.{ℕ, ◌≡◌, Bool, true, not, ◌&&◌, ◌||◌, List, [], ◌∷◌, length, leb, ltb, eqb}
 use Rattle.placing.specs.Item.{Item, items_of}
 
 -- "at most 64 items"
@@ -44,6 +44,9 @@ table_fits low high table = leb (length table) most_items && bounds_fit low high
 -- Four slices of one length.
 unfoldable pub lengths_agree : List ℕ → List ℕ → List ℕ → List ℕ → Bool
 lengths_agree rows times fixed floors = eqb (length times) (length rows) && eqb (length fixed) (length rows) && eqb (length floors) (length rows)
+
+abbrev pub AgreesLengths : List ℕ → List ℕ → List ℕ → List ℕ → Type 0
+AgreesLengths rows times fixed floors = (length times ≡ length rows) × (length fixed ≡ length rows) × (length floors ≡ length rows)
 
 -- 22: "replay table breaks the limits or order above, a fixed column outside low + 1..high, or a fixed item with a floor". Slices of unequal length hold no table.
 unfoldable pub malformed : ℕ → ℕ → List ℕ → List ℕ → List ℕ → List ℕ → Bool

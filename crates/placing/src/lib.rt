@@ -1,13 +1,16 @@
 // The chosen placing of a replay table, on lent slices of numbers. It knows nothing of lines.
 #![tactic(auto)]
 
-ghost use Rattle.std.specs.Prelude.{◌≡◌, ◌+◌, ◌-◌, ◌≤◌, ◌<◌, ◌++◌, length, get_or, take, drop, ltb, eqb, cond};
+ghost use Rattle.std.specs.Prelude.{◌≡◌, ◌+◌, ◌-◌, ◌≤◌, ◌<◌, ◌++◌, length, get_or, replicate, ltb, eqb, cond};
 ghost use Rattle.std.proofs.Math.Option.{some};
-ghost use Rattle.placing.specs.Item.{items_of};
-ghost use Rattle.placing.specs.Table.{greatest, row_count, item_fits, comes_after, items_fit, malformed};
+ghost use Rattle.placing.specs.Item.{items_of, item_at};
+ghost use Rattle.placing.specs.Table.{most_items, row_count, AgreesLengths, item_fits, items_fit, malformed};
 ghost use Rattle.placing.specs.Walk.{sooner};
 ghost use Rattle.placing.specs.Answer.{answer, columns_left};
-ghost use Rattle.placing.specs.Places.{Prepared, PrepareAsks, shut_until, ShutRows, NextColumn, offer_at, candidate_of, WalkAsks, WalkGives};
+ghost use Rattle.placing.specs.Places.{Formed, Prepared, shut_until, ShutRows, NextColumn, offer_at, candidate_of, WalkGives};
+ghost use Rattle.answers.specs.Number.{number};
+
+use answers::Refusal;
 
 // "at most 64 items"
 const MOST_ITEMS: usize = 64;
@@ -18,88 +21,233 @@ const GREATEST: u32 = 4_000_000;
 // Rows 0..3.
 const ROWS: usize = 4;
 
-// Whether an item is within its limits.
-fn item_fits(low: u32, high: u32, row: u32, time: u32, fixed: u32, floor: u32) -> bool
-    ensures { result ≡ item_fits low high (record { row = row; time = time; fixed = fixed; floor = floor }) }
-{
-    let fixed_fits = (fixed == 0) | ((low < fixed) & (fixed <= high) & (floor == 0));
-    ((row as usize) < ROWS) & (1 <= time) & (time <= GREATEST) & (floor <= GREATEST) & fixed_fits
+// A replay table. C lends a slice for each field (`placing_place`): item i has its row, row time, fixed column (0 is free)
+// and floor at place i of each.
+#[derive(Clone, Copy)]
+pub struct Table<'a> {
+    pub low: u32,
+    pub high: u32,
+    pub rows: &'a [u32],
+    pub times: &'a [u32],
+    pub fixed: &'a [u32],
+    pub floors: &'a [u32],
 }
 
-// Whether an item comes after a row and a row time.
-fn comes_after(row: u32, time: u32, its_row: u32, its_time: u32) -> bool
-    ensures { result ≡ comes_after row time its_row its_time }
-{
-    (row < its_row) | ((row == its_row) & (time < its_time))
+impl Table<'_> {
+    // Whether item i is within its limits.
+    #[tactic(auto, unfolding(crate::specs::Table::item_fits, crate::specs::Table::fixed_fits), using(crate::proofs::ItemsLaws::items_at))]
+    fn item_fits(&self, i: usize) -> bool
+        requires { (i < length self.now.rows.now) × AgreesLengths self.now.rows.now self.now.times.now self.now.fixed.now self.now.floors.now }
+        ensures { result ≡ item_fits self.now.low self.now.high (item_at (items_of self.now.rows.now self.now.times.now self.now.fixed.now self.now.floors.now) i) }
+    {
+        let fixed = self.fixed[i];
+        let floor = self.floors[i];
+        let time = self.times[i];
+        let fixed_fits = (fixed == 0) | ((self.low < fixed) & (fixed <= self.high) & (floor == 0));
+        ((self.rows[i] as usize) < ROWS)
+            & (1 <= time)
+            & (time <= GREATEST)
+            & (floor <= GREATEST)
+            & fixed_fits
+    }
+
+    // Whether every item is within its limits and comes after the one before it.
+    fn items_fit(&self) -> bool
+        requires { AgreesLengths self.now.rows.now self.now.times.now self.now.fixed.now self.now.floors.now }
+        ensures { result ≡ items_fit self.now.low self.now.high 0 0 (items_of self.now.rows.now self.now.times.now self.now.fixed.now self.now.floors.now) }
+    {
+        let mut ok = true;
+        let mut before = (0, 0);
+        for i in 0..self.rows.len() {
+            let its = (self.rows[i], self.times[i]);
+            ok &= self.item_fits(i) & (before < its);
+            before = its;
+        }
+        ok
+    }
+
+    // Whether the table is malformed: refusal 22. The marker asks it too.
+    pub fn is_malformed(&self) -> bool
+        ensures { result ≡ malformed self.now.low self.now.high self.now.rows.now self.now.times.now self.now.fixed.now self.now.floors.now }
+    {
+        let n = self.rows.len();
+        let agree = (self.times.len() == n) & (self.fixed.len() == n) & (self.floors.len() == n);
+        let bounds = (n <= MOST_ITEMS) & (self.low <= self.high) & (self.high <= GREATEST);
+        if !(agree & bounds) {
+            return true;
+        }
+        !self.items_fit()
+    }
+
+    // Document 01's placing: the chosen columns in table order, where it is accepted.
+    pub fn place(&self, columns: &mut [u32]) -> Result<(), Refusal>
+        ensures number { number result ≡ answer self.now.low self.now.high self.now.rows.now self.now.times.now self.now.fixed.now self.now.floors.now columns.old }
+        ensures left { columns.new ≡ columns_left self.now.low self.now.high self.now.rows.now self.now.times.now self.now.fixed.now self.now.floors.now columns.old }
+    {
+        if self.is_malformed() {
+            return Err(Refusal::Table);
+        }
+        let n = self.rows.len();
+        if columns.len() < n {
+            return Err(Refusal::OutputShort);
+        }
+        let table = WellFormed {
+            low: self.low,
+            high: self.high,
+            rows: self.rows,
+            fixed: self.fixed,
+            floors: self.floors,
+        };
+        // A refusal copies nothing.
+        let mut work = [0; MOST_ITEMS];
+        table.walk(&mut work)?;
+        columns[..n].copy_from_slice(&work[..n]);
+        Ok(())
+    }
 }
 
-// Whether every item is within its limits and comes after the one before it.
-fn items_fit(
+// A table that is not malformed, without its row times: only its check looks at them.
+#[derive(Clone, Copy)]
+struct WellFormed<'a> {
     low: u32,
     high: u32,
-    rows: &[u32],
-    times: &[u32],
-    fixed: &[u32],
-    floors: &[u32],
-) -> bool
-    requires { (length times.now ≡ length rows.now) × (length fixed.now ≡ length rows.now) × (length floors.now ≡ length rows.now) }
-    ensures { result ≡ items_fit low high 0 0 (items_of rows.now times.now fixed.now floors.now) }
-{
-    let mut ok = true;
-    let mut row: u32 = 0;
-    let mut time: u32 = 0;
-    let mut i: usize = 0;
-    while i < rows.len() {
-        let its_row = rows[i];
-        let its_time = times[i];
-        let its_fixed = fixed[i];
-        let its_floor = floors[i];
-        let within = item_fits(low, high, its_row, its_time, its_fixed, its_floor);
-        let after = comes_after(row, time, its_row, its_time);
-        ok = ok & (within & after);
-        row = its_row;
-        time = its_time;
-        i += 1;
-    }
-    ok
+    rows: &'a [u32],
+    fixed: &'a [u32],
+    floors: &'a [u32],
+    ghost formed: { Formed low high rows.now fixed.now floors.now },
 }
 
-// Whether the table is malformed: refusal 22. The marker asks it too.
-pub fn is_malformed(
-    low: u32,
-    high: u32,
-    rows: &[u32],
-    times: &[u32],
-    fixed: &[u32],
-    floors: &[u32],
-) -> bool
-    ensures { result ≡ malformed low high rows.now times.now fixed.now floors.now }
-{
-    let n = rows.len();
-    let agree = (times.len() == n) & (fixed.len() == n) & (floors.len() == n);
-    if !agree {
-        return true;
+impl WellFormed<'_> {
+    // The last column of the item behind in a row, whose place it is, or one past the highest where there is none.
+    fn last_behind(&self, lasts: &[u32; MOST_ITEMS], place: usize) -> u32
+        ensures { result ≡ cond (ltb place (length self.now.rows.now)) (get_or lasts.now place 0) (self.now.high + 1) }
+    {
+        if place < self.rows.len() {
+            lasts[place]
+        } else {
+            self.high + 1
+        }
     }
-    let bounds = (n <= MOST_ITEMS) & ((low <= high) & (high <= GREATEST));
-    if !bounds {
-        return true;
+
+    // Each item's last column, and each row's first place, from the table's end backwards.
+    fn prepare(&self, lasts: &mut [u32; MOST_ITEMS], next: &mut [usize; ROWS])
+        ensures { Prepared self.now.high 0 self.now.rows.now self.now.fixed.now lasts.new next.new }
+    {
+        let n = self.rows.len();
+        *next = [n; ROWS];
+        for i in (0..n).rev() {
+            let row = self.rows[i] as usize;
+            lasts[i] = last_from(self.fixed[i], self.last_behind(lasts, next[row]));
+            next[row] = i;
+        }
     }
-    !items_fit(low, high, rows, times, fixed, floors)
-}
 
-// A row as an index. A function of its own, so that the parameter's type shows once that the cast loses nothing.
-fn row_number(row: u32) -> usize
-    ensures { result ≡ row }
-{
-    row as usize
-}
+    // The last column that finds a row shut, where its next place is i: its next item's floor, or the column before that
+    // item's fixed one. A row with no item left stays shut.
+    #[tactic(auto, unfolding(crate::specs::Places::shut_until))]
+    fn shut_until(&self, row: usize, i: usize) -> u32
+        ensures { result ≡ shut_until self.now.high self.now.rows.now self.now.fixed.now self.now.floors.now row i }
+    {
+        if i < self.rows.len() && self.rows[i] as usize == row {
+            if self.fixed[i] == 0 {
+                return self.floors[i];
+            }
+            return self.fixed[i] - 1;
+        }
+        self.high
+    }
 
-// The last column of the item behind in a row, or one past the highest where there is none.
-fn last_behind(high: u32, lasts: &[u32], place: usize, n: usize) -> u32
-    requires { (n ≤ length lasts.now) × (high ≤ greatest) }
-    ensures { result ≡ cond (ltb place n) (get_or lasts.now place 0) (high + 1) }
-{
-    if place < n { lasts[place] } else { high + 1 }
+    // The last column that finds each row shut.
+    fn shut_rows(&self, next: &[usize; ROWS]) -> [u32; ROWS]
+        ensures { ShutRows self.now.high self.now.rows.now self.now.fixed.now self.now.floors.now next.now row_count result }
+    {
+        let mut shut = [self.high; ROWS];
+        for row in 0..ROWS {
+            shut[row] = self.shut_until(row, next[row]);
+        }
+        shut
+    }
+
+    // What a row offers column c where it is shut up to the column `shut` and has its next place at i.
+    #[tactic(auto, unfolding(crate::specs::Places::offer_at))]
+    fn offered(&self, lasts: &[u32; MOST_ITEMS], shut: u32, i: usize, c: u32) -> Offer
+        requires { shut < c → i < length self.now.rows.now }
+        ensures { result ≡ offer_at self.now.fixed.now lasts.now shut i c }
+    {
+        if shut < c {
+            if self.fixed[i] == c {
+                return Offer::Fixed;
+            }
+            if self.fixed[i] == 0 {
+                return Offer::Free(lasts[i]);
+            }
+            return Offer::Passed;
+        }
+        Offer::Nothing
+    }
+
+    // The first column past c that finds a row open, or the one past the highest.
+    fn next_column(&self, shut: &[u32; ROWS], c: u32) -> u32
+        requires { c ≤ self.now.high }
+        ensures { NextColumn self.now.high shut.now c result }
+    {
+        let mut least = self.high;
+        for until in shut {
+            if *until <= c {
+                return c + 1;
+            }
+            least = least.min(*until);
+        }
+        least + 1
+    }
+
+    // The walk over the columns. The columns of the items placed stand in `work`, at their places; it is accepted if every
+    // item has its column.
+    fn walk(&self, work: &mut [u32; MOST_ITEMS]) -> Result<(), Refusal>
+        requires { work.old ≡ replicate most_items 0 }
+        ensures { WalkGives self.now.low self.now.high self.now.rows.now self.now.fixed.now self.now.floors.now result work.new }
+    {
+        let mut lasts = [0; MOST_ITEMS];
+        let mut next = [0; ROWS];
+        self.prepare(&mut lasts, &mut next);
+        // Beside `next`, and not within it: a row's next place stands before the column that finds it shut is known.
+        let mut shut = self.shut_rows(&next);
+        let mut left = self.rows.len();
+        let mut c = self.low + 1;
+        while (0 < left) & (c <= self.high) {
+            // Left at once with an item fixed at the column, its last one; else, past all rows, with the best free item.
+            let chosen = 'search: {
+                let mut best = None;
+                for row in 0..ROWS {
+                    match self.offered(&lasts, shut[row], next[row], c) {
+                        Offer::Fixed => {
+                            break 'search Some(Pick { row, last: c });
+                        }
+                        Offer::Free(last) => {
+                            best = sooner(best, Pick { row, last });
+                        }
+                        Offer::Passed => {
+                            shut[row] = self.high;
+                        }
+                        Offer::Nothing => {}
+                    }
+                }
+                best
+            };
+            if let Some(pick) = chosen {
+                let i = next[pick.row];
+                work[i] = c;
+                next[pick.row] = i + 1;
+                shut[pick.row] = self.shut_until(pick.row, i + 1);
+                left -= 1;
+            }
+            c = self.next_column(&shut, c);
+        }
+        if left != 0 {
+            return Err(Refusal::NoPlacing);
+        }
+        Ok(())
+    }
 }
 
 // An item's last column from that of the item behind it.
@@ -107,76 +255,10 @@ fn last_from(fixed: u32, behind: u32) -> u32
     ensures { result ≡ cond (eqb fixed 0) (behind - 1) fixed }
 {
     if fixed == 0 {
-        if behind == 0 { 0 } else { behind - 1 }
+        behind.saturating_sub(1)
     } else {
         fixed
     }
-}
-
-// Each item's last column, and each row's first place, from the table's end backwards.
-fn prepare(high: u32, rows: &[u32], fixed: &[u32], lasts: &mut [u32], next: &mut [usize])
-    requires { PrepareAsks high rows.now fixed.now lasts.old next.old }
-    ensures { Prepared high 0 rows.now fixed.now lasts.new next.new }
-{
-    let mut i = rows.len();
-    while 0 < i {
-        i -= 1;
-        let r = row_number(rows[i]);
-        let behind = last_behind(high, lasts, next[r], rows.len());
-        lasts[i] = last_from(fixed[i], behind);
-        next[r] = i;
-    }
-}
-
-// The last column that finds row r shut, where its next place is i: its next item's floor, or the column before that
-// item's fixed one. A row with no item left stays shut.
-fn shut_until(high: u32, rows: &[u32], fixed: &[u32], floors: &[u32], r: usize, i: usize) -> u32
-    requires { (length fixed.now ≡ length rows.now) × (length floors.now ≡ length rows.now) }
-    ensures { result ≡ shut_until high rows.now fixed.now floors.now r i }
-{
-    if i < rows.len() {
-        if row_number(rows[i]) == r {
-            if fixed[i] == 0 {
-                return floors[i];
-            }
-            return fixed[i] - 1;
-        }
-    }
-    high
-}
-
-// The last column that finds each row shut.
-fn shut_rows(high: u32, rows: &[u32], fixed: &[u32], floors: &[u32], next: &[usize]) -> [u32; ROWS]
-    requires { (length fixed.now ≡ length rows.now) × (length floors.now ≡ length rows.now) × (length next.now ≡ row_count) }
-    ensures { ShutRows high rows.now fixed.now floors.now next.now row_count result }
-{
-    let mut shut = [high; ROWS];
-    let mut r: usize = 0;
-    while r < ROWS {
-        shut[r] = shut_until(high, rows, fixed, floors, r, next[r]);
-        r += 1;
-    }
-    shut
-}
-
-// The first column past c that finds a row open, or the one past the highest.
-fn next_column(high: u32, shut: &[u32; ROWS], c: u32) -> u32
-    requires { (c ≤ high) × (high ≤ greatest) }
-    ensures { NextColumn high shut.now c result }
-{
-    let mut least = high;
-    let mut r: usize = 0;
-    while r < ROWS {
-        let until = shut[r];
-        if until <= c {
-            return c + 1;
-        }
-        if until < least {
-            least = until;
-        }
-        r += 1;
-    }
-    least + 1
 }
 
 // What a row offers a column: its next item, fixed there or free with its last column; or nothing, as that item's fixed
@@ -189,139 +271,19 @@ enum Offer {
     Nothing,
 }
 
-// What a row offers column c that is shut up to the column `shut` and has its next place at i.
-fn offered(fixed: &[u32], lasts: &[u32], shut: u32, i: usize, c: u32) -> Offer
-    requires { shut < c → (i < length fixed.now) × (i < length lasts.now) }
-    ensures { result ≡ offer_at fixed.now lasts.now shut i c }
-{
-    if shut < c {
-        if fixed[i] == c {
-            return Offer::Fixed;
-        }
-        if fixed[i] == 0 {
-            return Offer::Free(lasts[i]);
-        }
-        return Offer::Passed;
-    }
-    Offer::Nothing
-}
-
-// What a column takes: a row's next item, with its last column; or it stays empty.
+// What a column takes: a row's next item, with its last column.
 #[derive(Clone, Copy)]
-enum Pick {
-    Row(usize, u32),
-    Empty,
+struct Pick {
+    row: usize,
+    last: u32,
 }
 
 // The item with the least last column, then the lowest row: the one found before unless this one's last column is less.
-fn sooner(best: Pick, row: usize, last: u32) -> Pick
-    ensures { candidate_of result ≡ sooner (candidate_of best) (some (record { row = row; last = last })) }
+fn sooner(best: Option<Pick>, pick: Pick) -> Option<Pick>
+    ensures { candidate_of result ≡ sooner (candidate_of best) (some (record { row = pick.row; last = pick.last })) }
 {
     match best {
-        Pick::Empty => Pick::Row(row, last),
-        Pick::Row(_, least) => if last < least {
-            Pick::Row(row, last)
-        } else {
-            best
-        },
+        Some(before) if before.last <= pick.last => best,
+        _ => Some(pick),
     }
-}
-
-// The walk over the columns. Whether every item has its column, which then stands in `work` at its place.
-fn walk(
-    low: u32,
-    high: u32,
-    rows: &[u32],
-    fixed: &[u32],
-    floors: &[u32],
-    lasts: &[u32],
-    next: &mut [usize],
-    work: &mut [u32],
-) -> bool
-    requires { WalkAsks low high rows.now fixed.now floors.now lasts.now next.old work.old }
-    ensures { WalkGives low high rows.now fixed.now floors.now result work.new }
-{
-    let mut shut = shut_rows(high, rows, fixed, floors, next);
-    let mut left = rows.len();
-    let mut c = low + 1;
-    while (0 < left) & (c <= high) {
-        // Left at once with an item fixed at the column, its last one; else, past all rows, with the best free item.
-        let mut best = Pick::Empty;
-        let mut r: usize = 0;
-        let chosen = 'search: loop {
-            if r == ROWS {
-                break 'search best;
-            }
-            let o = offered(fixed, lasts, shut[r], next[r], c);
-            match o {
-                Offer::Fixed => {
-                    break 'search Pick::Row(r, c);
-                }
-                Offer::Free(last) => {
-                    best = sooner(best, r, last);
-                }
-                Offer::Passed => {
-                    shut[r] = high;
-                }
-                Offer::Nothing => {}
-            }
-            r += 1;
-        };
-        if let Pick::Row(row, _) = chosen {
-            let i = next[row];
-            work[i] = c;
-            next[row] = i + 1;
-            shut[row] = shut_until(high, rows, fixed, floors, row, i + 1);
-            left -= 1;
-        }
-        c = next_column(high, &shut, c);
-    }
-    left == 0
-}
-
-// The first n of `work` into `columns`.
-fn copy(work: &[u32], n: usize, columns: &mut [u32])
-    requires { (n ≤ length work.now) × (n ≤ length columns.old) }
-    ensures { columns.new ≡ take n work.now ++ drop n columns.old }
-{
-    let mut i: usize = 0;
-    while i < n {
-        columns[i] = work[i];
-        i += 1;
-    }
-}
-
-// Document 01's placing: the number answered, and on 0 the chosen columns in table order.
-pub fn placing_place(
-    low: u32,
-    high: u32,
-    rows: &[u32],
-    times: &[u32],
-    fixed: &[u32],
-    floors: &[u32],
-    columns: &mut [u32],
-) -> u32
-    ensures { (result ≡ answer low high rows.now times.now fixed.now floors.now columns.old)
-        × (columns.new ≡ columns_left low high rows.now times.now fixed.now floors.now columns.old) }
-{
-    if is_malformed(low, high, rows, times, fixed, floors) {
-        return 22;
-    }
-    let n = rows.len();
-    if columns.len() < n {
-        return 23;
-    }
-    let mut lasts = [0u32; MOST_ITEMS];
-    let mut next = [n; ROWS];
-    prepare(high, rows, fixed, &mut lasts, &mut next);
-    let mut work = [0u32; MOST_ITEMS];
-    let mut number: u32 = 24;
-    // A refusal copies nothing.
-    let mut count: usize = 0;
-    if walk(low, high, rows, fixed, floors, &lasts, &mut next, &mut work) {
-        number = 0;
-        count = n;
-    }
-    copy(&work, count, columns);
-    number
 }

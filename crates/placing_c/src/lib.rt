@@ -4,6 +4,9 @@
 ghost use Rattle.std.specs.Prelude.{◌≡◌};
 ghost use Rattle.placing.specs.Answer.{answer, columns_left};
 
+use answers::number;
+use placing::Table;
+
 // Document 01's placing: the number answered, and on 0 the chosen columns in table order.
 #[unsafe(no_mangle)]
 pub extern "C" fn placing_place(
@@ -18,5 +21,13 @@ pub extern "C" fn placing_place(
     ensures { (result ≡ answer low high rows.now times.now fixed.now floors.now columns.old)
         × (columns.new ≡ columns_left low high rows.now times.now fixed.now floors.now columns.old) }
 {
-    placing::placing_place(low, high, rows, times, fixed, floors, columns)
+    let table = Table {
+        low,
+        high,
+        rows,
+        times,
+        fixed,
+        floors,
+    };
+    number(table.place(columns))
 }

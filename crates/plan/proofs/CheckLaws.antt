@@ -1,12 +1,22 @@
 -- What holds of a plan that no check refuses.
 use Prim.Native.Nat.{ℕ, ◌≤◌}
+use Rattle.std.specs.Option.{MatchOption, is_some}
+use Rattle.std.proofs.Common.{Option, Some, None}
+use Rattle.std.specs.declared.result.Result.{Result}
+use Rattle.std.specs.declared.result.Result.TheVariants.{Ok, Err}
+use Rattle.answers.specs.Number.{refusal_number, number}
+use Rattle.answers.specs.declared.Refusal.{Refusal}
+use Rattle.answers.specs.declared.Refusal.TheVariants.{PlanDegree}
 use mathlib.Core.Path.{◌≡◌, refl, sym, ◌∙◌}
-use mathlib.Core.Bool.{Bool, true, false, not, ◌&&◌}
+use mathlib.Core.Bool.{Bool, true, false, cond, not, ◌&&◌}
 use mathlib.Core.List.{List}
 use native.Mathlib.Omega.{arith}
 use borrow.Author.Tests.{eqb-true, leb-true, ltb-false, not-false, eq-eqb, le-leb, le-ltb}
 use lib.Dec.{leb, ltb, eqb}
 use lib.ListN.{length, drop}
+use Rattle.plan.specs.declared.Version.{Version}
+use Rattle.plan.specs.declared.Version.TheVariants.{One, Two}
+use Rattle.plan.specs.Named.{version_number}
 use Rattle.plan.specs.Layout.{read_slots}
 use Rattle.plan.specs.Rule.{rule_fields}
 use Rattle.plan.specs.Plan.{plan_of, plan_length, plan_version, plan_nodes, plan_channels, size_by_head}
@@ -39,6 +49,41 @@ first_of a b c d e f g =
 pub refusal_first : (s : List ℕ) → plan_refusal s ≡ first_of (bad_length s) (bad_version s) (bad_counts s) (bad_size s) (bad_rules s) (bad_channels s) (bad_degrees s)
 unfolding plan_refusal first_of
 refusal_first s = refl
+
+-- A version is refused where there is none of that number.
+pub unnamed : (v : ℕ) (named : Option Version) → MatchOption named (version_fits v ≡ false) (λ o. v ≡ version_number o) → (none : Bool) → is_some named ≡ not none → none ≡ not (version_fits v)
+unnamed v None is true e = rw is
+unnamed v (Some One) is false e = rw is
+unnamed v (Some Two) is false e = rw is
+unnamed v None is false e = absurd (cc)
+unnamed v (Some o) is true e = absurd (cc)
+
+-- A check that refuses where its test says so, and what is known where it has refused or not.
+abbrev outcome : Bool → Refusal → Result (Unit {0}) Refusal
+outcome bad r = cond bad (Err r) (Ok tt)
+
+ok_outcome : (bad : Bool) (r : Refusal) (u : Unit {0}) → outcome bad r ≡ Ok u → bad ≡ false
+ok_outcome true r u e = absurd (cc)
+ok_outcome false r u e = refl
+
+err_outcome : (bad : Bool) (r f : Refusal) → outcome bad r ≡ Err f → (bad ≡ true) × (f ≡ r)
+err_outcome true r f e = (refl, cc)
+err_outcome false r f e = absurd (cc)
+
+module _ {bad : Bool} (r : Refusal) {tested : Result (Unit {0}) Refusal} (test : tested ≡ outcome bad r) where
+  pub passed : {u : Unit {0}} → tested ≡ Ok u → bad ≡ false
+  passed {u = u} is = ok_outcome bad r u (sym test ∙ is)
+
+  pub refused : {f : Refusal} {told : Result (Unit {0}) Refusal} → tested ≡ Err f → told ≡ Err f → (bad ≡ true) × (number told ≡ refusal_number r)
+  refused {f = f} is same =
+      let e = err_outcome bad r f (sym test ∙ is) in
+      (e.0, rw (same, e.1))
+
+-- The last check, where no other one refuses.
+pub last_applies : (g : Bool) → number (outcome g PlanDegree) ≡ first_of false false false false false false g
+unfolding first_of
+last_applies true = refl
+last_applies false = refl
 
 none_applies : (a b c d e f g : Bool) → first_of a b c d e f g ≡ 0
     → (a ≡ false) × (b ≡ false) × (c ≡ false) × (d ≡ false) × (e ≡ false) × (f ≡ false) × (g ≡ false)

@@ -4,15 +4,14 @@ use mathlib.Core.Path.{◌≡◌, sym, ◌∙◌}
 use mathlib.Core.Bool.{Bool, ◌&&◌, and_assoc, and-true}
 use mathlib.Core.List.{List, []}
 use native.Mathlib.Numerals.{add-one}
-use lib.Dec.{leb}
 use lib.ListN.{length, get_or, drop, drop_of_length-le}
 use lib.Seq.{drop-cons}
 use Rattle.plan.specs.declared.Channel.{Channel}
 use Rattle.plan.specs.Layout.{read_slots}
 use Rattle.plan.specs.Rule.{rule_fields, rule_fits}
 use Rattle.plan.specs.Channel.{channel_fits, channel_after}
-use Rattle.plan.specs.Plan.{Plan, plan_nodes, no_channel, entering, leaving}
-use Rattle.plan.specs.Check.{rules_fit, channels_fit, four_at_most}
+use Rattle.plan.specs.Plan.{plan_nodes, no_channel}
+use Rattle.plan.specs.Check.{rules_fit, channels_fit}
 
 -- The rules' numbers.
 abbrev pub rule_slots : List ℕ → List (List ℕ)
@@ -37,7 +36,3 @@ channels_more ok n sender receiver cs b h =
 pub channels_end : (ok : Bool) (n sender receiver : ℕ) (cs : List Channel) (b : ℕ) → length cs ≤ b
     → channels_fit n 0 0 cs ≡ (ok && channels_fit n sender receiver (drop b cs)) → ok ≡ channels_fit n 0 0 cs
 channels_end ok n sender receiver cs b h e = sym (e ∙ rw (drop_of_length-le cs h) (and-true ok))
-
-pub degrees_more : (ok : Bool) (p : Plan) (n : ℕ)
-    → (ok && four_at_most p (suc n)) ≡ ((ok && (leb (length (entering p n)) 4 && leb (length (leaving p n)) 4)) && four_at_most p n)
-degrees_more ok p n = sym (and_assoc ok (leb (length (entering p n)) 4 && leb (length (leaving p n)) 4) (four_at_most p n))

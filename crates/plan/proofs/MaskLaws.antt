@@ -1,23 +1,26 @@
 -- Masks of rising lists of channels: what their ones and their trailing zeros are, and how a mask grows channel by channel.
 use Prim.Native.Nat.{ℕ, zero, suc, ◌+◌, ◌-◌, ◌*◌, ◌/◌, ◌%◌, ◌^◌, ◌≤◌, ◌<◌}
 use mathlib.Core.Path.{◌≡◌, refl, sym, ap, ◌∙◌}
+use mathlib.Core.Logic.{◌≢◌}
 use mathlib.Core.Bool.{Bool, true, false, cond, ◌&&◌}
 use mathlib.Core.List.{List, [], ◌∷◌}
-use native.Mathlib.Nat.{add-mul, mul_assoc, mul-one, zero-mul, lt_of_not-le, add-zero, pow-suc, pow-succ', div-add-mod'}
-use native.Mathlib.Numerals.{add-one}
+use native.Mathlib.Nat.{add-mul, mul_assoc, mul-one, one-mul, zero-mul, lt_of_not-le, add-zero, pow-suc, pow-succ', div-add-mod'}
 use native.Mathlib.Omega.{arith}
 use borrow.Author.Tests.{le-leb, lt-leb, ne_eqb}
 use lib.Dec.{lit<, eqb}
+use Rattle.std.specs.Int.{from_bool}
 use lib.ListN.{length, get_or, drop, drop_of_length-le}
 use lib.Seq.{drop-cons}
-use lib.Pow.{pow-add, pow_pos, pow_mono}
+use lib.Pow.{shl_exact, pow-add, pow_pos, pow_mono}
 use lib.Bits.{shifted_half, shifted_even}
 use lib.Count.{ones, ones_cat, count_trailing_zeros, trailing_of_zero}
 use Rattle.plan.specs.declared.Record.{Record}
 use Rattle.plan.specs.declared.Channel.{Channel}
 use Rattle.plan.specs.Channel.{takes}
-use Rattle.plan.specs.Plan.{Plan, plan_channels, no_channel, keep_if, numbers_from, is_none, entering, leaving}
-use Rattle.plan.specs.Mask.{mask_of, Rising, ones_from, channels_in, taking, plan_mask, CountOf, FirstOf}
+use Rattle.plan.specs.Lawful.{Each}
+use Rattle.plan.specs.Plan.{Plan, plan_of, plan_channels, no_channel, keep_if, numbers_from, is_none, entering, leaving}
+use Rattle.plan.specs.Mask.{mask_of, Rising, ones_from, channels_in, among, taking, plan_mask, Passing, CountOf, FirstOf}
+use Rattle.plan.proofs.PlanLaws.{channel_count_lem}
 
 -- ---- rising lists
 
@@ -25,7 +28,7 @@ pub rising_lower : (j k : ℕ) (bs : List ℕ) → j ≤ k → Rising k bs → R
 rising_lower j k [] l h = tt
 rising_lower j k (b ∷ bs) l h = (omega arith, h.1)
 
-rising_kept : (t : Bool) (k : ℕ) (ks : List ℕ) → Rising (suc k) ks → Rising k (keep_if t k ks)
+pub rising_kept : (t : Bool) (k : ℕ) (ks : List ℕ) → Rising (suc k) ks → Rising k (keep_if t k ks)
 rising_kept true k ks h = (omega arith, h)
 rising_kept false k ks h = rising_lower k (suc k) ks (omega arith) h
 
@@ -141,6 +144,38 @@ channels_listed mask small bs h e =
     let own : mask_of (channels_in mask) ≡ mask = channels_mask mask small in
     mask_unique (channels_in mask) bs (channels_rise mask) h (rw own small) (own ∙ e)
 
+-- A channel's bit, and the bit of one that passes, as they are shifted.
+pub bit_here : (b : ℕ) → b < 32 → 1 * 2 ^ b % 4294967296 ≡ 2 ^ b
+bit_here b h = shl_exact {a = 1} 1 b 32 (lit< tt) (omega arith) ∙ one-mul _
+
+pub bit_passed : (t : Bool) (b : ℕ) → b < 32 → from_bool t * 2 ^ b % 4294967296 ≡ cond t (2 ^ b) 0
+bit_passed true b h = bit_here b h
+bit_passed false b h = ap (λ (x : ℕ). x % 4294967296) (zero-mul (2 ^ b))
+
+-- A mask's first channel, and those behind it.
+pub record Next (mask b : ℕ) : Type 0 where
+  pub small : b < 32
+  pub bit : 2 ^ b ≤ mask
+  pub channels : channels_in mask ≡ b ∷ channels_in (mask - 2 ^ b)
+
+pub next : (mask b : ℕ) → mask < 2 ^ 32 → mask ≢ 0 → FirstOf mask b → Next mask b
+next mask b low some first = go (channels_in mask) refl (channels_rise mask) (sym (channels_mask mask low))
+  where
+    go : (bs : List ℕ) → channels_in mask ≡ bs → Rising 0 bs → mask ≡ mask_of bs → Next mask b
+    go [] same rise is = absurd (some is)
+    go (c ∷ cs) same rise is =
+        let first_is : b ≡ c = first.listed (c ∷ cs) rise is in
+        let bit : 2 ^ b ≡ 2 ^ c = ap (λ (x : ℕ). 2 ^ x) first_is in
+        let behind : channels_in (mask - 2 ^ b) ≡ cs = channels_listed (mask - 2 ^ b) (omega arith) cs (rising_lower 0 (suc c) cs (omega arith) rise.1) (omega arith) in
+        record {
+          small = lt_of_not-le (λ (k : 32 ≤ b). let p : 2 ^ 32 ≤ 2 ^ b = pow_mono k in omega arith);
+          bit = omega arith;
+          channels = same ∙ rw (first_is, sym (rw first_is at behind)) refl;
+        }
+
+pub channels_none : channels_in 0 ≡ []
+channels_none = channels_listed 0 (lit< tt) [] tt refl
+
 -- ---- a mask, channel by channel
 
 pub mask_more : {A : Type 0} (f : A → Bool) (d : A) (xs : List A) (b : ℕ) → b < length xs
@@ -166,6 +201,27 @@ pub taking_rise : (p : Plan) (n : ℕ) (r : Record) → Rising 0 (taking p n r)
 unfolding taking
 taking_rise p n r = numbers_rise 0 (λ (c : Channel). eqb c.sender n && takes c r) p.channels
 
+-- Each of them is a channel of the plan.
+kept_below : (t : Bool) (m k : ℕ) (ks : List ℕ) → k < m → Each (λ (b : ℕ). b < m) ks → Each (λ (b : ℕ). b < m) (keep_if t k ks)
+kept_below true m k ks l h = (l, h)
+kept_below false m k ks l h = h
+
+numbers_below : {A : Type 0} (m k : ℕ) (f : A → Bool) (xs : List A) → k + length xs ≤ m → Each (λ (b : ℕ). b < m) (numbers_from k f xs)
+numbers_below m k f [] l = tt
+numbers_below m k f (x ∷ xs) l = kept_below (f x) m k (numbers_from (suc k) f xs) (omega arith) (numbers_below m (suc k) f xs (omega arith))
+
+pub entering_below : (s : List ℕ) (n : ℕ) → Each (λ (b : ℕ). b < plan_channels s) (entering (plan_of s) n)
+unfolding entering
+entering_below s n = numbers_below (plan_channels s) 0 (λ (c : Channel). eqb c.receiver n) (plan_of s).channels (omega (arith, channel_count_lem s))
+
+pub leaving_below : (s : List ℕ) (n : ℕ) → Each (λ (b : ℕ). b < plan_channels s) (leaving (plan_of s) n)
+unfolding leaving
+leaving_below s n = numbers_below (plan_channels s) 0 (λ (c : Channel). eqb c.sender n) (plan_of s).channels (omega (arith, channel_count_lem s))
+
+pub among_below : (m : ℕ) (f : ℕ → Bool) (bs : List ℕ) → Each (λ (b : ℕ). b < m) bs → Each (λ (b : ℕ). b < m) (among f bs)
+among_below m f [] h = tt
+among_below m f (b ∷ bs) h = kept_below (f b) m b (among f bs) h.0 (among_below m f bs h.1)
+
 pub mask_few : (s : List ℕ) → plan_channels s ≤ 24 → (bs : List ℕ) → plan_mask s bs ≡ mask_of bs
 unfolding plan_mask
 mask_few s h bs = rw (le-leb (plan_channels s) 24 h)
@@ -179,34 +235,69 @@ pub mask_none : (bs : List ℕ) → eqb (mask_of bs) 0 ≡ is_none bs
 mask_none [] = refl
 mask_none (b ∷ bs) = ne_eqb (2 ^ b + mask_of bs) 0 (λ e. omega (arith, e, pow_pos b))
 
--- ---- a mask that grows along a list of channels
+pub channels_empty : (mask : ℕ) → mask < 2 ^ 32 → eqb mask 0 ≡ is_none (channels_in mask)
+channels_empty mask low = ap (λ (m : ℕ). eqb m 0) (sym (channels_mask mask low)) ∙ mask_none (channels_in mask)
 
--- The mask so far, the next channel's bit, and the next channel.
-pub record Grown (f : Channel → Bool) (cs : List Channel) (mask bit b : ℕ) : Type 0 where
-  pub within : b ≤ length cs
-  pub few : length cs ≤ 24
-  pub power : bit ≡ 2 ^ b
-  pub small : bit ≤ 16777216
-  pub below : mask < bit
-  pub whole : mask_of (numbers_from 0 f cs) ≡ mask + mask_of (numbers_from b f (drop b cs))
+-- ---- a mask that grows along a list of channels, from its end
 
-pub grown_start : (f : Channel → Bool) (cs : List Channel) → length cs ≤ 24 → Grown f cs 0 1 0
-grown_start f cs h = record { within = omega arith; few = h; power = refl; small = omega arith; below = omega arith; whole = omega arith }
+-- Of the channels from b on those that pass are in it, whatever test it is that was made of them.
+pub record Grown (cs : List Channel) (made : (Channel → Bool) → Type 0) (mask b : ℕ) : Type 0 where
+  pub within : b ≤ 24
+  pub below : mask < 2 ^ (24 - b)
+  pub small : mask < 16777216
+  pub whole : (f : Channel → Bool) → made f → mask * 2 ^ b ≡ mask_of (numbers_from b f (drop b cs))
 
-pub grown_more : (f : Channel → Bool) (cs : List Channel) (mask bit b : ℕ) → Grown f cs mask bit b → b < length cs
-    → Grown f cs (mask + cond (f (get_or cs b no_channel)) bit 0) (bit * 2) (b + 1)
-grown_more f cs mask bit b g l =
-    let t : Bool = f (get_or cs b no_channel) in
-    let double : bit * 2 ≡ 2 ^ suc b = rw g.power (sym (pow-suc 2 b)) in
-    let most : 2 ^ suc b ≤ 2 ^ 24 = pow_mono {i = suc b} {j = 24} (omega (arith, g.few)) in
-    rw (add-one b) (record {
-      within = l;
-      few = g.few;
-      power = double;
-      small = omega arith;
-      below = omega (arith, bit_at_most t bit, g.below);
-      whole = omega (arith, g.whole, mask_more f no_channel cs b l, ap (λ (x : ℕ). cond t x 0) g.power);
-    })
+module _ (cs : List Channel) (made : (Channel → Bool) → Type 0) where
+  pub grown_start : (b : ℕ) → length cs ≤ b → b ≤ 24 → Grown cs made 0 b
+  grown_start b l h =
+      record {
+        within = h;
+        below = pow_pos (24 - b);
+        small = omega arith;
+        whole = λ f m. zero-mul (2 ^ b) ∙ rw (drop_of_length-le cs l);
+      }
 
-pub grown_end : (f : Channel → Bool) (cs : List Channel) (mask bit b : ℕ) → Grown f cs mask bit b → length cs ≤ b → mask ≡ mask_of (numbers_from 0 f cs)
-grown_end f cs mask bit b g l = sym (g.whole ∙ rw (drop_of_length-le cs l) (add-zero mask))
+  pub grown_more : (mask b : ℕ) (t : Bool) → Grown cs made mask (suc b) → b < length cs → ((f : Channel → Bool) → made f → t ≡ f (get_or cs b no_channel)) → Grown cs made (2 * mask + from_bool t) b
+  grown_more mask b t g l asked =
+      let double : 2 ^ (24 - b) ≡ 2 ^ (24 - suc b) * 2 = ap (λ (k : ℕ). 2 ^ k) (omega (arith, g.within)) ∙ pow-suc 2 (24 - suc b) in
+      let most : 2 ^ (24 - b) ≤ 2 ^ 24 = pow_mono {i = 24 - b} {j = 24} (omega arith) in
+      let below : 2 * mask + from_bool t < 2 ^ (24 - b) = omega (arith, one_at_most t, g.below) in
+      record {
+        within = omega (arith, g.within);
+        below = below;
+        small = omega arith;
+        whole = λ f m. add-mul (2 * mask) (from_bool t) (2 ^ b) ∙ omega (
+          arith,
+          g.whole f m,
+          mask_more f no_channel cs b l,
+          ap (λ (u : Bool). cond u (2 ^ b) 0) (asked f m),
+          one_bit t (2 ^ b),
+          ap (λ (x : ℕ). mask * x) (pow-succ' 2 b),
+          mul_assoc mask 2 (2 ^ b),
+          ap (λ (x : ℕ). x * 2 ^ b) (twice mask),
+        );
+      }
+    where
+      one_at_most : (u : Bool) → from_bool u ≤ 1
+      one_at_most true = omega arith
+      one_at_most false = omega arith
+
+      one_bit : (u : Bool) (x : ℕ) → from_bool u * x ≡ cond u x 0
+      one_bit true x = omega arith
+      one_bit false x = zero-mul x
+
+      twice : (x : ℕ) → 2 * x ≡ x * 2
+      twice x = omega arith
+
+  pub grown_end : (mask b : ℕ) → Grown cs made mask b → b ≡ 0 → (f : Channel → Bool) → made f → mask ≡ mask_of (numbers_from 0 f cs)
+  grown_end mask b g none f m = sym (mul-one mask) ∙ rw none at (g.whole f m)
+
+pub passing_few : (s : List ℕ) (f : Channel → Bool) (mask : ℕ) → mask < 2 ^ 32 → plan_channels s ≤ 24 → mask ≡ mask_of (numbers_from 0 f (plan_of s).channels) → Passing s f (record { mask = mask })
+passing_few s f mask low few is =
+    record {
+      few = λ _. channels_listed mask low (numbers_from 0 f (plan_of s).channels) (numbers_rise 0 f (plan_of s).channels) is;
+      many = λ many. let no : ⊥ = omega arith in absurd no;
+    }
+
+pub passing_none : (s : List ℕ) (f : Channel → Bool) → 24 < plan_channels s → Passing s f (record { mask = 0 })
+passing_none s f many = record { few = λ few. let no : ⊥ = omega arith in absurd no; many = λ _. channels_none }

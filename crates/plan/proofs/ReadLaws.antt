@@ -28,16 +28,8 @@ two_spelled [] h = let no : ⊥ = omega arith in absurd no
 two_spelled (a ∷ []) h = let no : ⊥ = omega arith in absurd no
 two_spelled (a ∷ b ∷ s) h = omega arith
 
-two_short : (s : List ℕ) → length s ≤ 1 → spelled 0 (take 2 s) ≡ get_or s 0 0
-two_short [] h = refl
-two_short (a ∷ []) h = omega arith
-two_short (a ∷ b ∷ s) h = let no : ⊥ = omega arith in absurd no
-
 pub word_field : (i : ℕ) (s : List ℕ) → i + 1 < length s → spelled 0 (take 2 (drop i s)) ≡ get_or s i 0 * 256 + get_or s (i + 1) 0
 word_field i s h = two_spelled (drop i s) (simp length-drop (omega arith)) ∙ simp (get_or-drop, add-zero)
-
-pub word_short : (i : ℕ) (s : List ℕ) → length s ≤ i + 1 → spelled 0 (take 2 (drop i s)) ≡ get_or s i 0
-word_short i s h = two_short (drop i s) (simp length-drop (omega arith)) ∙ simp (get_or-drop, add-zero)
 
 pub nodes_byte : (s : List ℕ) → plan_nodes s ≡ get_or s 3 0
 unfolding plan_nodes

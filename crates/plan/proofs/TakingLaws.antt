@@ -1,22 +1,21 @@
 -- The channels that take a record are those among the leaving ones that do; a mask's channels, asked one by one.
-use Prim.Native.Nat.{ℕ, zero, suc, ◌+◌, ◌-◌, ◌^◌, ◌≤◌, ◌<◌}
+use Prim.Native.Nat.{ℕ, zero, suc, ◌+◌, ◌^◌, ◌≤◌, ◌<◌}
 use mathlib.Core.Path.{◌≡◌, refl, sym, ap, ◌∙◌}
 use mathlib.Core.Logic.{⊎_elim}
 use mathlib.Core.Bool.{Bool, true, false, not, cond, ◌&&◌}
 use mathlib.Core.List.{List, [], ◌∷◌}
 use native.Mathlib.Nat.{add-zero, zero-add, add-suc, suc-add, lt_of_not-le}
 use native.Mathlib.Omega.{arith}
-use borrow.Author.Tests.{ne_eqb}
 use lib.Dec.{eqb}
 use lib.ListN.{length, get_or}
-use lib.Pow.{pow_pos, pow_mono}
+use lib.Pow.{pow_mono}
 use Rattle.basics.specs.Bools.{below_or_not}
 use Rattle.plan.specs.declared.Record.{Record}
 use Rattle.plan.specs.declared.Channel.{Channel}
 use Rattle.plan.specs.Channel.{takes}
 use Rattle.plan.specs.Plan.{Plan, plan_of, plan_channels, no_channel, keep_if, numbers_from, is_none, leaving}
-use Rattle.plan.specs.Mask.{mask_of, Rising, channels_in, among, taking, takes_at, some_takes, plan_mask, FirstOf, TakingOf}
-use Rattle.plan.proofs.MaskLaws.{rising_lower, mask_kept, channels_rise, channels_mask, channels_listed, bit_at_most, leaving_rise, mask_few, mask_many, mask_none}
+use Rattle.plan.specs.Mask.{mask_of, Rising, channels_in, among, taking, takes_at, some_takes, plan_mask, TakingOf}
+use Rattle.plan.proofs.MaskLaws.{rising_lower, rising_kept, mask_kept, channels_rise, channels_mask, channels_listed, bit_at_most, leaving_rise, mask_few, mask_many}
 
 both_kept : (g h : Bool) (f : ℕ → Bool) (k : ℕ) (ks : List ℕ) → f k ≡ h → keep_if (g && h) k (among f ks) ≡ among f (keep_if g k ks)
 both_kept true h f k ks e = rw e
@@ -35,63 +34,42 @@ taking-among p n r =
     numbers_among (λ (c : Channel). eqb c.sender n) (λ (c : Channel). takes c r) no_channel (takes_at p r) 0 p.channels
     (λ j l. ap (takes_at p r) (zero-add j))
 
--- ---- a mask's channels, asked one by one
+-- ---- channels, asked one by one
 
--- Of a mask's channels some are asked, and those found so far are a mask.
-pub record Asked (f : ℕ → Bool) (mask left found : ℕ) : Type 0 where
-  pub rest : List ℕ
-  pub rise : Rising 0 rest
-  pub unasked : left ≡ mask_of rest
-  pub below : found + left ≤ mask
-  pub whole : mask_of (among f (channels_in mask)) ≡ found + mask_of (among f rest)
+among_rise : (f : ℕ → Bool) (k : ℕ) (bs : List ℕ) → Rising k bs → Rising k (among f bs)
+among_rise f k [] h = tt
+among_rise f k (b ∷ bs) h = rising_lower k b (keep_if (f b) b (among f bs)) h.0 (rising_kept (f b) b (among f bs) (among_rise f (suc b) bs h.1))
 
-module _ (f : ℕ → Bool) (mask : ℕ) where
-  pub asked_start : mask < 2 ^ 32 → Asked f mask mask 0
-  asked_start l = record { rest = channels_in mask; rise = channels_rise mask; unasked = sym (channels_mask mask l); below = omega arith; whole = omega arith }
+-- Some channels of a mask are left to ask; the mask of those that passed so far.
+pub record Passed (f : ℕ → Bool) (all left : List ℕ) (found : ℕ) : Type 0 where
+  pub below : found + mask_of left ≤ mask_of all
+  pub whole : mask_of (among f all) ≡ found + mask_of (among f left)
 
-  module _ (left found b : ℕ) (asked : Asked f mask left found) (first : FirstOf left b) (some : left ≡ 0 → ⊥) where
-    -- The next channel's bit is among those left.
-    pub next_bit : left < 2 ^ 32 → (b < 32) × (2 ^ b ≤ left)
-    next_bit l = go asked.rest asked.rise asked.unasked
-      where
-        go : (bs : List ℕ) → Rising 0 bs → left ≡ mask_of bs → (b < 32) × (2 ^ b ≤ left)
-        go [] h e = absurd (some e)
-        go (c ∷ cs) h e =
-            let same : b ≡ c = first.listed (c ∷ cs) h e in
-            let bit : 2 ^ b ≡ 2 ^ c = ap (λ (x : ℕ). 2 ^ x) same in
-            (lt_of_not-le (λ (k : 32 ≤ b). let p : 2 ^ 32 ≤ 2 ^ b = pow_mono k in omega arith), omega arith)
+module _ (f : ℕ → Bool) where
+  module _ (mask found b : ℕ) (left rest : List ℕ) (low : mask < 2 ^ 32) (so_far : Passed f (channels_in mask) left found) (next : left ≡ b ∷ rest) where
+    pub passed_bit : (b < 32) × (found + 2 ^ b < 2 ^ 32)
+    passed_bit =
+        let below = rw (next, channels_mask mask low) at so_far.below in
+        (lt_of_not-le (λ (k : 32 ≤ b). let p : 2 ^ 32 ≤ 2 ^ b = pow_mono k in omega arith), omega arith)
 
-    pub asked_more : Asked f mask (left - 2 ^ b) (found + cond (f b) (2 ^ b) 0)
-    asked_more = go asked.rest asked.rise asked.unasked asked.whole
-      where
-        go : (bs : List ℕ) → Rising 0 bs → left ≡ mask_of bs → mask_of (among f (channels_in mask)) ≡ found + mask_of (among f bs) → Asked f mask (left - 2 ^ b) (found + cond (f b) (2 ^ b) 0)
-        go [] h e w = absurd (some e)
-        go (c ∷ cs) h e w =
-            let same : b ≡ c = first.listed (c ∷ cs) h e in
-            rw same (record {
-              rest = cs;
-              rise = rising_lower 0 (suc c) cs (omega arith) h.1;
-              unasked = omega arith;
-              below = omega (arith, asked.below, bit_at_most (f c) (2 ^ c));
-              whole = omega (arith, mask_kept (f c) c (among f cs));
-            })
+    pub passed_more : Passed f (channels_in mask) rest (found + cond (f b) (2 ^ b) 0)
+    passed_more =
+        let below = rw next at so_far.below in
+        let whole = rw next at so_far.whole in
+        record { below = omega (arith, bit_at_most (f b) (2 ^ b)); whole = omega (arith, mask_kept (f b) b (among f rest)) }
 
-    -- If the next channel passes, one does.
-    pub asked_some : f b ≡ true → is_none (among f (channels_in mask)) ≡ false
-    asked_some passes =
-        sym (mask_none (among f (channels_in mask)))
-        ∙ ne_eqb (mask_of (among f (channels_in mask))) 0 (λ e. omega (arith, e, asked_more.whole, ap (λ (t : Bool). cond t (2 ^ b) 0) passes, pow_pos b))
+  pub passed_end : (mask found : ℕ) (left : List ℕ) → mask < 2 ^ 32 → Passed f (channels_in mask) left found → left ≡ [] → channels_in found ≡ among f (channels_in mask)
+  passed_end mask found left low so_far none =
+      let below = rw (none, channels_mask mask low) at so_far.below in
+      let whole = rw none at so_far.whole in
+      channels_listed found (omega arith) (among f (channels_in mask)) (among_rise f 0 (channels_in mask) (channels_rise mask)) (omega arith)
 
-  pub asked_end : (found : ℕ) → Asked f mask 0 found → found ≡ mask_of (among f (channels_in mask))
-  asked_end found asked = go asked.rest asked.unasked asked.whole
-    where
-      go : (bs : List ℕ) → 0 ≡ mask_of bs → mask_of (among f (channels_in mask)) ≡ found + mask_of (among f bs) → found ≡ mask_of (among f (channels_in mask))
-      go [] e w = omega arith
-      go (b ∷ bs) e w = let no : ⊥ = omega (arith, pow_pos b) in absurd no
+-- ---- masks of a plan's channels
 
-  -- With none left, none passes exactly where nothing is found.
-  pub asked_none : (found : ℕ) → Asked f mask 0 found → eqb found 0 ≡ is_none (among f (channels_in mask))
-  asked_none found asked = rw (asked_end found asked) (mask_none (among f (channels_in mask)))
+pub mask_planned : (s : List ℕ) (mask : ℕ) (bs : List ℕ) → mask < 2 ^ 32 → (plan_channels s ≤ 24 → channels_in mask ≡ bs) → (24 < plan_channels s → channels_in mask ≡ []) → mask ≡ plan_mask s bs
+mask_planned s mask bs low few many =
+    sym (channels_mask mask low)
+    ∙ ⊎_elim (λ k. ap mask_of (many k) ∙ sym (mask_many s k bs)) (λ k. ap mask_of (few k) ∙ sym (mask_few s k bs)) (below_or_not 24 (plan_channels s))
 
 -- What is found is the mask of those that take the record, of whichever list the mask is.
 module _ (s : List ℕ) (r : Record) (mask m : ℕ) (small : mask < 2 ^ 32) (e : m ≡ mask_of (among (takes_at (plan_of s) r) (channels_in mask))) where

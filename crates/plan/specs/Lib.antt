@@ -3,6 +3,7 @@ pub mod Layout
 pub mod Lawful
 pub mod Record
 pub mod Rule
+pub mod Named
 pub mod Channel
 pub mod Plan
 pub mod Mask

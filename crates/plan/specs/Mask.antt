@@ -1,10 +1,9 @@
 -- Sets of channels as masks (document 01, "The belts that take a record form a mask; ones count them, trailing zeros give the next belt").
-use Rattle.std.specs.Prelude.{ℕ, zero, suc, ◌+◌, ◌*◌, ◌/◌, ◌%◌, ◌^◌, ◌≤◌, ◌≡◌, Bool, cond, not, ◌&&◌, List, [], ◌∷◌, map, length, get_or, leb, eqb}
+use Rattle.std.specs.Prelude.{ℕ, zero, suc, ◌+◌, ◌*◌, ◌/◌, ◌%◌, ◌^◌, ◌≤◌, ◌<◌, ◌≡◌, Bool, cond, not, ◌&&◌, List, [], ◌∷◌, map, length, get_or, leb, eqb}
 use Rattle.std.specs.Int.Count.{ones, count_trailing_zeros}
 use Rattle.plan.specs.declared.Record.{Record}
 use Rattle.plan.specs.declared.Channel.{Channel}
-use Rattle.plan.specs.declared.Pick.{Pick}
-use Rattle.plan.specs.declared.Pick.TheVariants.{Entering, Leaving}
+use Rattle.plan.specs.declared.masks.Channels.{Channels}
 use Rattle.plan.specs.Channel.{takes}
 use Rattle.plan.specs.Plan.{Plan, plan_of, plan_channels, channel_at, keep_if, numbers_from, is_none, leaving}
 
@@ -26,15 +25,14 @@ ones_from k (suc w) mask = keep_if (eqb (mask % 2) 1) k (ones_from (suc k) w (ma
 unfoldable pub channels_in : ℕ → List ℕ
 channels_in mask = ones_from 0 32 mask
 
+-- The channels of a set of them, which lies in a mask.
+abbrev pub listed : Channels → List ℕ
+listed c = channels_in c.mask
+
 -- Those of a list that pass a test.
 abbrev pub among : (ℕ → Bool) → List ℕ → List ℕ
 among f [] = []
 among f (k ∷ ks) = keep_if (f k) k (among f ks)
-
--- Whether a channel is one of those picked: those that enter a node, or that leave it.
-abbrev pub picked : Pick → Channel → Bool
-picked (Entering n) c = eqb c.receiver n
-picked (Leaving n) c = eqb c.sender n
 
 -- The channels that leave a node and take a record, by number.
 unfoldable pub taking : Plan → ℕ → Record → List ℕ
@@ -62,6 +60,15 @@ some_takes p r mask = not (is_none (among (takes_at p r) (channels_in mask)))
 unfoldable pub plan_mask : List ℕ → List ℕ → ℕ
 unfolding plan_channels
 plan_mask s bs = cond (leb (plan_channels s) 24) (mask_of bs) 0
+
+-- What a call may answer of a channel's two ends is a test of channels.
+abbrev pub Tests : (ℕ → ℕ → Bool → Type 0) → (Channel → Bool) → Type 0
+Tests answers f = (c : Channel) (t : Bool) → answers c.sender c.receiver t → t ≡ f c
+
+-- Those of a plan's channels that pass a test; none where the plan has more channels than document 01 allows.
+pub record Passing (s : List ℕ) (f : Channel → Bool) (c : Channels) : Type 0 where
+  pub few : plan_channels s ≤ 24 → listed c ≡ numbers_from 0 f (plan_of s).channels
+  pub many : 24 < plan_channels s → listed c ≡ []
 
 -- A mask's count of ones: of a rising list of channels, how many there are.
 pub record CountOf (mask r : ℕ) : Type 0 where

@@ -1,26 +1,12 @@
 // A plan's bytes, read in place; past the end they are 0.
-ghost use Rattle.std.specs.Prelude.{◌≡◌, ◌+◌, ◌<◌, ◌≤◌, get_or, take, drop};
+ghost use Rattle.std.specs.Prelude.{◌≡◌, ◌+◌, ◌<◌, ◌≤◌, MatchOption, get_or, take, drop, false};
 ghost use Rattle.plan.specs.Layout.{spelled};
 ghost use Rattle.plan.specs.Channel.{has_windows, channel_size};
 ghost use Rattle.plan.specs.Plan.{plan_version, plan_nodes, plan_channels, size_by_head, channel_from};
+ghost use Rattle.plan.specs.Check.{version_fits};
+ghost use Rattle.plan.specs.Named.{version_number};
 
-pub fn wide(b: u8) -> u16
-    ensures { (result ≡ b) × (result < 256) }
-{
-    b as u16
-}
-
-pub fn index_of(b: u8) -> usize
-    ensures { (result ≡ b) × (result < 256) }
-{
-    b as usize
-}
-
-pub fn count_of(n: u16) -> usize
-    ensures { result ≡ n }
-{
-    n as usize
-}
+use crate::Version;
 
 // The byte at i, 0 past the end.
 pub fn byte_at(s: &[u8], i: usize) -> u8
@@ -33,20 +19,29 @@ pub fn byte_at(s: &[u8], i: usize) -> u8
 pub fn word_at(s: &[u8], i: usize) -> u16
     ensures { result ≡ spelled 0 (take 2 (drop i s.now)) }
 {
-    let high = wide(byte_at(s, i));
-    if i < s.len() {
-        if i + 1 < s.len() {
-            return high * 256 + wide(s[i + 1]);
-        }
+    let high = byte_at(s, i);
+    if i < s.len() && i + 1 < s.len() {
+        return u16::from_be_bytes([high, s[i + 1]]);
     }
-    high
+    u16::from(high)
+}
+
+// The version that the plan names, if there is one of that number.
+pub fn version(plan: &[u8]) -> Option<Version>
+    ensures { MatchOption result (version_fits (plan_version plan.now) ≡ false) (λ v. plan_version plan.now ≡ version_number v) }
+{
+    match byte_at(plan, 2) {
+        1 => Some(Version::One),
+        2 => Some(Version::Two),
+        _ => None,
+    }
 }
 
 // Whether a plan's channels have a window of masses: those of version 2.
 pub fn has_windows(plan: &[u8]) -> bool
     ensures { result ≡ has_windows (plan_version plan.now) }
 {
-    byte_at(plan, 2) == 2
+    matches!(version(plan), Some(Version::Two))
 }
 
 // How many bytes a channel of the plan has.
@@ -59,13 +54,13 @@ pub fn channel_size(plan: &[u8]) -> usize
 pub fn node_count(plan: &[u8]) -> usize
     ensures { (result ≡ plan_nodes plan.now) × (result < 256) }
 {
-    index_of(byte_at(plan, 3))
+    usize::from(byte_at(plan, 3))
 }
 
 pub fn channel_count(plan: &[u8]) -> usize
     ensures { (result ≡ plan_channels plan.now) × (result < 256) }
 {
-    index_of(byte_at(plan, 4))
+    usize::from(byte_at(plan, 4))
 }
 
 // Where a channel's bytes start; for the count of channels, where the plan ends.
@@ -73,9 +68,7 @@ pub fn channel_from(plan: &[u8], b: usize) -> usize
     requires { b < 256 }
     ensures { (result ≡ channel_from plan.now b) × (result ≤ 3575) }
 {
-    let n = node_count(plan);
-    let size = channel_size(plan);
-    5 + 4 * n + size * b
+    5 + 4 * node_count(plan) + channel_size(plan) * b
 }
 
 // How long the plan is, by its head.

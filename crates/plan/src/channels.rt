@@ -10,23 +10,18 @@ use crate::{Channel, Record, bytes, records};
 fn bit_set(mask: u16, i: u8) -> bool
     ensures { result ≡ bit_set mask i }
 {
-    if 15 < i {
-        return false;
-    }
-    (mask >> i) % 2 == 1
+    i <= 15 && (mask >> i) % 2 == 1
 }
 
 // A piece number's remainder; by 0 it is the number itself. By 1, which most channels have, nothing is divided.
 fn left_over(piece: u32, modulus: u8) -> u32
     ensures { result ≡ piece % modulus }
 {
-    if modulus <= 1 {
-        if modulus == 0 {
-            return piece;
-        }
-        return 0;
+    match modulus {
+        0 => piece,
+        1 => 0,
+        _ => piece % u32::from(modulus),
     }
-    piece % (modulus as u32)
 }
 
 // Whether a channel takes a record, by its fields (records.rt says why); whether it is a tick is asked last.
@@ -35,13 +30,13 @@ pub fn takes_fields(c: Channel, piece: u32, material: u8, mass: u16) -> bool
 {
     let bit = bit_set(c.mask, material);
     let left = left_over(piece, c.modulus);
-    if bit & (left == (c.remainder as u32)) & ((c.least <= mass) & (mass <= c.greatest)) {
+    if bit & (left == u32::from(c.remainder)) & ((c.least <= mass) & (mass <= c.greatest)) {
         return true;
     }
     records::is_tick(piece, material, mass)
 }
 
-// Whether a channel takes a record.
+// Whether a channel takes a record. Beside takes_fields, whose caller has the fields in registers.
 pub fn channel_takes(c: Channel, r: Record) -> bool
     ensures { result ≡ takes c r }
 {
@@ -64,25 +59,18 @@ pub fn channel_at(plan: &[u8], channel: usize) -> Channel
     ensures { result ≡ channel_at (plan_of plan.now) channel }
 {
     if bytes::channel_count(plan) <= channel {
-        return Channel {
-            sender: 0,
-            receiver: 0,
-            mask: 0,
-            modulus: 0,
-            remainder: 0,
-            least: 0,
-            greatest: 0,
-        };
+        return Channel::default();
     }
     let at = bytes::channel_from(plan, channel);
     let windows = bytes::has_windows(plan);
     let least = bound_at(plan, at + 6, windows, 0);
     let greatest = bound_at(plan, at + 8, windows, 65_535);
+    // In every plan that is not refused six bytes are there: by themselves, no test is made of each.
     if at + 6 <= plan.len() {
         return Channel {
             sender: plan[at],
             receiver: plan[at + 1],
-            mask: bytes::wide(plan[at + 2]) * 256 + bytes::wide(plan[at + 3]),
+            mask: u16::from_be_bytes([plan[at + 2], plan[at + 3]]),
             modulus: plan[at + 4],
             remainder: plan[at + 5],
             least,

@@ -1,29 +1,27 @@
 // The checks 1 to 7 of a plan, one by one.
-ghost use Rattle.std.specs.Prelude.{◌≡◌, [], ◌+◌, ◌<◌, ◌≤◌, length, get_or, set, drop, replicate};
+ghost use Rattle.std.specs.Prelude.{◌≡◌, [], ◌+◌, ◌<◌, ◌≤◌, get_or, drop};
 ghost use Rattle.plan.specs.Layout.{read_slots};
-ghost use Rattle.plan.specs.Rule.{rule_kind_fits, rule_fits, rule_fields};
+ghost use Rattle.plan.specs.Rule.{rule_fits, rule_fields};
 ghost use Rattle.plan.specs.Channel.{channel_fits, channel_after};
 ghost use Rattle.plan.specs.Plan.{plan_of, plan_nodes};
-ghost use Rattle.plan.specs.Check.{bad_length, bad_version, bad_counts, bad_size, bad_rules, bad_channels, four_at_most, bad_degrees};
+ghost use Rattle.plan.specs.Check.{bad_length, bad_version, bad_counts, bad_size, bad_rules, bad_channels, bad_degrees};
 ghost use Rattle.plan.specs.Degrees.{Joined, Degrees};
 
-use crate::{Channel, bytes, channels};
+use crate::{Channel, bytes, channels, nodes};
 
 // 1: shorter than a head, or another length than its length field says.
 pub fn bad_length(plan: &[u8]) -> bool
     ensures { result ≡ bad_length plan.now }
 {
-    let field = bytes::count_of(bytes::word_at(plan, 0));
-    let n = plan.len();
-    (n < 5) | (field != n)
+    let field = usize::from(bytes::word_at(plan, 0));
+    (plan.len() < 5) | (field != plan.len())
 }
 
 // 2: the version.
 pub fn bad_version(plan: &[u8]) -> bool
     ensures { result ≡ bad_version plan.now }
 {
-    let version = bytes::byte_at(plan, 2);
-    !((version == 1) | (version == 2))
+    bytes::version(plan).is_none()
 }
 
 // 3: the counts of nodes and channels.
@@ -42,25 +40,12 @@ pub fn bad_size(plan: &[u8]) -> bool
     plan.len() != bytes::size_by_head(plan)
 }
 
-// Whether a rule's numbers are within their limits.
-fn rule_fits(kind: u8, p: u8, q: u16) -> bool
-    ensures { result ≡ rule_kind_fits kind p q }
-{
-    if kind == 0 {
-        return (p == 0) & (q == 0);
-    }
-    if kind == 1 {
-        return (p <= 15) & (q <= 15);
-    }
-    (kind == 2) & (p == 0) & (1 <= q)
-}
-
 fn node_rule_fits(plan: &[u8], node: usize) -> bool
     requires { (node < plan_nodes plan.now) × (node < 256) }
     ensures { result ≡ rule_fits (get_or (read_slots rule_fields (plan_nodes plan.now) (drop 5 plan.now)) node []) }
 {
     let at = 5 + 4 * node;
-    rule_fits(
+    nodes::rule_fits(
         bytes::byte_at(plan, at),
         bytes::byte_at(plan, at + 1),
         bytes::word_at(plan, at + 2),
@@ -71,12 +56,9 @@ fn node_rule_fits(plan: &[u8], node: usize) -> bool
 pub fn bad_rules(plan: &[u8]) -> bool
     ensures { result ≡ bad_rules plan.now }
 {
-    let n = bytes::node_count(plan);
     let mut ok = true;
-    let mut i: usize = 0;
-    while i < n {
-        ok = ok & node_rule_fits(plan, i);
-        i += 1;
+    for i in 0..bytes::node_count(plan) {
+        ok &= node_rule_fits(plan, i);
     }
     !ok
 }
@@ -85,9 +67,8 @@ pub fn bad_rules(plan: &[u8]) -> bool
 fn channel_fits(n: usize, c: Channel) -> bool
     ensures { result ≡ channel_fits n c }
 {
-    let receiver = bytes::index_of(c.receiver);
     (c.sender < c.receiver)
-        & (receiver < n)
+        & (usize::from(c.receiver) < n)
         & (1 <= c.mask)
         & (1 <= c.modulus)
         & (c.remainder < c.modulus)
@@ -98,7 +79,7 @@ fn channel_fits(n: usize, c: Channel) -> bool
 fn channel_after(sender: u8, receiver: u8, c: Channel) -> bool
     ensures { result ≡ channel_after sender receiver c }
 {
-    (sender < c.sender) | ((sender == c.sender) & (receiver < c.receiver))
+    (sender, receiver) < (c.sender, c.receiver)
 }
 
 // 6: a channel's fields, or the channels' order.
@@ -106,61 +87,39 @@ pub fn bad_channels(plan: &[u8]) -> bool
     ensures { result ≡ bad_channels plan.now }
 {
     let n = bytes::node_count(plan);
-    let m = bytes::channel_count(plan);
     let mut ok = true;
     let mut sender: u8 = 0;
     let mut receiver: u8 = 0;
-    let mut b: usize = 0;
-    while b < m {
+    for b in 0..bytes::channel_count(plan) {
         let c = channels::channel_at(plan, b);
-        let fits = channel_fits(n, c);
-        let after = channel_after(sender, receiver, c);
-        ok = ok & (fits & after);
+        ok &= channel_fits(n, c) & channel_after(sender, receiver, c);
         sender = c.sender;
         receiver = c.receiver;
-        b += 1;
     }
     !ok
 }
 
-// One channel more at a node.
-fn count_one(counts: &mut [u8; 12], node: usize)
-    requires { (length counts.old ≡ 12) × (node < 12) × (get_or counts.old node 0 < 255) }
-    ensures { counts.new ≡ set counts.old node (get_or counts.old node 0 + 1) }
-{
-    counts[node] += 1;
+// How many channels enter a node, and how many leave it.
+#[derive(Clone, Copy)]
+struct Degree {
+    enter: u8,
+    leave: u8,
 }
 
-// Counts each channel at its receiver and at its sender.
-fn count_ends(plan: &[u8], enter: &mut [u8; 12], leave: &mut [u8; 12])
-    requires { Joined plan.now × (enter.old ≡ replicate 12 0) × (leave.old ≡ replicate 12 0) }
-    ensures { Degrees (plan_of plan.now) enter.new leave.new }
+// The degrees of all nodes: each channel is counted at its sender and at its receiver.
+fn degrees(plan: &[u8]) -> [Degree; 12]
+    requires { Joined plan.now }
+    ensures { Degrees (plan_of plan.now) result }
 {
-    let size = bytes::channel_size(plan);
-    let mut left = bytes::channel_count(plan);
-    let mut at = bytes::channel_from(plan, left);
-    while 0 < left {
-        left -= 1;
-        at -= size;
-        let sender = bytes::index_of(plan[at]);
-        let receiver = bytes::index_of(plan[at + 1]);
-        count_one(enter, receiver);
-        count_one(leave, sender);
+    let mut degrees = [Degree { enter: 0, leave: 0 }; 12];
+    for b in 0..bytes::channel_count(plan) {
+        let at = bytes::channel_from(plan, b);
+        let sender = usize::from(plan[at]);
+        let receiver = usize::from(plan[at + 1]);
+        degrees[sender].leave += 1;
+        degrees[receiver].enter += 1;
     }
-}
-
-// Whether at most 4 channels enter each node and at most 4 leave it.
-fn degrees_fit(plan: &[u8], enter: &[u8; 12], leave: &[u8; 12]) -> bool
-    requires { (plan_nodes plan.now ≤ 12) × Degrees (plan_of plan.now) enter.now leave.now }
-    ensures { result ≡ four_at_most (plan_of plan.now) (plan_nodes plan.now) }
-{
-    let mut left = bytes::node_count(plan);
-    let mut ok = true;
-    while 0 < left {
-        left -= 1;
-        ok = ok & ((enter[left] <= 4) & (leave[left] <= 4));
-    }
-    ok
+    degrees
 }
 
 // 7: more than 4 channels into a node or out of it, in a plan that the checks 3, 4 and 6 pass.
@@ -168,8 +127,10 @@ pub fn bad_degrees(plan: &[u8]) -> bool
     requires { Joined plan.now }
     ensures { result ≡ bad_degrees plan.now }
 {
-    let mut enter: [u8; 12] = [0; 12];
-    let mut leave: [u8; 12] = [0; 12];
-    count_ends(plan, &mut enter, &mut leave);
-    !degrees_fit(plan, &enter, &leave)
+    let degrees = degrees(plan);
+    let mut ok = true;
+    for degree in &degrees[..bytes::node_count(plan)] {
+        ok &= (degree.enter <= 4) & (degree.leave <= 4);
+    }
+    !ok
 }

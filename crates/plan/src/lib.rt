@@ -1,8 +1,11 @@
 // Records, rules, channels and plans (document 01, "The line").
 #![tactic(auto)]
 
-ghost use Rattle.std.specs.Prelude.{◌≡◌};
+ghost use Rattle.std.specs.Prelude.{◌≡◌, cond, Ok, Err};
+ghost use Rattle.answers.specs.Number.{number};
 ghost use Rattle.plan.specs.Check.{plan_refusal};
+
+use answers::Refusal;
 
 pub mod bytes;
 pub mod channels;
@@ -27,8 +30,23 @@ pub enum Rule {
     Cap(u16),
 }
 
-// A channel (document 01: belt), and the least and the greatest mass that it takes (document 02, 2026-02).
+// A rule's kinds.
 #[derive(Clone, Copy)]
+pub enum Kind {
+    Keep,
+    Relabel,
+    Cap,
+}
+
+// A plan's versions: document 01's, and document 02's (2026-02), whose channels have a window of masses.
+#[derive(Clone, Copy)]
+pub enum Version {
+    One,
+    Two,
+}
+
+// A channel (document 01: belt), and the least and the greatest mass that it takes (document 02, 2026-02).
+#[derive(Clone, Copy, Default)]
 pub struct Channel {
     pub sender: u8,
     pub receiver: u8,
@@ -39,37 +57,21 @@ pub struct Channel {
     pub greatest: u16,
 }
 
-// Which of a plan's channels are asked for: those that enter a node, or that leave it.
-#[derive(Clone, Copy)]
-pub enum Pick {
-    Entering(usize),
-    Leaving(usize),
+fn refused_if(bad: bool, refusal: Refusal) -> Result<(), Refusal>
+    ensures { result ≡ cond bad (Err refusal) (Ok tt) }
+{
+    if bad { Err(refusal) } else { Ok(()) }
 }
 
-// The first of document 01's refusals 1 to 7 that applies to a plan, 0 if none does.
-pub fn plan_check(plan: &[u8]) -> u32
-    ensures { result ≡ plan_refusal plan.now }
+// The first of document 01's refusals 1 to 7 that applies to a plan.
+pub fn plan_check(plan: &[u8]) -> Result<(), Refusal>
+    ensures { number result ≡ plan_refusal plan.now }
 {
-    if checks::bad_length(plan) {
-        return 1;
-    }
-    if checks::bad_version(plan) {
-        return 2;
-    }
-    if checks::bad_counts(plan) {
-        return 3;
-    }
-    if checks::bad_size(plan) {
-        return 4;
-    }
-    if checks::bad_rules(plan) {
-        return 5;
-    }
-    if checks::bad_channels(plan) {
-        return 6;
-    }
-    if checks::bad_degrees(plan) {
-        return 7;
-    }
-    0
+    refused_if(checks::bad_length(plan), Refusal::PlanLength)?;
+    refused_if(checks::bad_version(plan), Refusal::PlanVersion)?;
+    refused_if(checks::bad_counts(plan), Refusal::PlanCounts)?;
+    refused_if(checks::bad_size(plan), Refusal::PlanSize)?;
+    refused_if(checks::bad_rules(plan), Refusal::PlanRule)?;
+    refused_if(checks::bad_channels(plan), Refusal::PlanChannel)?;
+    refused_if(checks::bad_degrees(plan), Refusal::PlanDegree)
 }

@@ -1,39 +1,47 @@
 // A node's rule: read in place, and applied by a match (document 01, "The line").
-ghost use Rattle.std.specs.Prelude.{◌≡◌, cond, ◌+◌, ◌%◌, ◌<◌, ltb, eqb};
-ghost use Rattle.plan.specs.Rule.{applied, rule_of_kind};
+ghost use Rattle.std.specs.Prelude.{◌≡◌, ◌+◌, ◌%◌, ◌<◌, MatchOption};
+ghost use Rattle.plan.specs.Rule.{applied, rule_of_kind, rule_kind_fits};
+ghost use Rattle.plan.specs.Named.{kind_number};
 ghost use Rattle.plan.specs.Plan.{plan_of, rule_at};
 ghost use Rattle.plan.specs.Narrow.{narrowed};
 
-use crate::{Record, Rule, bytes};
-
-fn relabelled(material: u8, p: u8, q: u8) -> u8
-    ensures { result ≡ cond (eqb material p) q material }
-{
-    if material == p { q } else { material }
-}
-
-fn capped(mass: u16, q: u16) -> u16
-    ensures { result ≡ cond (ltb q mass) q mass }
-{
-    if q < mass { q } else { mass }
-}
+use crate::{Kind, Record, Rule, bytes};
 
 // The record that a node's rule makes of a record.
 pub fn apply(rule: Rule, r: Record) -> Record
     ensures { result ≡ applied rule r }
 {
     match rule {
-        Rule::Keep => r,
-        Rule::Relabel(p, q) => Record {
-            piece: r.piece,
-            material: relabelled(r.material, p, q),
-            mass: r.mass,
-        },
+        Rule::Relabel(p, q) if r.material == p => Record { material: q, ..r },
         Rule::Cap(q) => Record {
-            piece: r.piece,
-            material: r.material,
-            mass: capped(r.mass, q),
+            mass: r.mass.min(q),
+            ..r
         },
+        _ => r,
+    }
+}
+
+// The kind of rule that a number names, if it names one.
+fn kind_of(number: u8) -> Option<Kind>
+    ensures { MatchOption result (2 < number) (λ kind. number ≡ kind_number kind) }
+{
+    match number {
+        0 => Some(Kind::Keep),
+        1 => Some(Kind::Relabel),
+        2 => Some(Kind::Cap),
+        _ => None,
+    }
+}
+
+// Whether a rule's numbers are within their limits. Three numbers, as the plan spells them: a struct of them would be made at two places and be no plainer.
+pub fn rule_fits(kind: u8, p: u8, q: u16) -> bool
+    ensures { result ≡ rule_kind_fits kind p q }
+{
+    match kind_of(kind) {
+        Some(Kind::Keep) => (p == 0) & (q == 0),
+        Some(Kind::Relabel) => (p <= 15) & (q <= 15),
+        Some(Kind::Cap) => (p == 0) & (1 <= q),
+        None => false,
     }
 }
 
@@ -41,9 +49,9 @@ pub fn apply(rule: Rule, r: Record) -> Record
 fn rule_of(kind: u8, p: u8, q: u16) -> Rule
     ensures { result ≡ narrowed (rule_of_kind kind p q) }
 {
-    match kind {
-        1 => Rule::Relabel(p, (q % 256) as u8),
-        2 => Rule::Cap(q),
+    match kind_of(kind) {
+        Some(Kind::Relabel) => Rule::Relabel(p, (q % 256) as u8),
+        Some(Kind::Cap) => Rule::Cap(q),
         _ => Rule::Keep,
     }
 }

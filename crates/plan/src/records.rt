@@ -13,8 +13,5 @@ pub fn is_tick(piece: u32, material: u8, mass: u16) -> bool
 pub fn known(piece: u32, material: u8, mass: u16) -> bool
     ensures { result ≡ known_record (record { piece = piece; material = material; mass = mass }) }
 {
-    if material <= 15 {
-        return true;
-    }
-    is_tick(piece, material, mass)
+    material <= 15 || is_tick(piece, material, mass)
 }

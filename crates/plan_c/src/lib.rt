@@ -9,5 +9,5 @@ ghost use Rattle.plan.specs.Check.{plan_refusal};
 pub extern "C" fn plan_check(plan: &[u8]) -> u32
     ensures { result ≡ plan_refusal plan.now }
 {
-    plan::plan_check(plan)
+    answers::number(plan::plan_check(plan))
 }

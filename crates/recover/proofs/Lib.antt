@@ -1,14 +1,14 @@
--- What Recover's findings rest on.
-pub mod ChildLaws
-pub mod LowLaws
-pub mod TripleLaws
+-- What Recover finds.
 pub mod OrderLaws
 pub mod TargetLaws
-pub mod FoundLaws
+pub mod ChildLaws
+pub mod TripleLaws
 pub mod RestoredLaws
-pub mod ToldLaws
-pub mod RisingLaws
 pub mod RowLaws
+pub mod RisingLaws
 pub mod ListedLaws
+pub mod LowLaws
+pub mod FoundLaws
+pub mod ToldLaws
 pub mod ReplayLaws
 pub mod KeptLaws

@@ -1,10 +1,9 @@
 -- What a child's low clock holds for a node's parents, parent by parent, and all the children's, channel by channel.
-use Prim.Native.Nat.{ℕ, zero, suc, ◌+◌, ◌*◌, ◌-◌, ◌^◌, ◌≤◌, ◌<◌, max}
+use Prim.Native.Nat.{ℕ, zero, suc, ◌+◌, ◌*◌, ◌≤◌, ◌<◌, max}
 use mathlib.Core.Path.{◌≡◌, refl, sym, ap, subst, ◌∙◌}
 use mathlib.Core.Logic.{◌≢◌}
 use mathlib.Core.Bool.{Bool, true, false, cond}
 use mathlib.Core.List.{List, [], ◌∷◌, map}
-use native.Mathlib.Numerals.{add-one}
 use native.Mathlib.Omega.{arith}
 use borrow.Author.Tests.{eqb-true, ne_eqb}
 use lib.Dec.{eqb}
@@ -12,7 +11,8 @@ use lib.ListN.{length, get_or, drop, length-drop}
 use lib.Seq.{drop-cons, get_or-drop}
 use Rattle.plan.specs.declared.Channel.{Channel}
 use Rattle.plan.specs.Plan.{Plan, plan_of, plan_channels, channel_at, entering, leaving}
-use Rattle.plan.specs.Mask.{plan_mask}
+use Rattle.plan.specs.Lawful.{Each}
+use Rattle.plan.proofs.MaskLaws.{entering_below}
 use Rattle.plan.proofs.FitsLaws.{fitting}
 use Rattle.plan.proofs.PlanLaws.{channel_count_lem}
 use Rattle.rules.specs.Lists.{greatest_of}
@@ -30,7 +30,6 @@ use Rattle.state.proofs.InPlace.{line-plan}
 use Rattle.channel_fields.proofs.LaneReads.{low_five, low_word}
 use Rattle.buffer.specs.Ready.{OnChannel}
 use Rattle.buffer.proofs.ReadyLaws.{low_entering}
-use Rattle.buffer.proofs.MaskWalk.{Left, Next, left_none, left_entering}
 use Rattle.buffer.specs.Rows.{rows_long, Rows}
 use Rattle.recover.specs.Found.{NoLow, child_low, raised_at, raised_by}
 use Rattle.recover.proofs.ChildLaws.{leaving_to, numbers_turn, leaving-whole, high_snoc}
@@ -85,13 +84,12 @@ abbrev pub low_coming : List ℕ → ℕ → ℕ → List ℕ → ℕ → ℕ
 low_coming s b place cs q = entry_for q (senders (plan_of s) cs) (drop place (lane_at (line_of s) b).low)
 
 -- The parents before a place are in their rows; the channels from the others are left.
-pub record LowsTo (s : List ℕ) (n b : ℕ) (start : List ℕ) (left place : ℕ) (rows : List ℕ) : Type 0 where
-  pub channels : List ℕ
-  pub rest : Left (plan_channels s) left channels
+pub record LowsTo (s : List ℕ) (n b : ℕ) (start channels : List ℕ) (place : ℕ) (rows : List ℕ) : Type 0 where
+  pub below : Each (λ (c : ℕ). c < plan_channels s) channels
   pub apart : Apart (plan_of s) channels
-  pub placed : place + length channels ≡ suc (length (entering (plan_of s) n))
+  pub placed : place + length channels ≡ length (entering (plan_of s) n)
   pub long : length rows ≡ rows_long
-  pub each : (q : ℕ) → q < rows_long → max (get_or rows q 0) (low_coming s b place channels q) ≡ raised_by start (λ q. low_through (line_of s) n q b) q
+  pub each : (q : ℕ) → q < rows_long → max (get_or rows q 0) (low_coming s b (1 + place) channels q) ≡ raised_by start (λ q. low_through (line_of s) n q b) q
 
 apart_first : (p : Plan) {b : ℕ} {bs : List ℕ} → Apart p (b ∷ bs) → ((c : ℕ) → In c bs → (channel_at p c).sender ≢ (channel_at p b).sender) × Apart p bs
 apart_first p (beside d r) = (d, r)
@@ -103,52 +101,56 @@ module _ (s : List ℕ) (n b : ℕ) (on : OnChannel s b) (from : (channel_at (pl
   lows_long : length low ≡ suc (length (entering (plan_of s) n))
   lows_long = low_entering s b on ∙ ap (λ (k : ℕ). suc (length (entering (plan_of s) k))) from
 
-  pub lows_start : (mask : ℕ) → mask ≡ plan_mask s (entering (plan_of s) n) → mask < 2 ^ 32 → length start ≡ rows_long → LowsTo s n b start mask 1 start
+  pub lows_few : length (entering (plan_of s) n) ≤ 4
+  lows_few = omega (arith, lows_long, low_five s b on.ready on.below)
+
+  pub lows_start : length start ≡ rows_long → LowsTo s n b start (entering (plan_of s) n) 0 start
   unfolding parents
-  lows_start mask e small long =
+  lows_start long =
       record {
-        channels = entering (plan_of s) n;
-        rest = left_entering s n mask on.ready e small;
+        below = entering_below s n;
         apart = entering-apart (plan_of s) (ordered_channels (plan_of s) (fitting (plan_of s) on.ready.fits).channels) n;
         placed = omega arith;
         long = long;
         each = λ q h. rw (line-plan s) refl;
       }
 
-  module _ (left place : ℕ) (rows : List ℕ) (c : ℕ) (k : LowsTo s n b start left place rows) (x : Next (plan_channels s) left c k.channels) where
-    pub lows_there : place < length low
-    lows_there = omega (arith, k.placed, ap length x.first, lows_long)
+  module _ (channels rest : List ℕ) (place : ℕ) (rows : List ℕ) (c : ℕ) (k : LowsTo s n b start channels place rows) (first : channels ≡ c ∷ rest) where
+    pub lows_on_channel : OnChannel s c
+    lows_on_channel = record { ready = on.ready; below = (rw first at k.below).0 }
 
-    pub lows_few : place ≤ 4
-    lows_few = omega (arith, lows_there, low_five s b on.ready on.below)
+    pub lows_there : 1 + place < length low
+    lows_there = omega (arith, k.placed, ap length first, lows_long)
 
-    pub lows_turn : (parent time : ℕ) (next : List ℕ) → parent ≡ (channel_at (plan_of s) c).sender → time ≡ get_or low place 0 → Rows next (raised_at rows parent time) → LowsTo s n b start (left - 2 ^ c) (place + 1) next
+    pub lows_turn : (parent time : ℕ) (next : List ℕ) → parent ≡ (channel_at (plan_of s) c).sender → time ≡ get_or low (1 + place) 0 → Rows next (raised_at rows parent time) → LowsTo s n b start rest (place + 1) next
     lows_turn parent time next is entry r =
-        let (away, others) = apart_first (plan_of s) (subst (Apart (plan_of s)) x.first k.apart) in
+        let (away, others) = apart_first (plan_of s) (subst (Apart (plan_of s)) first k.apart) in
         record {
-          channels = x.rest;
-          rest = x.after;
+          below = (rw first at k.below).1;
           apart = others;
-          placed = omega (arith, k.placed, ap length x.first);
+          placed = omega (arith, k.placed, ap length first);
           long = r.long;
           each = λ q h. one q h away (eqb (channel_at (plan_of s) c).sender q) refl;
         }
       where
-        one : (q : ℕ) → q < rows_long → ((d : ℕ) → In d x.rest → (channel_at (plan_of s) d).sender ≢ (channel_at (plan_of s) c).sender) → (t : Bool) → eqb (channel_at (plan_of s) c).sender q ≡ t
-            → max (get_or next q 0) (low_coming s b (place + 1) x.rest q) ≡ raised_by start (λ q. low_through (line_of s) n q b) q
-        one q h away true e =
-            let was = rw x.first at (k.each q h) in
-            let raised = rw (is, entry, e) at (r.each q h) in
-            let turn = rw e at (entry_turn (plan_of s) q c x.rest low place lows_there) in
-            omega (arith, was, raised, turn, entry-none (plan_of s) q x.rest (drop (place + 1) low) (λ d i z. away d i (z ∙ sym (eqb-true (channel_at (plan_of s) c).sender q e))))
-        one q h away false e =
-            let was = rw x.first at (k.each q h) in
-            let raised = rw (is, entry, e) at (r.each q h) in
-            let turn = rw e at (entry_turn (plan_of s) q c x.rest low place lows_there) in
-            rw (add-one place) (omega (arith, was, raised, turn))
+        further : 1 + (place + 1) ≡ suc (1 + place)
+        further = omega arith
 
-  pub lows_end : (place : ℕ) (rows : List ℕ) → LowsTo s n b start 0 place rows → Rows rows (raised_by start (λ q. low_through (line_of s) n q b))
-  lows_end place rows k = record { long = k.long; each = λ q h. (let all = rw (left_none (plan_channels s) k.channels k.rest) at (k.each q h) in omega (arith, all)) }
+        one : (q : ℕ) → q < rows_long → ((d : ℕ) → In d rest → (channel_at (plan_of s) d).sender ≢ (channel_at (plan_of s) c).sender) → (t : Bool) → eqb (channel_at (plan_of s) c).sender q ≡ t
+            → max (get_or next q 0) (low_coming s b (1 + (place + 1)) rest q) ≡ raised_by start (λ q. low_through (line_of s) n q b) q
+        one q h away true e =
+            let was = rw first at (k.each q h) in
+            let raised = rw (is, entry, e) at (r.each q h) in
+            let turn = rw e at (entry_turn (plan_of s) q c rest low (1 + place) lows_there) in
+            omega (arith, was, raised, turn, entry-none (plan_of s) q rest (drop (1 + (place + 1)) low) (λ d i z. away d i (z ∙ sym (eqb-true (channel_at (plan_of s) c).sender q e))))
+        one q h away false e =
+            let was = rw first at (k.each q h) in
+            let raised = rw (is, entry, e) at (r.each q h) in
+            let turn = rw e at (entry_turn (plan_of s) q c rest low (1 + place) lows_there) in
+            rw further (omega (arith, was, raised, turn))
+
+  pub lows_end : (channels : List ℕ) (place : ℕ) (rows : List ℕ) → LowsTo s n b start channels place rows → channels ≡ [] → Rows rows (raised_by start (λ q. low_through (line_of s) n q b))
+  lows_end channels place rows k none = record { long = k.long; each = λ q h. (let all = rw none at (k.each q h) in omega (arith, all)) }
 
 -- ---- channel by channel
 

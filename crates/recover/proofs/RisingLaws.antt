@@ -7,7 +7,7 @@ use native.Mathlib.Numerals.{add-one}
 use native.Mathlib.Omega.{arith}
 use borrow.Author.Tests.{ltb-true, ne_eqb}
 use lib.Dec.{ltb, eqb}
-use lib.ListN.{get_or, take}
+use lib.ListN.{length, get_or, take}
 use lib.Seq.{take-suc, take_all}
 use Rattle.basics.specs.Bools.{both_true, neither_true}
 use Rattle.rules.specs.Lists.{keep, keep_one, any_of, greatest_of}
@@ -16,9 +16,10 @@ use Rattle.rules.specs.Recover.{clash, conflict, row_goal}
 use Rattle.rules.proofs.Lists.ListLaws.{keep_append, map-append, map_more}
 use Rattle.items.proofs.Tests.{any_append}
 use Rattle.buffer.specs.Rows.{rows_long, Rows}
-use Rattle.recover.specs.Found.{target_at, targets_in, raised_at, is_above}
+use Rattle.slots.specs.declared.Goal.{Goal}
+use Rattle.slots.specs.Slots.{target_is}
+use Rattle.recover.specs.Found.{targets_in, raised_at, is_above}
 use Rattle.recover.proofs.ChildLaws.{greatest-append, high_snoc}
-use Rattle.recover.proofs.TargetLaws.{targets_length, targets_at_lem}
 
 abbrev sent_of : Target → ℕ
 sent_of t = t.parent_time
@@ -82,22 +83,20 @@ rising_more ts t rows time ok r next e raised k =
     later : (ok && ltb time t.time && r) ≡ true → time < t.time
     later w = ltb-true time t.time (tests w).1
 
-pub record RisingTo (xs : List ℕ) (count : ℕ) (rows : List ℕ) (time : ℕ) (ok : Bool) (i : ℕ) : Type 0 where
-  pub within : i ≤ count
-  pub rises : Rising (take i (targets_in xs count)) rows time ok
+pub record RisingTo (gs : List Goal) (rows : List ℕ) (time : ℕ) (ok : Bool) (i : ℕ) : Type 0 where
+  pub rises : Rising (targets_in (take i gs)) rows time ok
 
-pub rising_start : (xs : List ℕ) (count : ℕ) (rows : List ℕ) → Rows rows (λ q. 0) → RisingTo xs count rows 0 true 0
-rising_start xs count rows none = record { within = omega arith; rises = record { goals = none; early = λ w. omega arith; clear = λ w. refl } }
+pub rising_start : (gs : List Goal) (rows : List ℕ) → Rows rows (λ q. 0) → RisingTo gs rows 0 true 0
+rising_start gs rows none = record { rises = record { goals = none; early = λ w. omega arith; clear = λ w. refl } }
 
-pub rising_turn : (xs : List ℕ) (count : ℕ) (rows : List ℕ) (time : ℕ) (ok : Bool) (i : ℕ) (g : Target) (r : Bool) (next : List ℕ) → i < count → g ≡ target_at xs i → r ≡ is_above rows g.parent g.parent_time
-    → Rows next (raised_at rows g.parent g.parent_time) → RisingTo xs count rows time ok i → RisingTo xs count next g.time (ok && ltb time g.time && r) (i + 1)
-rising_turn xs count rows time ok i g r next h e f raised k =
-    let ts : List Target = targets_in xs count in
-    let more : take i ts ++ g ∷ [] ≡ take (i + 1) ts = rw (add-one i, take-suc ts i g (rw targets_length h), targets_at_lem xs count i g h) (ap (λ (t : Target). take i ts ++ t ∷ []) e) in
-    record { within = omega arith; rises = subst (λ (us : List Target). Rising us next g.time (ok && ltb time g.time && r)) more (rising_more (take i ts) g rows time ok r next f raised k.rises) }
+pub rising_turn : (gs : List Goal) (rows : List ℕ) (time : ℕ) (ok : Bool) (i : ℕ) (d : Goal) (r : Bool) (next : List ℕ) → i < length gs → (let g = get_or gs i d in r ≡ is_above rows g.parent g.sent)
+    → (let g = get_or gs i d in Rows next (raised_at rows g.parent g.sent)) → RisingTo gs rows time ok i → (let g = get_or gs i d in RisingTo gs next g.time (ok && ltb time g.time && r) (i + 1))
+rising_turn gs rows time ok i d r next h f raised k =
+    let g : Goal = get_or gs i d in
+    let more : targets_in (take i gs) ++ target_is g ∷ [] ≡ targets_in (take (i + 1) gs) = rw (add-one i, take-suc gs i d h) (sym (map-append target_is (take i gs) (g ∷ []))) in
+    record { rises = subst (λ (us : List Target). Rising us next g.time (ok && ltb time g.time && r)) more (rising_more (targets_in (take i gs)) (target_is g) rows time ok r next f raised k.rises) }
 
-pub rising_end : (xs : List ℕ) (count : ℕ) (rows : List ℕ) (time : ℕ) (ok : Bool) (i : ℕ) → count ≤ i → RisingTo xs count rows time ok i
-    → (ok ≡ true → conflict (targets_in xs count) ≡ false) × Rows rows (row_goal (targets_in xs count))
-rising_end xs count rows time ok i h k =
-    let all = subst (λ (us : List Target). Rising us rows time ok) (take_all i (targets_in xs count) (rw targets_length h)) k.rises in
+pub rising_end : (gs : List Goal) (rows : List ℕ) (time : ℕ) (ok : Bool) (i : ℕ) → length gs ≤ i → RisingTo gs rows time ok i → (ok ≡ true → conflict (targets_in gs) ≡ false) × Rows rows (row_goal (targets_in gs))
+rising_end gs rows time ok i h k =
+    let all = subst (λ (us : List Goal). Rising (targets_in us) rows time ok) (take_all i gs h) k.rises in
     (all.clear, all.goals)

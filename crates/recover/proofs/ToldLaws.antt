@@ -1,97 +1,128 @@
 -- What the children tell of a node, entry by entry and channel by channel.
-use Prim.Native.Nat.{ℕ, ◌+◌, ◌≤◌, ◌<◌, max}
+use Prim.Native.Nat.{ℕ, zero, suc, ◌+◌, ◌-◌, ◌≤◌, ◌<◌, max}
 use mathlib.Core.Path.{◌≡◌, refl, sym, ap, ap₂, subst, ◌∙◌}
 use mathlib.Core.Logic.{◌≢◌}
-use mathlib.Core.Bool.{Bool, cond}
 use mathlib.Core.List.{List, [], ◌∷◌, ◌++◌}
 use native.Mathlib.Omega.{arith}
 use borrow.Author.Tests.{eq-eqb, ne_eqb}
-use lib.ListN.{length, get_or, take}
+use lib.ListN.{length, get_or, take, drop}
+use Rattle.std.specs.Prelude.{Result, Ok, Err}
+use Rattle.answers.specs.declared.Refusal.{Refusal}
 use Rattle.plan.specs.Plan.{plan_of, plan_channels, channel_at}
 use Rattle.rules.specs.Line.{Entry, Target}
 use Rattle.rules.specs.Lists.{greatest_of}
-use Rattle.rules.specs.Recover.{low_of, low_through, triples, restored, add_target, targets_of}
+use Rattle.rules.proofs.Lists.ListLaws.{nil_right}
+use Rattle.rules.specs.Recover.{low_of, low_through, triples, add_target, targets_of}
 use Rattle.state.specs.State.{line_of}
-use Rattle.recover.specs.declared.Triple.{Triple}
 use Rattle.buffer.specs.Nothing.{no_entry}
 use Rattle.buffer.specs.Rows.{rows_long, Rows}
-use Rattle.recover.specs.Found.{triple_of, triple_list, child_log, triples_on, restored_over, target, slots_long, Kept, Changed, add_above, Found, raised_at, raised_by, Told, ToldOn}
-use Rattle.recover.proofs.TripleLaws.{triples_turn, triples-whole, triples_to, child_turn, child_whole, restored-append, restored_is}
+use Rattle.recover.specs.declared.told.Found.{Found}
+use Rattle.recover.specs.Finds.{Finds, Heard, Told, HeardOn, ToldOn}
+use Rattle.recover.specs.Found.{triple_of, child_log, triples_on, restored_over, add_above, TooMany, Gathered, raised_at, raised_by, Gained}
+use Rattle.recover.proofs.TripleLaws.{triples_turn, triples-whole, triples_parts, triples_to, child_turn, child_whole, restored-append, restored_is}
 use Rattle.recover.proofs.LowLaws.{lows_before, low_more, low_whole}
-use Rattle.recover.proofs.FoundLaws.{no_change, changed_as, above_one, above_none, changed_more, found_whole}
+use Rattle.recover.proofs.FoundLaws.{above_one, above_none, above_append, many_more, found_whole}
 use Rattle.recover.proofs.RestoredLaws.{raised_one, raised_none, raised_nothing, raised_more}
 
-pub told_nothing : (low : ℕ) (xs : List ℕ) (count : ℕ) (rows : List ℕ) → Kept xs count → length rows ≡ rows_long → Told low [] xs count rows xs count rows
-told_nothing low xs count rows k long = record { changed = no_change xs count k; raised = raised_nothing low rows long }
+pub gained_nothing : (low : ℕ) (ts : List Target) (rows : List ℕ) → length rows ≡ rows_long → Gained low [] ts rows ts rows
+gained_nothing low ts rows long = record { targets = refl; raised = raised_nothing low rows long }
 
-pub told_over : (low : ℕ) {us vs : List Target} {xs : List ℕ} {count : ℕ} {rows ys : List ℕ} {r : ℕ} {next : List ℕ} → us ≡ vs → Told low us xs count rows ys r next → Told low vs xs count rows ys r next
-told_over low {xs = xs} {count} {rows} {ys} {r} {next} e t = subst (λ (ts : List Target). Told low ts xs count rows ys r next) e t
+gained_more : (low : ℕ) (us vs : List Target) {ts : List Target} {rows : List ℕ} {mid : List Target} {then : List ℕ} {after : List Target} {next : List ℕ} → Gained low us ts rows mid then → Gained low vs mid then after next
+    → Gained low (us ++ vs) ts rows after next
+gained_more low us vs {ts} {rows} a b =
+    record { targets = b.targets ∙ ap (add_above low vs) a.targets ∙ above_append low us vs ts; raised = raised_more low us vs rows a.raised b.raised }
 
-told_more : (low : ℕ) (us vs : List Target) {xs : List ℕ} {count : ℕ} {rows ys : List ℕ} {d : ℕ} {mid zs : List ℕ} {r : ℕ} {next : List ℕ} → Told low us xs count rows ys d mid → Told low vs ys d mid zs r next
-    → Told low (us ++ vs) xs count rows zs r next
-told_more low us vs {rows = rows} a b = record { changed = changed_more low us vs a.changed b.changed; raised = raised_more low us vs rows a.raised b.raised }
+-- ---- by an entry
+
+module _ (t : Target) (before : Found) (long : length before.entries ≡ rows_long) where
+  pub told_raised : (next : List ℕ) → t.time ≤ before.low → Rows next (raised_at before.entries t.parent t.parent_time) → Heard (t ∷ []) before (record before { entries = next })
+  told_raised next h r = record { low = refl; gained = record { targets = above_none before.low t h before.targets; raised = raised_one before.entries long before.low t next h r } }
+
+  pub told_added : {A : Type 0} (r : Result A Refusal) (after : List Target) → before.low < t.time → Gathered (add_target t before.targets) r after → Told (t ∷ []) before r (record before { targets = after })
+  told_added (Ok a) after h g = record { low = refl; gained = record { targets = g ∙ above_one before.low t h before.targets; raised = raised_none before.entries long before.low t h } }
+  told_added (Err e) after h g = (g.0, omega (arith, g.1, ap length (above_one before.low t h before.targets)))
 
 -- ---- entry by entry
 
--- What an entry says: a triple up to low, one above low, or nothing.
-pub triple_is : (f : Triple) (is : Bool) → f.is ≡ is → cond is (target f.time f.parent f.sent ∷ []) [] ≡ triple_list f
-triple_is f is e = ap (λ (b : Bool). cond b (target f.time f.parent f.sent ∷ []) []) (sym e)
+module _ (n : ℕ) (log : List Entry) (before : Found) where
+  abbrev low : ℕ
+  low = before.low
 
-module _ (low : ℕ) (t : Target) (xs : List ℕ) (count : ℕ) (rows : List ℕ) (long : length rows ≡ rows_long) where
-  pub told_raised : (next : List ℕ) → t.time ≤ low → Kept xs count → Rows next (raised_at rows t.parent t.parent_time) → Told low (t ∷ []) xs count rows xs count next
-  told_raised next h k r = record { changed = changed_as (λ ts. ts) (add_above low (t ∷ [])) (above_none low t h) (no_change xs count k); raised = raised_one rows long low t next h r }
+  abbrev pub LogTold : ℕ → Found → Type 0
+  LogTold i after = Heard (triples n (take i log)) before after
 
-  pub told_added : (ys : List ℕ) (r : ℕ) → low < t.time → Changed (add_target t) xs count ys r → Told low (t ∷ []) xs count rows ys r rows
-  told_added ys r h a = record { changed = changed_as (add_target t) (add_above low (t ∷ [])) (above_one low t h) a; raised = raised_none rows long low t h }
+  module _ (i : ℕ) (after : Found) (inside : i < length log) (k : LogTold i after) where
+    pub log_turn : (t : Target) {later : Found} → t ∷ [] ≡ triple_of n (get_or log i no_entry) → Heard (t ∷ []) after later → LogTold (i + 1) later
+    log_turn t {later} e h =
+        let more : triples n (take i log) ++ t ∷ [] ≡ triples n (take (i + 1) log) = ap (λ (us : List Target). triples n (take i log) ++ us) e ∙ sym (triples_turn n log i inside) in
+        let here = subst (λ (low : ℕ). Gained low (t ∷ []) after.targets after.entries later.targets later.entries) k.low h.gained in
+        record { low = h.low ∙ k.low; gained = subst (λ (us : List Target). Gained low us before.targets before.entries later.targets later.entries) more (gained_more low (triples n (take i log)) (t ∷ []) k.gained here) }
 
-module _ (n low : ℕ) (log : List Entry) (xs : List ℕ) (start : ℕ) (rows : List ℕ) where
-  pub record LogTold (i : ℕ) (ys : List ℕ) (count : ℕ) (now : List ℕ) : Type 0 where
-    pub within : i ≤ length log
-    pub told : Told low (triples n (take i log)) xs start rows ys count now
+    pub log_other : [] ≡ triple_of n (get_or log i no_entry) → LogTold (i + 1) after
+    log_other e = subst (λ (us : List Target). Heard us before after) (sym (triples_turn n log i inside ∙ ap (λ (us : List Target). triples n (take i log) ++ us) (sym e) ∙ nil_right (triples n (take i log)))) k
 
-  pub log_turn : (i : ℕ) (ys : List ℕ) (count : ℕ) (now : List ℕ) (f : Triple) (zs : List ℕ) (r : ℕ) (next : List ℕ) → i < length log → triple_list f ≡ triple_of n (get_or log i no_entry)
-      → Told low (triple_list f) ys count now zs r next → LogTold i ys count now → LogTold (i + 1) zs r next
-  log_turn i ys count now f zs r next h e t k =
-      let before : List Target = triples n (take i log) in
-      let more : before ++ triple_list f ≡ triples n (take (i + 1) log) = ap (λ (ts : List Target). before ++ ts) e ∙ sym (triples_turn n log i h) in
-      record { within = omega arith; told = told_over low more (told_more low before (triple_list f) k.told t) }
+    pub log_full : (t : Target) (r : Refusal) → t ∷ [] ≡ triple_of n (get_or log i no_entry) → TooMany (add_above after.low (t ∷ []) after.targets) r → TooMany (add_above low (triples n log) before.targets) r
+    log_full t r e many =
+        let more : triples n (take i log) ++ t ∷ [] ≡ triples n (take (i + 1) log) = ap (λ (us : List Target). triples n (take i log) ++ us) e ∙ sym (triples_turn n log i inside) in
+        let by : add_above after.low (t ∷ []) after.targets ≡ add_above low (triples n (take (i + 1) log)) before.targets =
+        (λ j. add_above (k.low j) (t ∷ []) (k.gained.targets j)) ∙ above_append low (triples n (take i log)) (t ∷ []) before.targets ∙ ap (λ (us : List Target). add_above low us before.targets) more in
+        subst (λ (us : List Target). TooMany (add_above low us before.targets) r) (triples_parts n log (i + 1))
+        (many_more low (triples n (take (i + 1) log)) (triples n (drop (i + 1) log)) before.targets r (subst (λ (us : List Target). TooMany us r) by many))
 
-  pub log_end : (i : ℕ) (ys : List ℕ) (count : ℕ) (now : List ℕ) → length log ≤ i → LogTold i ys count now → Told low (triples n log) xs start rows ys count now
-  log_end i ys count now h k = told_over low (triples-whole n log i h) k.told
+  pub log_start : length before.entries ≡ rows_long → LogTold 0 before
+  log_start long = record { low = refl; gained = gained_nothing low before.targets before.entries long }
+
+  pub log_end : (i : ℕ) (after : Found) → length log ≤ i → LogTold i after → Heard (triples n log) before after
+  log_end i after h k = subst (λ (us : List Target). Heard us before after) (triples-whole n log i h) k
 
 -- ---- channel by channel
 
-module _ (s : List ℕ) (n b low : ℕ) (xs : List ℕ) (count : ℕ) (rows : List ℕ) where
-  pub told_other : (channel_at (plan_of s) b).sender ≢ n → Kept xs count → length rows ≡ rows_long → ToldOn s n b low xs count rows xs count rows
-  told_other h k long =
+module _ (s : List ℕ) (n b : ℕ) (before : Found) where
+  pub told_other : (channel_at (plan_of s) b).sender ≢ n → length before.entries ≡ rows_long → HeardOn s n b before before
+  told_other h long =
       let other = ne_eqb (channel_at (plan_of s) b).sender n h in
-      record { changed = rw other (no_change xs count k); raised = rw other (record { long = long; each = λ q l. omega arith }) }
+      record { low = refl; gained = record { targets = rw other; raised = rw other (record { long = long; each = λ q l. omega arith }) } }
 
-  pub told_child : (mid ys : List ℕ) (r : ℕ) (next : List ℕ) → (channel_at (plan_of s) b).sender ≡ n → Rows mid (raised_by rows (λ q. low_through (line_of s) n q b)) → Told low (triples n (child_log s b)) xs count mid ys r next
-      → ToldOn s n b low xs count rows ys r next
-  told_child mid ys r next e lows t =
+  pub told_child : {A : Type 0} (r : Result A Refusal) (mid : List ℕ) (after : Found) → (channel_at (plan_of s) b).sender ≡ n → Rows mid (raised_by before.entries (λ q. low_through (line_of s) n q b))
+      → Told (triples n (child_log s b)) (record before { entries = mid }) r after → ToldOn s n b before r after
+  told_child (Ok a) mid after e lows t =
       let same = eq-eqb (channel_at (plan_of s) b).sender n e in
-      record { changed = rw same t.changed; raised = rw same (record { long = t.raised.long; each = λ q h. omega (arith, t.raised.each q h, lows.each q h) }) }
+      record { low = t.low; gained = record { targets = rw same t.gained.targets; raised = rw same (record { long = t.gained.raised.long; each = λ q h. omega (arith, t.gained.raised.each q h, lows.each q h) }) } }
+  told_child (Err d) mid after e lows t = rw (eq-eqb (channel_at (plan_of s) b).sender n e) t
 
-module _ (s : List ℕ) (n low : ℕ) (xs : List ℕ) where
-  pub record ChannelsTold (b : ℕ) (ys : List ℕ) (count : ℕ) (rows : List ℕ) : Type 0 where
-    pub within : b ≤ plan_channels s
-    pub changed : Changed (add_above low (triples_to s n b)) xs 0 ys count
-    pub raised : Rows rows (λ q. max (greatest_of (lows_before s n b q)) (restored_over low q (triples_to s n b)))
+module _ (s : List ℕ) (n : ℕ) where
+  pub record ChannelsTold (b : ℕ) (found : Found) : Type 0 where
+    pub low : found.low ≡ low_of (line_of s) n
+    pub targets : found.targets ≡ add_above found.low (triples_to s n b) []
+    pub raised : Rows found.entries (λ q. max (greatest_of (lows_before s n b q)) (restored_over found.low q (triples_to s n b)))
 
-  pub channels_start : (rows : List ℕ) → length xs ≡ slots_long → Rows rows (λ q. 0) → ChannelsTold 0 xs 0 rows
-  channels_start rows e none = record { within = omega arith; changed = no_change xs 0 (record { long = e; few = omega arith; ordered = λ h. refl }); raised = none }
+  module _ (b : ℕ) (found : Found) (inside : b < plan_channels s) (k : ChannelsTold b found) where
+    by : add_above found.low (triples_on s n b) found.targets ≡ add_above found.low (triples_to s n (b + 1)) []
+    by = ap (add_above found.low (triples_on s n b)) k.targets ∙ above_append found.low (triples_to s n b) (triples_on s n b) [] ∙ ap (λ (us : List Target). add_above found.low us []) (sym (child_turn s n b inside))
 
-  pub channels_turn : (b : ℕ) (ys : List ℕ) (count : ℕ) (rows zs : List ℕ) (r : ℕ) (next : List ℕ) → b < plan_channels s → ToldOn s n b low ys count rows zs r next → ChannelsTold b ys count rows → ChannelsTold (b + 1) zs r next
-  channels_turn b ys count rows zs r next h t k =
-      let more = child_turn s n b h in
-      record {
-        within = omega arith;
-        changed = rw more (changed_more low (triples_to s n b) (triples_on s n b) k.changed t.changed);
-        raised = record { long = t.raised.long; each = λ q l. rw (more, low_more s n b q h) (omega (arith, t.raised.each q l, k.raised.each q l, restored-append low q (triples_to s n b) (triples_on s n b))) };
-      }
+    pub channels_turn : (after : Found) → HeardOn s n b found after → ChannelsTold (b + 1) after
+    channels_turn after t =
+        let more = child_turn s n b inside in
+        record {
+          low = t.low ∙ k.low;
+          targets = t.gained.targets ∙ by ∙ ap (λ (low : ℕ). add_above low (triples_to s n (b + 1)) []) (sym t.low);
+          raised = record { long = t.gained.raised.long; each = λ q l. rw (t.low, more, low_more s n b q inside) (omega (arith, t.gained.raised.each q l, k.raised.each q l, restored-append found.low q (triples_to s n b) (triples_on s n b))) };
+        }
 
-  pub channels_end : (b : ℕ) (ys : List ℕ) (count : ℕ) (rows : List ℕ) → plan_channels s ≤ b → low ≡ low_of (line_of s) n → ChannelsTold b ys count rows → Found ys count (targets_of (line_of s) n) × Rows rows (restored (line_of s) n)
-  channels_end b ys count rows h e k =
+    -- Too many by one of them, too many by all.
+    pub channels_full : (e : Refusal) → TooMany (add_above found.low (triples_on s n b) found.targets) e → TooMany (targets_of (line_of s) n) e
+    channels_full e many = onward (plan_channels s - (b + 1)) (b + 1) (omega arith) (subst (λ (us : List Target). TooMany us e) by many)
+      where
+        onward : (d c : ℕ) → c + d ≡ plan_channels s → TooMany (add_above found.low (triples_to s n c) []) e → TooMany (targets_of (line_of s) n) e
+        onward zero c q h = subst (λ (us : List Target). TooMany us e) (ap (λ (us : List Target). add_above found.low us []) (child_whole s n c (omega arith)) ∙ found_whole (line_of s) n found.low k.low) h
+        onward (suc d) c q h =
+            onward d (c + 1) (omega arith) (subst (λ (us : List Target). TooMany (add_above found.low us []) e) (sym (child_turn s n c (omega arith))) (many_more found.low (triples_to s n c) (triples_on s n c) [] e h))
+
+  pub channels_end : (b : ℕ) (found : Found) → plan_channels s ≤ b → ChannelsTold b found → Finds s n found
+  channels_end b found h k =
       let whole = child_whole s n b h in
-      (found_whole (line_of s) n low e (rw whole at k.changed), record { long = k.raised.long; each = λ q l. k.raised.each q l ∙ ap₂ max (ap greatest_of (low_whole s n b q h)) (ap (restored_over low q) whole) ∙ restored_is (line_of s) n q low e })
+      record {
+        low = k.low;
+        targets = k.targets ∙ ap (λ (us : List Target). add_above found.low us []) whole ∙ found_whole (line_of s) n found.low k.low;
+        rows = record { long = k.raised.long; each = λ q l. k.raised.each q l ∙ ap₂ max (ap greatest_of (low_whole s n b q h)) (ap (restored_over found.low q) whole) ∙ restored_is (line_of s) n q found.low k.low };
+      }

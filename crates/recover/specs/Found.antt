@@ -1,5 +1,7 @@
 -- What Recover finds, as the code goes over the state's bytes.
-use Rattle.std.specs.Prelude.{ℕ, zero, suc, ◌+◌, ◌*◌, ◌≤◌, ◌<◌, min, max, ◌≡◌, Bool, true, not, cond, ◌&&◌, ◌||◌, List, [], ◌∷◌, ◌++◌, map, leb, ltb, eqb, length, get_or, set, take, drop}
+use Rattle.std.specs.Prelude.{ℕ, ◌+◌, ◌≤◌, ◌<◌, max, ◌≡◌, Bool, true, not, cond, ◌&&◌, ◌||◌, List, [], ◌∷◌, ◌++◌, map, leb, ltb, eqb, length, get_or, take, drop, Option, Some, None, Result, MatchResult}
+use Rattle.answers.specs.declared.Refusal.{Refusal}
+use Rattle.answers.specs.declared.Refusal.TheVariants.{NoSpace}
 use Rattle.plan.specs.Plan.{plan_of, plan_nodes, channel_at, entering}
 use Rattle.rules.specs.Lists.{is_empty, keep, all_of, greatest_of}
 use Rattle.rules.specs.Line.{log_limit, Entry, Target, Asked, Line, node_at, lane_at, sender_of, target_limit}
@@ -10,15 +12,12 @@ use Rattle.state.specs.Right.{word_at}
 use Rattle.state.specs.State.{line_of}
 use Rattle.buffer.specs.Nothing.{no_entry}
 use Rattle.buffer.specs.Rows.{rows_long, Rows}
-use Rattle.recover.specs.declared.Triple.{Triple}
+use Rattle.slots.specs.declared.Goal.{Goal}
+use Rattle.slots.specs.Slots.{target_is}
 
 -- Every node's log is within its limit.
 abbrev pub LogsCounted : List ℕ → Type 0
 LogsCounted s = (k : ℕ) → k < plan_nodes s → word_at (page_at k + log_at) s ≤ log_limit
-
--- The least of some numbers and one more: the first counts alone.
-abbrev pub low_with : Bool → Bool → ℕ → ℕ → ℕ
-low_with counts seen low t = cond counts (cond seen (min low t) t) low
 
 -- ---- triples
 
@@ -29,9 +28,10 @@ entry_at l k i = get_or (node_at l k).log i no_entry
 abbrev pub triple_of : ℕ → Entry → List Target
 triple_of n e = triple n e.origin e.before
 
--- The code's triple, as a list.
-abbrev pub triple_list : Triple → List Target
-triple_list f = cond f.is (record { time = f.time; parent = f.parent; parent_time = f.sent } ∷ []) []
+-- What the code reads of it, as a list.
+abbrev pub goal_list : Option Goal → List Target
+goal_list None = []
+goal_list (Some g) = target_is g ∷ []
 
 -- The log at channel b's end, and what the channel adds to node n's triples.
 abbrev pub child_log : List ℕ → ℕ → List Entry
@@ -54,28 +54,11 @@ NoLow s b = (i : ℕ) → 0 < i → i < length (lane_at (line_of s) b).low → g
 abbrev pub child_low : List ℕ → ℕ → ℕ → ℕ → ℕ
 child_low s n b parent = cond (eqb (channel_at (plan_of s) b).sender n) (low_through (line_of s) n parent b) 0
 
--- ---- targets in a lent slice, three numbers each
+-- ---- targets
 
-abbrev pub target : ℕ → ℕ → ℕ → Target
-target t p u = record { time = t; parent = p; parent_time = u }
-
--- The slice's length, and the count that says that there are more targets than a node may have.
-abbrev pub slots_long : ℕ
-slots_long = 3 * target_limit
-
-abbrev pub too_many : ℕ
-too_many = suc target_limit
-
-abbrev pub target_at : List ℕ → ℕ → Target
-target_at xs i = target (get_or xs (3 * i) 0) (get_or xs (3 * i + 1) 0) (get_or xs (3 * i + 2) 0)
-
-abbrev pub put_target : List ℕ → ℕ → Target → List ℕ
-put_target xs i t = set (set (set xs (3 * i) t.time) (3 * i + 1) t.parent) (3 * i + 2) t.parent_time
-
--- So many of them.
-abbrev pub targets_in : List ℕ → ℕ → List Target
-targets_in xs zero = []
-targets_in xs (suc k) = target (get_or xs 0 0) (get_or xs 1 0) (get_or xs 2 0) ∷ targets_in (drop 3 xs) k
+-- Those that stand in a slice.
+abbrev pub targets_in : List Goal → List Target
+targets_in = map target_is
 
 -- Targets in their order: each is before all behind it.
 abbrev pub in_order : List Target → Bool
@@ -88,36 +71,17 @@ pub record PlaceOf (t : Target) (ts : List Target) (r : ℕ) : Type 0 where
   pub behind : add_target t ts ≡ take r ts ++ add_target t (drop r ts)
   pub stops : r < length ts → (target_before t (get_or ts r t) || same_target t (get_or ts r t)) ≡ true
 
--- A target put in at a place.
-pub record Inserted (xs : List ℕ) (count place : ℕ) (t : Target) (ys : List ℕ) : Type 0 where
-  pub long : length ys ≡ slots_long
-  pub now : targets_in ys (suc count) ≡ take place (targets_in xs count) ++ t ∷ drop place (targets_in xs count)
-
--- The slice holds these targets, or the count says that they are too many.
-pub record Holds (xs : List ℕ) (count : ℕ) (ts : List Target) : Type 0 where
-  pub counted : count ≡ min (length ts) too_many
-  pub held : count < too_many → targets_in xs count ≡ ts
-
--- A slice with so many targets, in their order if they are not too many.
-pub record Kept (xs : List ℕ) (count : ℕ) : Type 0 where
-  pub long : length xs ≡ slots_long
-  pub few : count ≤ too_many
-  pub ordered : count < too_many → in_order (targets_in xs count) ≡ true
-
--- What is left of a slice when a change of the targets is made: of any targets that it held, it holds the changed ones.
-pub record Changed (f : List Target → List Target) (xs : List ℕ) (count : ℕ) (ys : List ℕ) (r : ℕ) : Type 0 where
-  pub kept : Kept ys r
-  pub holds : (ts : List Target) → Holds xs count ts → Holds ys r (f ts)
-
 -- Some triples above low, added to those there are.
 abbrev pub add_above : ℕ → List Target → List Target → List Target
 add_above low ts sorted = sort_targets sorted (keep (λ (t : Target). ltb low t.time) ts)
 
--- Targets found: the slice holds them, or there are too many.
-pub record Found (xs : List ℕ) (r : ℕ) (ts : List Target) : Type 0 where
-  pub long : length xs ≡ slots_long
-  pub few : r ≤ too_many
-  pub holds : Holds xs r ts
+-- Too many for a node.
+abbrev pub TooMany : List Target → Refusal → Type 0
+TooMany ts e = (e ≡ NoSpace) × (target_limit < length ts)
+
+-- These are what is left, or they are too many.
+abbrev pub Gathered : {A : Type 0} → List Target → Result A Refusal → List Target → Type 0
+Gathered ts r us = MatchResult r (λ _. us ≡ ts) (TooMany ts)
 
 -- ---- a number for each parent
 
@@ -134,14 +98,14 @@ is_above rows parent time = ltb parent rows_long && ltb (get_or rows parent 0) t
 
 -- ---- what some triples tell
 
--- Those above low, added to the targets, and those up to low, in their parents' rows.
-pub record Told (low : ℕ) (ts : List Target) (xs : List ℕ) (count : ℕ) (rows ys : List ℕ) (r : ℕ) (next : List ℕ) : Type 0 where
-  pub changed : Changed (add_above low ts) xs count ys r
+-- Those above low are added to the targets, and those up to low are in their parents' rows.
+pub record Gained (low : ℕ) (ts before : List Target) (rows : List ℕ) (after : List Target) (next : List ℕ) : Type 0 where
+  pub targets : after ≡ add_above low ts before
   pub raised : Rows next (raised_by rows (λ q. restored_over low q ts))
 
 -- What channel b tells of node n: its triples, and in the parents' rows what its low clock holds, too.
-pub record ToldOn (s : List ℕ) (n b low : ℕ) (xs : List ℕ) (count : ℕ) (rows ys : List ℕ) (r : ℕ) (next : List ℕ) : Type 0 where
-  pub changed : Changed (add_above low (triples_on s n b)) xs count ys r
+pub record GainedOn (s : List ℕ) (n b low : ℕ) (before : List Target) (rows : List ℕ) (after : List Target) (next : List ℕ) : Type 0 where
+  pub targets : after ≡ add_above low (triples_on s n b) before
   pub raised : Rows next (raised_by rows (λ q. max (child_low s n b q) (restored_over low q (triples_on s n b))))
 
 -- ---- rows

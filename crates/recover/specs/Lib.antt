@@ -1,2 +1,3 @@
 -- What Recover finds.
 pub mod Found
+pub mod Finds

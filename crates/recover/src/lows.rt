@@ -30,14 +30,8 @@ pub fn lows_on(s: &[u8], n: usize, b: usize, rows: &mut [u32; 12])
     if no_low(s, b) {
         return;
     }
-    let mut left = plan::masks::entering_mask(s, n);
-    let mut place: usize = 1;
-    while left != 0 {
-        let c = plan::masks::mask_next(left);
-        let parent = look::sender_of(s, c as usize);
-        let low = channel_fields::low_clock_of(s, b, place);
-        rows::raise(rows, parent as u32, low);
-        left = plan::masks::without(left, c);
-        place += 1;
+    for (place, c) in plan::masks::entering(s, n).enumerate() {
+        let low = channel_fields::low_clock_of(s, b, 1 + place);
+        rows::raise(rows, look::sender_of(s, c) as u32, low);
     }
 }

@@ -1,57 +1,73 @@
 // What the children's clocks, low clocks and logs tell of a node: low, high, the restored entries and the targets.
-ghost use Rattle.std.specs.Prelude.{◌≡◌, cond, false, ◌+◌, ◌-◌, ◌≤◌, ◌<◌, max, length};
+ghost use Rattle.std.specs.Prelude.{◌≡◌, ◌+◌, ◌-◌, ◌≤◌, ◌<◌, ◌∷◌, [], length, MatchResult};
 ghost use Rattle.plan.specs.Plan.{plan_nodes};
 ghost use Rattle.rules.specs.Line.{node_at};
-ghost use Rattle.rules.specs.Recover.{low_of, high_of, triples, restored, targets_of};
+ghost use Rattle.rules.specs.Recover.{low_of, high_of, triples, restored, targets_of, answer_of};
 ghost use Rattle.state.specs.State.{line_of};
 ghost use Rattle.buffer.specs.Ready.{Ready, OnChannel};
 ghost use Rattle.buffer.specs.Rows.{rows_long, Rows};
-ghost use Rattle.recover.specs.Found.{LogsCounted, low_with, entry_at, triple_of, triple_list, slots_long, Kept, Found, Told, ToldOn};
+ghost use Rattle.slots.specs.Slots.{target_is};
+ghost use Rattle.node_fields.specs.Kept.{kept_is};
+ghost use Rattle.recover.specs.Found.{LogsCounted, entry_at, triple_of, goal_list, TooMany, no_outcome};
+ghost use Rattle.recover.specs.Finds.{Finds, Told, ToldOn};
 
-use crate::{ENTRIES, LOG, Triple, goals, lows, rows};
+use crate::targets::Targets;
+use crate::{lows, rows};
+use answers::Refusal;
 use buffer::{bytes, layout, look};
-use slots::Goal;
+use node_fields::Kept;
+use slots::{Goal, Made, Piece};
 
-fn low_with(counts: bool, seen: bool, low: u32, t: u32) -> u32
-    ensures { result ≡ low_with counts seen low t }
-{
-    if counts {
-        if seen {
-            if low < t { low } else { t }
-        } else {
-            t
+// What Recover finds of a node: low, the targets, and each parent's restored entry, by the parent's number.
+#[derive(Drop)]
+pub struct Found {
+    pub low: u32,
+    pub targets: Targets,
+    pub entries: [u32; 12],
+}
+
+impl Found {
+    // Whether targets conflict, or all rows are complete as soon as the node is restored, and it has targets.
+    pub fn has_no_outcome(&self, s: &[u8], n: usize) -> bool
+        requires { Ready s.now × Rows self.now.entries (restored (line_of s.now) n) }
+        ensures outcome { result ≡ no_outcome (line_of s.now) n self.now.targets }
+        ensures few { length self.now.targets ≤ 64 }
+    {
+        let targets = self.targets.all();
+        if targets.is_empty() {
+            return false;
         }
-    } else {
-        low
+        let mut goals: [u32; 12] = [0; 12];
+        rows::conflict_in(targets, &mut goals) || rows::rows_restored(s, n, &goals, &self.entries)
+    }
+
+    // What Ask keeps of it.
+    pub fn answer(&self, s: &[u8], n: usize) -> Kept
+        requires { Ready s.now × (n < plan_nodes s.now) × Finds s.now n self.now }
+        ensures { kept_is result ≡ answer_of (line_of s.now) n }
+    {
+        Kept {
+            low: self.low,
+            high: high_of(s, n),
+            entries: rows::listed(s, n, &self.entries),
+        }
     }
 }
 
-fn high_with(counts: bool, high: u32, t: u32) -> u32
-    ensures { result ≡ cond counts (max high t) high }
-{
-    if counts {
-        if high < t { t } else { high }
-    } else {
-        high
-    }
-}
-
+// Low and high are two loops, since low is of the channels that there are and high is 0 without any: with one over a closure the clauses would be longer than both.
 // "Low is the least [..] clock entry for B among its children."
 pub fn low_of(s: &[u8], n: usize) -> u32
     requires { Ready s.now }
     ensures { result ≡ low_of (line_of s.now) n }
 {
-    let m = look::channel_count(s);
-    let mut low: u32 = 0;
-    let mut seen = false;
-    let mut b: usize = 0;
-    while b < m {
-        let leaves = look::sender_of(s, b) == n;
-        low = low_with(leaves, seen, low, channel_fields::taken_of(s, b));
-        seen = seen | leaves;
-        b += 1;
+    let mut low: Option<u32> = None;
+    for b in 0..look::channel_count(s) {
+        if look::sender_of(s, b) == n {
+            let taken = channel_fields::taken_of(s, b);
+            low = Some(low.map_or(taken, |least| taken.min(least)));
+        }
     }
-    low
+    low.unwrap_or(0)
 }
 
 // "[..] and high the greatest".
@@ -59,134 +75,96 @@ pub fn high_of(s: &[u8], n: usize) -> u32
     requires { Ready s.now }
     ensures { result ≡ high_of (line_of s.now) n }
 {
-    let m = look::channel_count(s);
     let mut high: u32 = 0;
-    let mut b: usize = 0;
-    while b < m {
-        let leaves = look::sender_of(s, b) == n;
-        high = high_with(leaves, high, channel_fields::taken_of(s, b));
-        b += 1;
+    for b in 0..look::channel_count(s) {
+        if look::sender_of(s, b) == n {
+            high = high.max(channel_fields::taken_of(s, b));
+        }
     }
     high
 }
 
-pub fn wide(b: u8) -> u32
-    ensures { (result ≡ b) × (result < 256) }
-{
-    b as u32
-}
-
-// The sender that an origin's byte names, 0 for none.
-fn named(b: u8) -> u32
-    ensures { result ≡ b - 1 }
-{
-    if b == 0 { 0 } else { wide(b - 1) }
-}
-
+// As the function of this name in node_fields, which asks for a state that holds a line: here nothing is known but that the count is in its limit.
 fn log_count(s: &[u8], k: usize) -> usize
     requires { Ready s.now × LogsCounted s.now × (k < plan_nodes s.now) }
     ensures { (result ≡ length (node_at (line_of s.now) k).log) × (result ≤ 64) }
 {
-    bytes::size(bytes::get32(s, LOG + layout::PAGE * k))
+    bytes::get32(s, layout::PAGE * (1 + k) + layout::LOG) as usize
 }
 
-// What entry i of node k's log says of node n.
-fn triple_at(s: &[u8], n: usize, k: usize, i: usize) -> Triple
+// What entry i of node k's log says of node n: a target, if it was made from a message of n and that from a parent's.
+fn told_at(s: &[u8], n: usize, k: usize, i: usize) -> Option<Goal>
     requires { Ready s.now × LogsCounted s.now × (n < plan_nodes s.now) × (k < plan_nodes s.now) × (i < 64) × (i < length (node_at (line_of s.now) k).log) }
-    ensures { triple_list result ≡ triple_of n (entry_at (line_of s.now) k i) }
+    ensures { goal_list result ≡ triple_of n (entry_at (line_of s.now) k i) }
 {
-    let at = ENTRIES + layout::PAGE * k + layout::ENTRY_SIZE * i;
-    let from = look::index(bytes::get8(s, at + 12));
-    let before = bytes::get8(s, at + 17);
-    Triple {
-        is: (from == n + 1) & (before != 0),
-        time: bytes::get32(s, at + 13),
-        parent: named(before),
-        sent: bytes::get32(s, at + 18),
+    let at = layout::PAGE * (1 + k) + layout::LOG_SLOTS + layout::ENTRY_SIZE * i;
+    let made = Made::read(s, at + 12);
+    let before = Made::read(s, at + 17);
+    if made.sender()? != n {
+        return None;
     }
+    let parent = before.sender()?;
+    Some(Goal {
+        time: made.time,
+        parent: parent as u32,
+        sent: before.time,
+    })
 }
 
 // ---- what the children tell
 
-// By an entry: its triple in the parent's row if it is up to low, added to the targets if it is above low.
-fn told_by(f: Triple, low: u32, xs: &mut [u32], count: usize, rows: &mut [u32; 12]) -> usize
-    requires { Kept xs.old count × (length rows.old ≡ rows_long) }
-    ensures { Told low (triple_list f) xs.old count rows.old xs.new result rows.new }
-{
-    if !f.is {
-        return count;
+impl Found {
+    // By an entry: its time in the parent's row if it is up to low, a target if it is above low.
+    fn hear(&mut self, g: Goal) -> Result<(), Refusal>
+        requires { length self.old.entries ≡ rows_long }
+        ensures { Told (target_is g ∷ []) self.old result self.new }
+    {
+        if g.time <= self.low {
+            rows::raise(&mut self.entries, g.parent, g.sent);
+            return Ok(());
+        }
+        self.targets.add(g)
     }
-    if f.time <= low {
-        rows::raise(rows, f.parent, f.sent);
-        return count;
+
+    // In node k's log: by all its entries.
+    fn hear_log(&mut self, s: &[u8], n: usize, k: usize) -> Result<(), Refusal>
+        requires { Ready s.now × LogsCounted s.now × (n < plan_nodes s.now) × (k < plan_nodes s.now) × (length self.old.entries ≡ rows_long) }
+        ensures { Told (triples n (node_at (line_of s.now) k).log) self.old result self.new }
+    {
+        for i in 0..log_count(s, k) {
+            if let Some(g) = told_at(s, n, k, i) {
+                self.hear(g)?;
+            }
+        }
+        Ok(())
     }
-    goals::add_target(
-        xs,
-        count,
-        Goal {
-            time: f.time,
-            parent: f.parent,
-            sent: f.sent,
-        },
-    )
+
+    // On channel b: by the low clock and in the log at its end, if the channel leaves the node.
+    fn hear_channel(&mut self, s: &[u8], n: usize, b: usize) -> Result<(), Refusal>
+        requires { OnChannel s.now b × LogsCounted s.now × (n < plan_nodes s.now) × (length self.old.entries ≡ rows_long) }
+        ensures { ToldOn s.now n b self.old result self.new }
+    {
+        if look::sender_of(s, b) != n {
+            return Ok(());
+        }
+        lows::lows_on(s, n, b, &mut self.entries);
+        self.hear_log(s, n, look::receiver_of(s, b))
+    }
 }
 
-// In node k's log: by all its entries.
-fn told_in(
-    s: &[u8],
-    n: usize,
-    k: usize,
-    low: u32,
-    xs: &mut [u32],
-    start: usize,
-    rows: &mut [u32; 12],
-) -> usize
-    requires { Ready s.now × LogsCounted s.now × (n < plan_nodes s.now) × (k < plan_nodes s.now) × Kept xs.old start × (length rows.old ≡ rows_long) }
-    ensures { Told low (triples n (node_at (line_of s.now) k).log) xs.old start rows.old xs.new result rows.new }
+// Of a node. "Targets are the distinct triples (B-time, A, A-time) with B-time above low, over all children": refused if there are more than 64.
+// "the restored entry is the greatest A-time in children's log entries made from B's messages with B-time at most low, 0 if none", and at least what the children's low clocks hold.
+pub fn find(s: &[u8], n: usize) -> Result<Found, Refusal>
+    requires { Ready s.now × LogsCounted s.now × (n < plan_nodes s.now) }
+    ensures { MatchResult result (Finds s.now n) (TooMany (targets_of (line_of s.now) n)) }
 {
-    let entries = log_count(s, k);
-    let mut count = start;
-    let mut i: usize = 0;
-    while i < entries {
-        let f = triple_at(s, n, k, i);
-        count = told_by(f, low, xs, count, rows);
-        i += 1;
+    let mut found = Found {
+        low: low_of(s, n),
+        targets: Targets::new(),
+        entries: [0; 12],
+    };
+    for b in 0..look::channel_count(s) {
+        found.hear_channel(s, n, b)?;
     }
-    count
-}
-
-// On channel b: by the low clock and in the log at its end, if the channel leaves the node.
-fn told_on(
-    s: &[u8],
-    n: usize,
-    b: usize,
-    low: u32,
-    xs: &mut [u32],
-    start: usize,
-    rows: &mut [u32; 12],
-) -> usize
-    requires { OnChannel s.now b × LogsCounted s.now × (n < plan_nodes s.now) × Kept xs.old start × (length rows.old ≡ rows_long) }
-    ensures { ToldOn s.now n b low xs.old start rows.old xs.new result rows.new }
-{
-    if look::sender_of(s, b) != n {
-        return start;
-    }
-    lows::lows_on(s, n, b, rows);
-    told_in(s, n, look::receiver_of(s, b), low, xs, start, rows)
-}
-
-// Of a node. "Targets are the distinct triples (B-time, A, A-time) with B-time above low, over all children": how many, 65 for more than 64.
-// "the restored entry is the greatest A-time in children's log entries made from B's messages with B-time at most low, 0 if none", and at least what the children's low clocks hold: of each parent, in rows that are 0 before.
-pub fn told_of(s: &[u8], n: usize, low: u32, xs: &mut [u32], rows: &mut [u32; 12]) -> usize
-    requires { Ready s.now × LogsCounted s.now × (n < plan_nodes s.now) × (low ≡ low_of (line_of s.now) n) × (length xs.old ≡ slots_long) × Rows rows.old (λ q. 0) }
-    ensures { Found xs.new result (targets_of (line_of s.now) n) × Rows rows.new (restored (line_of s.now) n) }
-{
-    let m = look::channel_count(s);
-    let mut count: usize = 0;
-    let mut b: usize = 0;
-    while b < m {
-        count = told_on(s, n, b, low, xs, count, rows);
-        b += 1;
-    }
-    count
+    Ok(found)
 }

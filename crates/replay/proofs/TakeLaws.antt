@@ -1,6 +1,6 @@
 -- A Take of a replaying node: its number, and the line that it leads to.
-use Prim.Native.Nat.{ℕ, zero, suc, ◌+◌, ◌<◌, max}
-use mathlib.Core.Path.{◌≡◌, refl, sym, ap, ap₂, ◌∙◌}
+use Prim.Native.Nat.{ℕ, ◌<◌, max}
+use mathlib.Core.Path.{◌≡◌, refl, sym, ap, ◌∙◌}
 use mathlib.Core.Bool.{Bool, true, false, cond, ◌&&◌}
 use mathlib.Core.List.{List, [], ◌∷◌, ◌++◌}
 use mathlib.Core.Option.{none, some}
@@ -8,10 +8,8 @@ use native.Mathlib.Omega.{arith}
 use native.Mathlib.Decide.{ℕ_discrete}
 use borrow.Author.Tests.{ne_eqb, eq-eqb, lt-leb}
 use lib.Dec.{leb}
-use lib.ListN.{length, get_or, drop, get_or-append}
+use lib.ListN.{length, get_or, drop}
 use lib.Seq.{set-set}
-use Rattle.plan.specs.declared.Record.{Record}
-use Rattle.plan.specs.Mask.{set_of}
 use Rattle.plan.specs.Plan.{Plan, plan_channels, node_count, channel_count, channel_at, entering}
 use Rattle.plan.proofs.FitsLaws.{fitting}
 use Rattle.plan.proofs.PlanLaws.{channel_count_lem}
@@ -19,9 +17,10 @@ use Rattle.rules.specs.Lists.{all_of, is_empty}
 use Rattle.rules.specs.Line.{log_limit, held_limit, Message, Entry, Held, up, Node, Line, fresh_node, node_at, lane_at, sender_of, receiver_of, parents, with_node, with_lane}
 use Rattle.rules.specs.Frame.{take}
 use Rattle.rules.specs.Recover.{row_goal, row_complete, rows_complete, high_of}
-use Rattle.rules.specs.Replay.{passed_on, holding, entry_at, replay_end, ended_if_complete}
+use Rattle.rules.specs.Replay.{passed_on, holding, replay_end, ended_if_complete}
 use Rattle.rules.specs.Clock.{taken_from}
 use Rattle.rules.specs.Step.{end_down, row_done, first_record, to_hold, take_lacks, no_space, is_nothing, replaying, taken_lane, taken_replaying, taken_first, taken_line, effect, no_placing, line_refusal}
+use Rattle.rules.proofs.Lists.ListLaws.{nil_right}
 use Rattle.rules.proofs.Line.LineLaws.{node_there, lane_there, lane_else}
 use Rattle.rules.proofs.Invariant.Inv.{Ordered}
 use Rattle.rules.proofs.Steps.PlanOrder.{ordered_channels}
@@ -29,45 +28,41 @@ use Rattle.rules.proofs.Ending.Targets.{high_same}
 use Rattle.state.specs.State.{line_of}
 use Rattle.state.specs.Changes.{more_held}
 use Rattle.state.proofs.InPlace.{line-plan}
-use Rattle.buffer.specs.Nothing.{no_held}
 use Rattle.buffer.specs.Holds.{Undamaged}
 use Rattle.passing.proofs.RefusalLaws.{first_of, refusal_first}
-use Rattle.replay_table.specs.Ends.{held_with, AsIn, logged_from}
-use Rattle.replay.specs.After.{taken_after, rows_after, would_hold, First, taken_now, held_more, end_log, ended_node}
+use Rattle.replay_table.specs.Ends.{AsIn}
+use Rattle.replay.specs.After.{taken_after, rows_after, would_hold, to_be_held, First, taken_now, held_more, ended_node}
 
 -- ---- where one more is held, or none
 
 module _ (n : ℕ) (h : Held) (k : Line) (inside : n < length k.nodes) where
-  more_plan : (t : Bool) → (held_more n t h k).plan ≡ k.plan
+  abbrev one : Bool → List Held
+  one t = cond t (h ∷ []) []
+
+  more_plan : (t : Bool) → (held_more n (one t) k).plan ≡ k.plan
   unfolding with_node
   more_plan true = refl
   more_plan false = refl
 
-  more_lane : (t : Bool) (c : ℕ) → lane_at (held_more n t h k) c ≡ lane_at k c
+  more_lane : (t : Bool) (c : ℕ) → lane_at (held_more n (one t) k) c ≡ lane_at k c
   unfolding with_node
   more_lane true c = refl
   more_lane false c = refl
 
   -- A part of the node that holding does not touch.
-  more_part : {A : Type 0} (f : Node → A) → f (more_held h (node_at k n)) ≡ f (node_at k n) → (t : Bool) → f (node_at (held_more n t h k) n) ≡ f (node_at k n)
+  more_part : {A : Type 0} (f : Node → A) → f (more_held h (node_at k n)) ≡ f (node_at k n) → (t : Bool) → f (node_at (held_more n (one t) k) n) ≡ f (node_at k n)
   more_part f e true = ap f (node_there n (more_held h (node_at k n)) k inside) ∙ e
   more_part f e false = refl
 
-  more_held_lem : (t : Bool) → (node_at (held_more n t h k) n).held ≡ held_with k n t h
+  more_held_lem : (t : Bool) → (node_at (held_more n (one t) k) n).held ≡ (node_at k n).held ++ one t
   more_held_lem true = ap (λ (x : Node). x.held) (node_there n (more_held h (node_at k n)) k inside)
-  more_held_lem false = refl
+  more_held_lem false = sym (nil_right (node_at k n).held)
 
   -- What is written over the node stands alone.
-  more_gone : (t : Bool) (x : Node) → with_node n x (held_more n t h k) ≡ with_node n x k
+  more_gone : (t : Bool) (x : Node) → with_node n x (held_more n (one t) k) ≡ with_node n x k
   unfolding with_node
   more_gone true x = λ i. record { plan = k.plan; steps = k.steps; nodes = set-set k.nodes n (more_held h (node_at k n)) x i; lanes = k.lanes }
   more_gone false x = refl
-
--- The same entries by the held records there are, where no number is past them.
-logged_same : (sets : Record → ℕ) (hs gs : List Held) (out : List ℕ) (r : ℕ) → ((j : ℕ) → j < r → get_or out j 0 < length hs) → logged_from sets hs out r ≡ logged_from sets (hs ++ gs) out r
-logged_same sets hs gs out zero f = refl
-logged_same sets hs gs out (suc j) f =
-    ap₂ (λ (es : List Entry) (g : Held). es ++ entry_at sets (get_or out (log_limit + j) 0) g ∷ []) (logged_same sets hs gs out j (λ i k. f i (omega arith))) (sym (get_or-append hs gs no_held (get_or out j 0) (f j (omega arith))))
 
 module _ (s : List ℕ) (u : Undamaged s) (b : ℕ) (below : b < plan_channels s) (m : Message) (first : First (line_of s) b m) (again : replaying (line_of s) (receiver_of (line_of s) b) ≡ true) where
   abbrev l : Line
@@ -119,13 +114,13 @@ module _ (s : List ℕ) (u : Undamaged s) (b : ℕ) (below : b < plan_channels s
   ]
 
   abbrev after : Line
-  after = held_more n goes h (taken_now l b m)
+  after = held_more n (to_be_held l b m) (taken_now l b m)
 
   after_is : taken_replaying b m (taken_now l b m) ≡ after
   unfolding taken_replaying taken_lane with_lane holding
   after_is = one goes refl
     where
-      one : (t : Bool) → goes ≡ t → taken_replaying b m (taken_now l b m) ≡ held_more n t h (taken_now l b m)
+      one : (t : Bool) → goes ≡ t → taken_replaying b m (taken_now l b m) ≡ held_more n (cond t (h ∷ []) []) (taken_now l b m)
       one true e = rw (e, taken_replaying)
       one false e = rw (e, taken_replaying)
 
@@ -150,18 +145,14 @@ module _ (s : List ℕ) (u : Undamaged s) (b : ℕ) (below : b < plan_channels s
       ap (λ (p : Plan). all_of (λ (c : ℕ). leb (row_goal (node_at after n).targets (channel_at p c).sender) (lane_at after c).taken) (entering p n)) after-plan
       ∙ (λ i. all_of (λ (c : ℕ). leb (row_goal (after_part (λ (x : Node). x.targets) refl i) (sender_of l c)) (after-taken c i)) (entering l.plan n))
 
-  pub as_in : AsIn (line_of s) (receiver_of (line_of s) b) (held_with (line_of s) (receiver_of (line_of s) b) goes h) (held_more (receiver_of (line_of s) b) goes h (taken_now (line_of s) b m))
+  pub as_in : AsIn (line_of s) (receiver_of (line_of s) b) ((node_at (line_of s) (receiver_of (line_of s) b)).held ++ to_be_held (line_of s) b m) (held_more (receiver_of (line_of s) b) (to_be_held (line_of s) b m) (taken_now (line_of s) b m))
   as_in = record {
     plan = after-plan;
-    held = more_held_lem n h (taken_now l b m) in_now goes ∙ with_now goes;
+    held = more_held_lem n h (taken_now l b m) in_now goes ∙ ap (λ (x : Node). x.held ++ to_be_held l b m) node_now;
     targets = after_part (λ (x : Node). x.targets) refl;
     time = after_part (λ (x : Node). x.time) refl;
     taken = λ c e. after-taken c ∙ rw (ne_eqb c b (λ q. let f = ordered.forward b here_below in omega (arith, e, ap (λ (d : ℕ). (channel_at l.plan d).sender) q)));
   }
-    where
-      with_now : (t : Bool) → held_with (taken_now l b m) n t h ≡ held_with l n t h
-      with_now true = ap (λ (x : Node). x.held ++ h ∷ []) node_now
-      with_now false = ap (λ (x : Node). x.held) node_now
 
   -- ---- where it leads
 
@@ -172,11 +163,11 @@ module _ (s : List ℕ) (u : Undamaged s) (b : ℕ) (below : b < plan_channels s
       one : (rest : List Message) → replaying l (receiver_of l b) ≡ true → taken_first b (m ∷ rest) l ≡ ended_if_complete n (taken_replaying b m (taken_lane b m rest l))
       one rest e = rw (e, taken_first)
 
-  pub goes_on_lem : rows_after (line_of s) (receiver_of (line_of s) b) b m.time ≡ false → effect (line_of s) (take b) ≡ some (held_more (receiver_of (line_of s) b) goes h (taken_now (line_of s) b m))
+  pub goes_on_lem : rows_after (line_of s) (receiver_of (line_of s) b) b m.time ≡ false → effect (line_of s) (take b) ≡ some (held_more (receiver_of (line_of s) b) (to_be_held (line_of s) b m) (taken_now (line_of s) b m))
   unfolding ended_if_complete
   goes_on_lem e = effect_is ∙ rw (after_rows ∙ e, ended_if_complete)
 
-  pub comes_up : rows_after (line_of s) (receiver_of (line_of s) b) b m.time ≡ true → effect (line_of s) (take b) ≡ replay_end (receiver_of (line_of s) b) (held_more (receiver_of (line_of s) b) goes h (taken_now (line_of s) b m))
+  pub comes_up : rows_after (line_of s) (receiver_of (line_of s) b) b m.time ≡ true → effect (line_of s) (take b) ≡ replay_end (receiver_of (line_of s) b) (held_more (receiver_of (line_of s) b) (to_be_held (line_of s) b m) (taken_now (line_of s) b m))
   unfolding ended_if_complete
   comes_up e = effect_is ∙ rw (after_rows ∙ e, ended_if_complete)
 
@@ -184,25 +175,20 @@ module _ (s : List ℕ) (u : Undamaged s) (b : ℕ) (below : b < plan_channels s
   after_high = high_same l after n after-plan (λ c k e. as_in.taken c e)
 
   -- The line left, by what is written: the message taken, and the node as it is when its replay has ended.
-  pub ended_is : (out : List ℕ) (r : ℕ) → ((j : ℕ) → j < r → get_or out j 0 < length (held_with (line_of s) (receiver_of (line_of s) b) goes h))
-      → with_node (receiver_of (line_of s) b) (ended_node (held_more (receiver_of (line_of s) b) goes h (taken_now (line_of s) b m)) (receiver_of (line_of s) b) (logged_from (set_of (line_of s).plan (receiver_of (line_of s) b)) (held_with (line_of s) (receiver_of (line_of s) b) goes h) out r))
-      (held_more (receiver_of (line_of s) b) goes h (taken_now (line_of s) b m))
-      ≡ with_node (receiver_of (line_of s) b) (ended_node (line_of s) (receiver_of (line_of s) b) (end_log (line_of s) (receiver_of (line_of s) b) h out r)) (taken_now (line_of s) b m)
-  ended_is out r f =
-      more_gone n h (taken_now l b m) in_now goes (ended_node after n (logged_from (set_of l.plan n) (held_with l n goes h) out r))
+  pub ended_is : (log : List Entry)
+      → with_node (receiver_of (line_of s) b) (ended_node (held_more (receiver_of (line_of s) b) (to_be_held (line_of s) b m) (taken_now (line_of s) b m)) (receiver_of (line_of s) b) log) (held_more (receiver_of (line_of s) b) (to_be_held (line_of s) b m) (taken_now (line_of s) b m))
+      ≡ with_node (receiver_of (line_of s) b) (ended_node (line_of s) (receiver_of (line_of s) b) log) (taken_now (line_of s) b m)
+  ended_is log =
+      more_gone n h (taken_now l b m) in_now goes (ended_node after n log)
       ∙ (λ i. with_node n (record {
         status = up;
         crashed = after_part (λ (x : Node). x.crashed) refl i;
         time = after_high i;
-        log = logged goes f i;
+        log = log;
         held = [];
         targets = [];
         asked = none;
       }) (taken_now l b m))
-    where
-      logged : (t : Bool) → ((j : ℕ) → j < r → get_or out j 0 < length (held_with l n t h)) → logged_from (set_of l.plan n) (held_with l n t h) out r ≡ end_log l n h out r
-      logged true g = refl
-      logged false g = logged_same (set_of l.plan n) (node_at l n).held (h ∷ []) out r g
 
   -- ---- the number
 

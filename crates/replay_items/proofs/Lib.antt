@@ -1,4 +1,3 @@
-pub mod PairLaws
+pub mod ListingLaws
 pub mod ItemLaws
 pub mod TableLaws
-pub mod TargetLaws

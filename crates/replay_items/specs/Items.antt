@@ -1,83 +1,64 @@
--- What the end of a replay is asked of, pairs of numbers in one array, and the replay table as the code lays it out.
-use Rattle.std.specs.Prelude.{ℕ, zero, suc, ◌+◌, ◌≤◌, ◌<◌, ◌≡◌, Bool, true, false, ◌&&◌, List, [], ◌∷◌, ◌++◌, map, length, get_or, set, take, drop, eqb}
+-- What the end of a replay is asked of, its targets and the replay table as the code lists them.
+use Rattle.std.specs.Prelude.{ℕ, suc, ◌≤◌, ◌<◌, ◌≡◌, Bool, true, false, ◌&&◌, List, [], ◌∷◌, ◌++◌, map, length, get_or, take, eqb, Option, None, Some}
 use Rattle.plan.specs.Plan.{plan_of, keep_if, numbers_from, leaving}
-use Rattle.plan.specs.Mask.{plan_mask}
+use Rattle.plan.specs.Mask.{listed}
 use Rattle.placing.specs.Item.{Item}
-use Rattle.rules.specs.Line.{held_limit, target_limit, log_limit, Held, Target, Line, node_at, sender_of}
+use Rattle.rules.specs.Line.{held_limit, Held, Target, Line, node_at, sender_of}
 use Rattle.rules.specs.Recover.{conflict}
 use Rattle.rules.specs.Replay.{item_of}
 use Rattle.state.specs.State.{line_of}
+use Rattle.slots.specs.declared.Waiting.{Waiting}
 use Rattle.slots.specs.Slots.{held_is}
 use Rattle.buffer.specs.Holds.{AtNode}
-use Rattle.buffer.specs.Nothing.{no_held}
+use Rattle.buffer.specs.Nothing.{no_held, no_target}
 use Rattle.replay_items.specs.declared.Ending.{Ending}
+use Rattle.replay_items.specs.declared.Listed.{Listed}
 
 -- ---- what is asked
 
--- The held records that the node is to have.
+-- One more held record, if there is one; the held records and that one.
+abbrev pub one_more : Option Waiting → List Held
+one_more None = []
+one_more (Some h) = held_is h ∷ []
+
+abbrev pub held_with : Line → ℕ → Option Waiting → List Held
+held_with l n last = (node_at l n).held ++ one_more last
+
+-- The held records that the node is to have: so many of them, from the first on.
 abbrev pub held_by : List ℕ → Ending → List Held
-held_by s e = take e.held ((node_at (line_of s) e.node).held ++ held_is e.last ∷ [])
+held_by s e = take e.held (held_with (line_of s) e.node e.last)
 
 pub record Asked (s : List ℕ) (e : Ending) : Type 0 where
   pub node : AtNode s e.node
-  pub mask : e.leaving ≡ plan_mask s (leaving (plan_of s) e.node)
-  pub within : e.held ≤ suc (length (node_at (line_of s) e.node).held)
+  pub leaving : listed e.leaving ≡ leaving (plan_of s) e.node
+  pub targets : e.targets ≡ (node_at (line_of s) e.node).targets
+  pub counted : e.held ≤ length (held_with (line_of s) e.node e.last)
   pub few : e.held ≤ held_limit
-  pub goals : e.targets ≡ length (node_at (line_of s) e.node).targets
-  pub goals_few : e.targets ≤ target_limit
   pub agreed : conflict (node_at (line_of s) e.node).targets ≡ false
 
--- ---- pairs of numbers, 64 places for each
+-- ---- looked for
 
-pub record Spot : Type 0 where
-  pub number : ℕ
-  pub column : ℕ
+-- The first of a list's from a place on that passes a test: there is none, or it stands at i.
+abbrev pub FoundFrom : {A : Type 0} → (A → Bool) → A → List A → ℕ → Option ℕ → Type 0
+FoundFrom f d xs from None = (j : ℕ) → from ≤ j → j < length xs → f (get_or xs j d) ≡ false
+FoundFrom f d xs from (Some i) = (from ≤ i) × (i < length xs) × (f (get_or xs i d) ≡ true)
 
-abbrev pub spot : ℕ → ℕ → Spot
-spot number column = record { number = number; column = column }
+-- Whether a target is a held record.
+abbrev pub is_target : Held → Target → Bool
+is_target h t = eqb t.parent h.sender && eqb t.parent_time h.time
 
-abbrev pub spot_at : List ℕ → ℕ → Spot
-spot_at out j = spot (get_or out j 0) (get_or out (log_limit + j) 0)
+-- A place of a target, or none, and the time there.
+abbrev pub IsPlace : List Target → Option ℕ → Type 0
+IsPlace ts None = Unit {0}
+IsPlace ts (Some i) = i < length ts
 
-abbrev pub put_spot : List ℕ → ℕ → Spot → List ℕ
-put_spot out j x = set (set out j x.number) (log_limit + j) x.column
+abbrev pub time_at : List Target → Option ℕ → ℕ
+time_at ts None = 0
+time_at ts (Some i) = (get_or ts i no_target).time
 
--- So many of them from i on.
-abbrev pub spots_in : List ℕ → ℕ → ℕ → List Spot
-spots_in out i zero = []
-spots_in out i (suc m) = spot_at out i ∷ spots_in out (suc i) m
+-- ---- the replay table
 
--- Whether a pair is this one.
-abbrev pub is_spot : ℕ → ℕ → Spot → Bool
-is_spot number column x = eqb x.number number && eqb x.column column
-
--- Looked for from a place on: found at r, or nowhere.
-pub record Sought (xs : List ℕ) (count number column from r : ℕ) : Type 0 where
-  pub within : r ≤ count
-  pub found : r < count → is_spot number column (spot_at xs r) ≡ true
-  pub nowhere : r ≡ count → (j : ℕ) → from ≤ j → j < count → is_spot number column (spot_at xs j) ≡ false
-
--- The pairs that stand there.
-pub record Listed (xs : List ℕ) (ps : List Spot) : Type 0 where
-  pub long : length xs ≡ 128
-  pub now : spots_in xs 0 (length ps) ≡ ps
-
--- A held record's sender and time, a target's parent and its time.
-abbrev pub held_spot : Held → Spot
-held_spot h = spot h.sender h.time
-
-abbrev pub goal_spot : Target → Spot
-goal_spot t = spot t.parent t.parent_time
-
-abbrev pub goal_spots : List ℕ → Ending → List Spot
-goal_spots s e = map goal_spot (node_at (line_of s) e.node).targets
-
--- ---- the table: rows, times, fixed columns, floors and the held records' numbers, 64 places each
-
-abbrev pub table_long : ℕ
-table_long = 320
-
--- A place of the table.
+-- A place of the table: its row, and the number of its held record.
 pub record Slot : Type 0 where
   pub row : ℕ
   pub number : ℕ
@@ -88,21 +69,9 @@ slot_held hs x = get_or hs x.number no_held
 abbrev pub slot_item : Line → ℕ → List Held → Slot → Item
 slot_item l n hs x = item_of l n x.row (slot_held hs x)
 
--- What the places have at an offset.
-abbrev pub Part : (Slot → ℕ) → ℕ → List ℕ → List Slot → Type 0
-Part f from t xs = take (length xs) (drop from t) ≡ map f xs
-
-pub record Table (l : Line) (n : ℕ) (hs : List Held) (t : List ℕ) (xs : List Slot) : Type 0 where
-  pub long : length t ≡ table_long
-  pub rows : Part (λ (x : Slot). x.row) 0 t xs
-  pub times : Part (λ (x : Slot). (slot_item l n hs x).time) 64 t xs
-  pub fixed : Part (λ (x : Slot). (slot_item l n hs x).fixed) 128 t xs
-  pub floors : Part (λ (x : Slot). (slot_item l n hs x).floor) 192 t xs
-  pub numbers : Part (λ (x : Slot). x.number) 256 t xs
-
--- One item more, at a place.
-abbrev pub pushed : List ℕ → ℕ → Item → ℕ → List ℕ
-pushed t k x number = set (set (set (set (set t k x.row) (64 + k) x.time) (128 + k) x.fixed) (192 + k) x.floor) (256 + k) number
+-- What the table has there.
+abbrev pub listed_of : Line → ℕ → List Held → Slot → Listed
+listed_of l n hs x = record { row = x.row; time = (slot_item l n hs x).time; fixed = (slot_item l n hs x).fixed; floor = (slot_item l n hs x).floor; number = x.number }
 
 -- A held record's place, if it is of the parent's row; the places of that row, and of all rows.
 abbrev pub slot_of : ℕ → ℕ → Slot
@@ -117,9 +86,3 @@ row_slots hs parent row = map (slot_of row) (numbers_from 0 (λ (h : Held). eqb 
 abbrev pub slots_from : Line → List Held → ℕ → List ℕ → List Slot
 slots_from l hs row [] = []
 slots_from l hs row (c ∷ cs) = row_slots hs (sender_of l c) row ++ slots_from l hs (suc row) cs
-
--- What is left of the table when some places are filled behind those that it has.
-pub record Filled (l : Line) (n : ℕ) (hs : List Held) (t : List ℕ) (start : ℕ) (more : List Slot) (u : List ℕ) (r : ℕ) : Type 0 where
-  pub long : length u ≡ table_long
-  pub count : r ≡ start + length more
-  pub filled : (xs : List Slot) → length xs ≡ start → Table l n hs t xs → Table l n hs u (xs ++ more)

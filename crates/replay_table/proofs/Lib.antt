@@ -1,6 +1,6 @@
-pub mod PlaceLaws
 pub mod OrderLaws
+pub mod HeldLaws
+pub mod PlaceLaws
 pub mod SlotLaws
 pub mod EndLaws
 pub mod WholeLaws
-pub mod SeekLaws

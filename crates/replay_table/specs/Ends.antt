@@ -1,17 +1,15 @@
 -- The end of a replay worked out before anything is written: of node n in a line l, with the held records that it is to have.
-use Rattle.std.specs.Prelude.{ℕ, zero, suc, ◌+◌, ◌≤◌, ◌<◌, ◌≡◌, Bool, true, false, List, [], ◌∷◌, ◌++◌, length, get_or}
+use Rattle.std.specs.Prelude.{ℕ, ◌≤◌, ◌<◌, ◌≡◌, List, [], map, length, get_or, Result, Ok, Err}
 use Rattle.std.proofs.Math.Option.{none, some}
 use Rattle.plan.specs.declared.Record.{Record}
 use Rattle.plan.specs.Mask.{set_of}
-use Rattle.rules.specs.Line.{log_limit, Entry, Held, up, Line, node_at, lane_at, sender_of, with_node}
+use Rattle.answers.specs.declared.Refusal.{Refusal}
+use Rattle.answers.specs.declared.Refusal.TheVariants.{NoPlacing}
+use Rattle.rules.specs.Line.{Entry, Held, up, Line, node_at, lane_at, sender_of, with_node}
 use Rattle.rules.specs.Recover.{high_of}
 use Rattle.rules.specs.Replay.{entry_at, replay_end}
 use Rattle.buffer.specs.Nothing.{no_held}
-
--- The held records that there are, and one more behind them.
-abbrev pub held_with : Line → ℕ → Bool → Held → List Held
-held_with l n true h = (node_at l n).held ++ h ∷ []
-held_with l n false h = (node_at l n).held
+use Rattle.replay_table.specs.declared.PlacedRecord.{PlacedRecord}
 
 -- A line in which node n holds these, and all that the end of its replay reads is as in l.
 pub record AsIn (l : Line) (n : ℕ) (hs : List Held) (k : Line) : Type 0 where
@@ -21,20 +19,25 @@ pub record AsIn (l : Line) (n : ℕ) (hs : List Held) (k : Line) : Type 0 where
   pub time : (node_at k n).time ≡ (node_at l n).time
   pub taken : (c : ℕ) → sender_of l c ≡ n → (lane_at k c).taken ≡ (lane_at l c).taken
 
--- The log by numbers: entry j's held record at j, its column at 64 + j.
-abbrev pub entry_from : (Record → ℕ) → List Held → List ℕ → ℕ → Entry
-entry_from sets hs out j = entry_at sets (get_or out (log_limit + j) 0) (get_or hs (get_or out j 0) no_held)
+-- The log by the held records' numbers and columns.
+abbrev pub entry_from : (Record → ℕ) → List Held → PlacedRecord → Entry
+entry_from sets hs x = entry_at sets x.column (get_or hs x.number no_held)
 
-abbrev pub logged_from : (Record → ℕ) → List Held → List ℕ → ℕ → List Entry
-logged_from sets hs out zero = []
-logged_from sets hs out (suc j) = logged_from sets hs out j ++ entry_from sets hs out j ∷ []
+abbrev pub logged_from : (Record → ℕ) → List Held → List PlacedRecord → List Entry
+logged_from sets hs xs = map (entry_from sets hs) xs
 
--- The end found: r entries in the log, by the numbers; 65 where there is none.
-pub record Ends (l : Line) (n : ℕ) (hs : List Held) (out : List ℕ) (r : ℕ) : Type 0 where
-  pub long : length out ≡ 128
-  pub few : r ≤ 65
-  pub nowhere : r ≡ 65 → (k : Line) → AsIn l n hs k → replay_end n k ≡ none
-  pub ended : r ≤ log_limit → (k : Line) → AsIn l n hs k
-      → replay_end n k ≡ some (with_node n (record { status = up; crashed = (node_at k n).crashed; time = high_of k n; log = logged_from (set_of l.plan n) hs out r; held = []; targets = []; asked = none }) k)
-  pub inside : r ≤ log_limit → (j : ℕ) → j < r → get_or out j 0 < length hs
-  pub placed : r ≤ log_limit → r ≤ length hs
+-- What stands past the end of a list of them.
+abbrev pub no_placed : PlacedRecord
+no_placed = record { number = 0; column = 0 }
+
+-- The end found: what its log has.
+pub record Ended (l : Line) (n : ℕ) (hs : List Held) (xs : List PlacedRecord) : Type 0 where
+  pub now : (k : Line) → AsIn l n hs k
+      → replay_end n k ≡ some (with_node n (record { status = up; crashed = (node_at k n).crashed; time = high_of k n; log = logged_from (set_of l.plan n) hs xs; held = []; targets = []; asked = none }) k)
+  pub inside : (j : ℕ) → j < length xs → (get_or xs j no_placed).number < length hs
+  pub few : length xs ≤ length hs
+
+-- Or there is none: 24.
+abbrev pub Ends : Line → ℕ → List Held → Result (List PlacedRecord) Refusal → Type 0
+Ends l n hs (Ok xs) = Ended l n hs xs
+Ends l n hs (Err r) = (r ≡ NoPlacing) × ((k : Line) → AsIn l n hs k → replay_end n k ≡ none)

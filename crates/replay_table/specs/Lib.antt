@@ -1,2 +1,3 @@
+-- What the end of a replay is.
 pub mod Ends
 pub mod Table

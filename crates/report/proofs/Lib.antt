@@ -2,8 +2,6 @@
 pub mod WroteLaws
 pub mod DecimalLaws
 pub mod PartsLaws
-pub mod OriginText
-pub mod StatusLaws
 pub mod ParentLaws
 pub mod ClockLaws
 pub mod KeptLaws

@@ -1,73 +1,70 @@
-// Bytes, words and numbers.
+// A text that is written into a lent buffer: bytes, words and numbers, one behind the other.
 ghost use Rattle.std.specs.Prelude.{◌≡◌, [], ◌∷◌, ◌++◌, ◌+◌, ◌*◌, ◌≤◌, ◌<◌, length};
 ghost use Rattle.rules.specs.Sheet.{decimal as Sheet·decimal};
 ghost use Rattle.report.specs.Most.{digits_most, number_most};
-ghost use Rattle.report.specs.Wrote.{Wrote};
+ghost use Rattle.report.specs.Writes.{Room, Writes};
 
-use buffer::bytes;
+use itoa::Buffer;
 
-// One byte.
-pub fn byte(out: &mut [u8], at: usize, b: u8) -> usize
-    requires { at < length out.old }
-    ensures { Wrote 1 out.old at (b ∷ []) out.new result }
-{
-    out[at] = b;
-    at + 1
+// The buffer, and the place behind what is written.
+#[derive(Drop)]
+pub struct Text<'a> {
+    pub out: &'a mut [u8],
+    pub at: usize,
 }
 
-// Fixed bytes.
-pub fn word(out: &mut [u8], at: usize, w: &[u8]) -> usize
-    requires { at + length w.now ≤ length out.old }
-    ensures { Wrote (length w.now) out.old at w.now out.new result }
-{
-    let end = at + w.len();
-    bytes::copy_to(w, &mut out[at..end]);
-    end
-}
-
-// How many digits a number has.
-fn width(n: u64) -> usize
-    ensures { (result ≡ length (Sheet·decimal n)) × (result ≤ digits_most) }
-{
-    let mut rest = n / 10;
-    let mut left: usize = 19;
-    while rest != 0 {
-        rest /= 10;
-        left -= 1;
+impl<'a> Text<'a> {
+    // Nothing is written yet.
+    pub fn new(out: &'a mut [u8]) -> Text<'a>
+        ensures lent { result.out.ghost_name ≡ out.entry.ghost_name }
+        ensures front { (result.out.now ≡ out.old) × (result.at ≡ 0) }
+    {
+        Text { out, at: 0 }
     }
-    20 - left
-}
 
-// A number in decimal digits, the last one first.
-pub fn decimal(out: &mut [u8], at: usize, n: u64) -> usize
-    requires { at + length (Sheet·decimal n) ≤ length out.old }
-    ensures { Wrote digits_most out.old at (Sheet·decimal n) out.new result }
-{
-    let end = at + width(n);
-    let mut rest = n;
-    let mut i = end;
-    while at < i {
-        i -= 1;
-        out[i] = (48 + rest % 10) as u8;
-        rest /= 10;
+    // One byte.
+    pub fn byte(&mut self, b: u8)
+        requires { Room 1 self.old }
+        ensures { Writes 1 (b ∷ []) self.old self.new }
+    {
+        self.out[self.at] = b;
+        self.at += 1;
     }
-    end
-}
 
-// A byte, and a number behind it.
-pub fn byte_and_number(out: &mut [u8], at: usize, b: u8, n: u32) -> usize
-    requires { at + (1 + number_most) ≤ length out.old }
-    ensures { Wrote (1 + number_most) out.old at (b ∷ Sheet·decimal n) out.new result }
-{
-    let next = byte(out, at, b);
-    decimal(out, next, n as u64)
-}
+    // Fixed bytes.
+    pub fn word(&mut self, w: &[u8])
+        requires { Room (length w.now) self.old }
+        ensures { Writes (length w.now) w.now self.old self.new }
+    {
+        let end = self.at + w.len();
+        self.out[self.at..end].copy_from_slice(w);
+        self.at = end;
+    }
 
-// Two numbers, each behind a space.
-pub fn two_numbers(out: &mut [u8], at: usize, first: u32, second: u32) -> usize
-    requires { at + 2 * (1 + number_most) ≤ length out.old }
-    ensures { Wrote (2 * (1 + number_most)) out.old at ((32 ∷ Sheet·decimal first) ++ (32 ∷ Sheet·decimal second)) out.new result }
-{
-    let next = byte_and_number(out, at, b' ', first);
-    byte_and_number(out, next, b' ', second)
+    // A number in decimal digits.
+    pub fn decimal(&mut self, n: u64)
+        requires { Room (length (Sheet·decimal n)) self.old }
+        ensures { Writes digits_most (Sheet·decimal n) self.old self.new }
+    {
+        let mut digits = Buffer::new();
+        self.word(digits.format(n).as_bytes());
+    }
+
+    // A byte, and a number behind it.
+    pub fn byte_and_number(&mut self, b: u8, n: u32)
+        requires { Room (1 + number_most) self.old }
+        ensures { Writes (1 + number_most) (b ∷ Sheet·decimal n) self.old self.new }
+    {
+        self.byte(b);
+        self.decimal(u64::from(n));
+    }
+
+    // Two numbers, each behind a space.
+    pub fn two_numbers(&mut self, first: u32, second: u32)
+        requires { Room (2 * (1 + number_most)) self.old }
+        ensures { Writes (2 * (1 + number_most)) ((32 ∷ Sheet·decimal first) ++ (32 ∷ Sheet·decimal second)) self.old self.new }
+    {
+        self.byte_and_number(b' ', first);
+        self.byte_and_number(b' ', second);
+    }
 }

@@ -9,6 +9,8 @@ use native.Mathlib.Omega.{arith}
 use borrow.Author.Tests.{leb-false, not-false}
 use lib.ListN.{length}
 use lib.Dec.{leb, ltb}
+use Rattle.answers.specs.declared.Refusal.{Refusal}
+use Rattle.answers.specs.Number.{refusal_number}
 use Rattle.plan.specs.Plan.{node_count}
 use Rattle.rules.specs.Lists.{is_empty, all_of}
 use Rattle.rules.specs.Line.{target_limit, Target, Node, Line, node_at}
@@ -19,7 +21,10 @@ use Rattle.rules.specs.Step.{node_down, is_nothing, no_placing, recovered_line, 
 use Rattle.rules.proofs.Invariant.Inv.{Shape, Ordered}
 use Rattle.rules.proofs.Undamaged.Restored.{restored_node, recovered_is, restored-node, restored_complete_lem}
 use Rattle.recover.specs.Found.{rows_in, no_outcome}
-use Rattle.restart.specs.Answers.{first_of, is_end, crash_answer, restart_asked, commit_answer}
+use Rattle.restart.specs.Answers.{first_of, is_end, reach_answer, crash_answer, restart_asked, commit_answer}
+
+pub refused : (r : Refusal) → refusal_number r ≢ 0
+refused r e = grind arith
 
 -- A test that refuses, one that does not, and what follows where none does.
 pub first_here : (t : Bool) (n rest : ℕ) → t ≡ true → n ≡ first_of t n rest
@@ -31,6 +36,27 @@ first_past t n rest r e q = rw e q
 pub first_none : (t : Bool) (n rest : ℕ) → n ≢ 0 → first_of t n rest ≡ 0 → (t ≡ false) × (rest ≡ 0)
 first_none true n rest d e = absurd (d e)
 first_none false n rest d e = (refl, e)
+
+-- Of 13 and 14 one refuses, whatever comes behind; or none does.
+reach_refuses : (a b : Bool) (rest r : ℕ) → r ≡ first_of a 13 (first_of b 14 0) → r ≢ 0 → first_of a 13 (first_of b 14 rest) ≡ r
+reach_refuses true b rest r q d = sym q
+reach_refuses false true rest r q d = sym q
+reach_refuses false false rest r q d = absurd (d q)
+
+reach_passes : (a b : Bool) (rest : ℕ) → first_of a 13 (first_of b 14 0) ≡ 0 → first_of a 13 (first_of b 14 rest) ≡ rest
+reach_passes true b rest q = let no : ⊥ = omega arith in absurd no
+reach_passes false true rest q = let no : ⊥ = omega arith in absurd no
+reach_passes false false rest q = refl
+
+pub reach_inside : (l : Line) (n : ℕ) → 0 ≡ reach_answer l n → n < node_count l.plan
+reach_inside l n e = leb-false (node_count l.plan) n (first_none (leb (node_count l.plan) n) 13 _ (λ q. omega arith) (sym e)).0
+
+module _ (l : Line) (n rest : ℕ) where
+  pub reach_refused : (r : Refusal) → refusal_number r ≡ reach_answer l n → refusal_number r ≡ first_of (leb (node_count l.plan) n) 13 (first_of (is_end l n) 14 rest)
+  reach_refused r e = sym (reach_refuses (leb (node_count l.plan) n) (is_end l n) rest (refusal_number r) e (refused r))
+
+  pub reach_passed : 0 ≡ reach_answer l n → (r : ℕ) → r ≡ rest → r ≡ first_of (leb (node_count l.plan) n) 13 (first_of (is_end l n) 14 rest)
+  reach_passed e r is = is ∙ sym (reach_passes (leb (node_count l.plan) n) (is_end l n) rest (sym e))
 
 -- Of 13 to 15 one refuses, whatever comes behind; or none does.
 first_refuses : (a b c : Bool) (rest r : ℕ) → r ≡ first_of a 13 (first_of b 14 (first_of c 15 0)) → r ≢ 0 → first_of a 13 (first_of b 14 (first_of c 15 rest)) ≡ r

@@ -1,8 +1,9 @@
 -- Crash: what it leaves is the rules' line.
 use Prim.Native.Nat.{ℕ}
 use mathlib.Core.Path.{◌≡◌, refl, sym, ap, subst, ◌∙◌}
-use mathlib.Core.Logic.{◌≢◌}
 use mathlib.Core.List.{List}
+use Rattle.answers.specs.declared.Refusal.{Refusal}
+use Rattle.answers.specs.Number.{refusal_number}
 use Rattle.plan.specs.Plan.{channel_at}
 use Rattle.rules.specs.Line.{Line, node_at, with_node, fresh_lane}
 use Rattle.rules.specs.Frame.{crash}
@@ -16,7 +17,7 @@ use Rattle.restart.specs.Nodes.{emptied}
 use Rattle.restart.proofs.FitsLaws.{ordered_of, lane_fresh}
 use Rattle.restart.proofs.StateLaws.{at-node}
 use Rattle.restart.proofs.SweepLaws.{swept_same}
-use Rattle.restart.proofs.AnswerLaws.{crash_number, crash_inside}
+use Rattle.restart.proofs.AnswerLaws.{refused, crash_number, crash_inside}
 
 module _ (l : Line) (fits : LineFits l) where
   crash_lanes : (n : ℕ) → crashed_lanes n (with_node n (emptied (node_at l n)) l) ≡ crashed_line n l
@@ -29,8 +30,8 @@ module _ (s : List ℕ) (n : ℕ) (whole : Undamaged s) where
   pub crash_on : crash_answer (line_of s) n ≡ 0 → AtNode s n
   crash_on e = at-node whole.holds n (crash_inside (line_of s) n e)
 
-  pub crash_refused : (r : ℕ) → r ≡ crash_answer (line_of s) n → r ≢ 0 → Did s (crash n) s r
-  crash_refused r is d = record { number = crash_number (line_of s) n ∙ sym is; refused = λ q. refl; done = λ q. absurd (d q) }
+  pub crash_refused : (r : Refusal) → refusal_number r ≡ crash_answer (line_of s) n → Did s (crash n) s (refusal_number r)
+  crash_refused r is = record { number = crash_number (line_of s) n ∙ sym is; refused = λ q. refl; done = λ q. absurd (refused r q) }
 
   pub crash_done : crash_answer (line_of s) n ≡ 0 → (t : List ℕ) → NodeNow s n emptied t → (u : List ℕ) → Holds u (crashed_lanes n (line_of t)) → Did s (crash n) u 0
   unfolding effect

@@ -1,37 +1,29 @@
 -- The entries of a kept answer, read channel by channel into the parents' rows.
-use Prim.Native.Nat.{ℕ, suc, ◌+◌, ◌-◌, ◌^◌, ◌≤◌, ◌<◌}
+use Prim.Native.Nat.{ℕ, suc, ◌+◌, ◌≤◌, ◌<◌}
 use mathlib.Core.Path.{◌≡◌, refl, sym, ap, subst, ◌∙◌}
 use mathlib.Core.Logic.{◌≢◌, inl, inr}
 use mathlib.Core.Bool.{Bool, true, false, cond}
 use mathlib.Core.List.{List, [], ◌∷◌}
-use mathlib.Core.Option.{some}
 use native.Mathlib.Decide.{ℕ_discrete}
 use native.Mathlib.Nat.{add-zero}
 use native.Mathlib.Omega.{arith}
 use borrow.Author.Tests.{eq-eqb, ne_eqb}
 use lib.Dec.{eqb}
-use lib.ListN.{length, get_or, drop, set, length-set}
+use lib.ListN.{length, get_or, drop, set, replicate, length-set}
 use lib.Seq.{drop-drop, get_or-drop, get_or-set_same, get_or-set_other}
-use Rattle.plan.specs.Plan.{plan_of, plan_nodes, plan_channels, channel_at, entering}
-use Rattle.plan.specs.Mask.{plan_mask, Rising}
-use Rattle.rules.specs.Line.{Asked, node_at}
+use Rattle.plan.specs.Plan.{plan_of, plan_nodes, plan_channels, channel_count, channel_at, entering}
+use Rattle.plan.specs.Lawful.{Each}
+use Rattle.plan.specs.Mask.{Rising}
+use Rattle.plan.proofs.MaskLaws.{rising_lower, entering_rise, entering_below}
 use Rattle.rules.specs.Recover.{beside}
-use Rattle.state.specs.State.{line_of}
 use Rattle.rules.proofs.Lists.Members.{In, here, there, in_none, in_first}
 use Rattle.rules.proofs.Line.Joins.{entering_in, in_entering}
 use Rattle.rules.proofs.Undamaged.Undamaged.{ordered_fit}
-use Rattle.buffer.specs.Ready.{Ready}
+use Rattle.buffer.specs.Ready.{Ready, OnChannel}
 use Rattle.buffer.specs.Rows.{rows_long}
-use Rattle.buffer.proofs.MaskWalk.{Left, Next, left_none, left_entering}
 use Rattle.buffer.proofs.ReadyLaws.{few_enter, sender_inside}
-use Rattle.restart.specs.Finds.{KeptRows}
 
--- The numbers of a rising list, and what stands at the place of one of several channels.
-rising_above : (k : ℕ) (bs : List ℕ) {c : ℕ} → Rising k bs → In c bs → k ≤ c
-rising_above k [] rise i = elim i [ ]
-rising_above k (b ∷ bs) rise here = rise.0
-rising_above k (b ∷ bs) rise (there i) = let above = rising_above (suc b) bs rise.1 i in omega (arith, above, rise.0)
-
+-- What stands at the place of one of several channels.
 beside_none : (bs : List ℕ) (c : ℕ) → beside bs [] c ≡ 0
 beside_none [] c = refl
 beside_none (b ∷ bs) c = refl
@@ -44,6 +36,12 @@ beside_next b bs [] c = go (eqb b c)
     go false = sym (beside_none bs c)
 beside_next b bs (t ∷ ts) c = refl
 
+-- The numbers of a rising list.
+rising_above : (k : ℕ) (bs : List ℕ) {c : ℕ} → Rising k bs → In c bs → k ≤ c
+rising_above k [] rise i = elim i [ ]
+rising_above k (b ∷ bs) rise here = rise.0
+rising_above k (b ∷ bs) rise (there i) = let above = rising_above (suc b) bs rise.1 i in omega (arith, above, rise.0)
+
 module _ (s : List ℕ) (n : ℕ) where
   abbrev sender : ℕ → ℕ
   sender c = (channel_at (plan_of s) c).sender
@@ -51,43 +49,39 @@ module _ (s : List ℕ) (n : ℕ) where
   abbrev all : List ℕ
   all = entering (plan_of s) n
 
-  -- Of some entries: those of the channels left stand ahead, those of the others in the rows.
-  pub record ReadTo (es channels : List ℕ) (place : ℕ) (entries : List ℕ) : Type 0 where
-    pub ahead : (c : ℕ) → In c channels → beside all es c ≡ beside channels (drop place es) c
-    pub done : (c : ℕ) → In c all → (In c channels → ⊥) → get_or entries (sender c) 0 ≡ beside all es c
-
-  pub record KeptTo (left place : ℕ) (entries : List ℕ) : Type 0 where
-    pub channels : List ℕ
-    pub rest : Left (plan_channels s) left channels
+  -- The entries of the channels left stand ahead, those of the others in the rows.
+  pub record KeptTo (es channels : List ℕ) (place : ℕ) (entries : List ℕ) : Type 0 where
+    pub below : Each (λ (b : ℕ). b < plan_channels s) channels
+    pub rise : Rising 0 channels
     pub few : place + length channels ≤ 4
     pub long : length entries ≡ rows_long
     pub within : (c : ℕ) → In c channels → In c all
-    pub read : (a : Asked) → (node_at (line_of s) n).asked ≡ some a → ReadTo a.entries channels place entries
+    pub ahead : (c : ℕ) → In c channels → beside all es c ≡ beside channels (drop place es) c
+    pub done : (c : ℕ) → In c all → (In c channels → ⊥) → get_or entries (sender c) 0 ≡ beside all es c
 
-  module _ (ready : Ready s) (inside : n < plan_nodes s) where
-    pub kept_start : (mask : ℕ) → mask ≡ plan_mask s all → mask < 2 ^ 32 → (entries : List ℕ) → length entries ≡ rows_long → KeptTo mask 0 entries
-    kept_start mask e small entries long =
-        record {
-          channels = all;
-          rest = left_entering s n mask ready e small;
-          few = omega (arith, few_enter ready n inside);
-          long = long;
-          within = λ c i. i;
-          read = λ a q. record { ahead = λ c i. refl; done = λ c i out. absurd (out i) };
-        }
+  module _ (ready : Ready s) (inside : n < plan_nodes s) (es : List ℕ) where
+    pub kept_start : KeptTo es all 0 (replicate rows_long 0)
+    kept_start =
+        record { below = entering_below s n; rise = entering_rise (plan_of s) n; few = omega (arith, few_enter ready n inside); long = refl; within = λ c i. i; ahead = λ c i. refl; done = λ c i out. absurd (out i) }
 
-    module _ (left place : ℕ) (entries : List ℕ) (b : ℕ) (k : KeptTo left place entries) (x : Next (plan_channels s) left b k.channels) where
+    module _ (channels rest : List ℕ) (place : ℕ) (entries : List ℕ) (b : ℕ) (k : KeptTo es channels place entries) (first : channels ≡ b ∷ rest) where
       pub kept_there : place < 4
-      kept_there = omega (arith, k.few, ap length x.first)
+      kept_there = omega (arith, k.few, ap length first)
 
-      first_in : In b k.channels
-      first_in = subst (In b) (sym x.first) here
+      pub kept_on : OnChannel s b
+      kept_on = record { ready = ready; below = (rw first at k.below).0 }
 
-      later : (c : ℕ) → In c x.rest → In c k.channels
-      later c i = subst (In c) (sym x.first) (there i)
+      first_in : In b channels
+      first_in = subst (In b) (sym first) here
 
-      apart : (c : ℕ) → In c x.rest → b ≢ c
-      apart c i e = let above = rising_above (suc b) x.rest (subst (Rising 0) x.first k.rest.rise).1 i in omega (arith, above, e)
+      later : (c : ℕ) → In c rest → In c channels
+      later c i = subst (In c) (sym first) (there i)
+
+      rise : Rising (suc b) rest
+      rise = (rw first at k.rise).1
+
+      apart : (c : ℕ) → In c rest → b ≢ c
+      apart c i e = let above = rising_above (suc b) rest rise i in omega (arith, above, e)
 
       -- Another channel that enters the node has another sender.
       other_sender : (c : ℕ) → In c all → c ≢ b → sender c ≢ sender b
@@ -97,37 +91,32 @@ module _ (s : List ℕ) (n : ℕ) where
           let (b_there, b-to) = entering_in (plan_of s) n b (k.within b first_in) in
           d (ordered.alone c b c-there b_there e (c-to ∙ sym b-to))
 
-      pub kept_turn : (entry : ℕ) → ((a : Asked) → (node_at (line_of s) n).asked ≡ some a → entry ≡ get_or a.entries place 0) → KeptTo (left - 2 ^ b) (place + 1) (set entries (sender b) entry)
-      kept_turn entry is =
-          record {
-            channels = x.rest;
-            rest = x.after;
-            few = omega (arith, k.few, ap length x.first);
-            long = length-set entries (sender b) entry ∙ k.long;
-            within = λ c i. k.within c (later c i);
-            read = λ a q.
-                (let es = a.entries in
-                let r = k.read a q in
-                let next : (c : ℕ) → In c k.channels → beside all es c ≡ cond (eqb b c) (get_or es place 0) (beside x.rest (drop (place + 1) es) c) =
-                λ c i.
-                r.ahead c i ∙ ap (λ (bs : List ℕ). beside bs (drop place es) c) x.first ∙ beside_next b x.rest (drop place es) c
-                ∙ rw (get_or-drop place es 0 0, add-zero, drop-drop 1 place es) in
-                record {
-                  ahead = λ c i. next c (later c i) ∙ rw (ne_eqb b c (apart c i));
-                  done = λ c i out. elim (ℕ_discrete c b) [
-                    | yes e ↦
-                        (rw e (get_or-set_same entries (sender b) entry 0 (omega (arith, k.long, sender_small))) ∙ is a q ∙ sym (next c (subst (λ (d : ℕ). In d k.channels) (sym e) first_in) ∙ rw (eq-eqb b c (sym e))))
-                    | no d ↦
-                        get_or-set_other entries (sender b) (sender c) entry 0 (other_sender c i d)
-                        ∙ r.done c i (λ j. elim (in_first (subst (In c) x.first j)) [ inl e ↦ d e | inr w ↦ out w ])
-                  ];
-                });
-          }
-        where
-          sender_small : sender b < 12
-          sender_small = omega (arith, sender_inside s b (record { ready = ready; below = x.below }), ready.nodes)
+      sender_small : sender b < 12
+      sender_small = omega (arith, sender_inside s b kept_on, ready.nodes)
 
-    pub kept_end : (place : ℕ) (entries : List ℕ) → KeptTo 0 place entries → (a : Asked) → (node_at (line_of s) n).asked ≡ some a → KeptRows (plan_of s) n a entries
-    kept_end place entries k a q =
-        let none_left = left_none (plan_channels s) k.channels k.rest in
-        λ c h e. (k.read a q).done c (in_entering (plan_of s) n c h e) (λ i. in_none (subst (In c) none_left i))
+      next : (c : ℕ) → In c channels → beside all es c ≡ cond (eqb b c) (get_or es place 0) (beside rest (drop (place + 1) es) c)
+      next c i =
+          k.ahead c i ∙ ap (λ (bs : List ℕ). beside bs (drop place es) c) first ∙ beside_next b rest (drop place es) c
+          ∙ rw (get_or-drop place es 0 0, add-zero, drop-drop 1 place es)
+
+      pub kept_turn : KeptTo es rest (place + 1) (set entries (sender b) (get_or es place 0))
+      kept_turn =
+          record {
+            below = (rw first at k.below).1;
+            rise = rising_lower 0 (suc b) rest (omega arith) rise;
+            few = omega (arith, k.few, ap length first);
+            long = length-set entries (sender b) (get_or es place 0) ∙ k.long;
+            within = λ c i. k.within c (later c i);
+            ahead = λ c i. next c (later c i) ∙ rw (ne_eqb b c (apart c i));
+            done = λ c i out. elim (ℕ_discrete c b) [
+              | yes e ↦
+                  (let put : get_or (set entries (sender b) (get_or es place 0)) (sender c) 0 ≡ get_or es place 0 = rw e (get_or-set_same entries (sender b) (get_or es place 0) 0 (omega (arith, k.long, sender_small))) in
+                  put ∙ sym (next c (subst (λ (d : ℕ). In d channels) (sym e) first_in) ∙ rw (eq-eqb b c (sym e))))
+              | no d ↦
+                  get_or-set_other entries (sender b) (sender c) (get_or es place 0) 0 (other_sender c i d)
+                  ∙ k.done c i (λ j. elim (in_first (subst (In c) first j)) [ inl e ↦ d e | inr w ↦ out w ])
+            ];
+          }
+
+    pub kept_end : (channels : List ℕ) (place : ℕ) (entries : List ℕ) → KeptTo es channels place entries → channels ≡ [] → (c : ℕ) → c < channel_count (plan_of s) → (channel_at (plan_of s) c).receiver ≡ n → get_or entries (sender c) 0 ≡ beside all es c
+    kept_end channels place entries k none c h e = k.done c (in_entering (plan_of s) n c h e) (λ i. in_none (subst (In c) none i))

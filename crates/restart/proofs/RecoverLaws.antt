@@ -1,22 +1,24 @@
 -- Recover, Ask and Commit: what they leave is the rules' line.
 use Prim.Native.Nat.{ℕ, suc, ◌≤◌, ◌<◌}
 use mathlib.Core.Path.{◌≡◌, refl, sym, ap, subst, ◌∙◌}
-use mathlib.Core.Logic.{◌≢◌}
-use mathlib.Core.Bool.{Bool, true, false, not, ◌||◌}
+use mathlib.Core.Bool.{Bool, true, false, ◌||◌}
 use mathlib.Core.List.{List, [], ◌∷◌}
 use mathlib.Core.Option.{Option, none, some, map}
 use native.Mathlib.Omega.{arith}
-use borrow.Author.Tests.{lt-ltb, le-ltb, not-false, not-true}
+use borrow.Author.Tests.{lt-ltb, le-ltb}
 use lib.ListN.{length, get_or, replicate}
 use lib.Dec.{ltb}
+use Rattle.std.specs.declared.result.Result.TheVariants.{Ok, Err}
+use Rattle.answers.specs.declared.Refusal.{Refusal}
+use Rattle.answers.specs.declared.Refusal.TheVariants.{NoPlacing}
+use Rattle.answers.specs.Number.{refusal_number}
 use Rattle.plan.specs.Lawful.{Each}
 use Rattle.plan.specs.Plan.{plan_of, plan_nodes, channel_at, node_count, entering}
 use Rattle.rules.specs.Line.{target_limit, made, Target, Status, down, Asked, Node, Line, node_at, lane_at, with_node, fresh_lane, is_down}
 use Rattle.rules.specs.Damaged.{low_wrong}
 use Rattle.rules.specs.Frame.{recover, ask, commit}
-use Rattle.rules.specs.Recover.{low_of, high_of, restored, targets_of, status_of, restored_to, recovered, answer_of, beside, committed}
+use Rattle.rules.specs.Recover.{restored, targets_of, status_of, restored_to, recovered, answer_of, beside, committed}
 use Rattle.rules.specs.Step.{is_nothing, node_down, asking, asked_line, committed_by, committed_line, effect, line_refusal}
-use Rattle.rules.proofs.Lists.Options.{nothing_none, something_there}
 use Rattle.rules.proofs.Lists.Members.{In, here, there, in_at}
 use Rattle.rules.proofs.Ending.Targets.{triples_at_in, targets_from}
 use Rattle.rules.proofs.Invariant.Inv.{Enters}
@@ -27,27 +29,29 @@ use Rattle.rules.proofs.Undamaged.CrashSound.{stopped_marked}
 use Rattle.rules.proofs.Undamaged.LowLaws.{low_within}
 use Rattle.rules.proofs.Undamaged.Undamaged.{undamaged_sound}
 use Rattle.rules.proofs.Restart.AskCommit.{asks_as_recover}
+use Rattle.slots.specs.declared.Goal.{Goal}
+use Rattle.slots.specs.Slots.{target_is}
+use Rattle.node_fields.specs.declared.Kept.{Kept}
+use Rattle.node_fields.specs.Kept.{kept_is}
 use Rattle.state.specs.Fits.{LineFits, EntryFits, OriginFits}
 use Rattle.state.specs.Changes.{with_targets, with_asked}
 use Rattle.state.specs.State.{line_of}
 use Rattle.state.proofs.InPlace.{line-plan}
 use Rattle.buffer.specs.Holds.{Holds, AtNode, NodeNow, Undamaged, Did}
 use Rattle.buffer.proofs.HoldsLaws.{node_fits, node_then, node-after, node_log_counted}
-use Rattle.buffer.specs.Nothing.{no_target}
-use Rattle.buffer.specs.Rows.{Rows}
-use Rattle.recover.specs.Found.{target_at, targets_in, LogsCounted, Found, no_outcome}
-use Rattle.recover.proofs.ListedLaws.{answer_four}
-use Rattle.recover.proofs.TargetLaws.{targets_length, targets_at_lem}
-use Rattle.restart.specs.declared.Outcome.{Outcome}
+use Rattle.recover.specs.declared.told.Found.{Found}
+use Rattle.recover.specs.Finds.{Finds}
+use Rattle.recover.specs.Found.{targets_in, TooMany, LogsCounted, no_outcome}
+use Rattle.recover.proofs.TargetLaws.{targets_length, target_at}
 use Rattle.restart.specs.Answers.{first_of, restart_asked}
-use Rattle.restart.specs.Finds.{Restores, Finds, KeptRows}
+use Rattle.restart.specs.Finds.{Restores, Restoring, KeptRows}
 use Rattle.restart.specs.Lanes.{with_entry, marked, restored_lanes}
 use Rattle.restart.specs.Nodes.{settled, Fillable}
 use Rattle.restart.proofs.FitsLaws.{ordered_of, shape_of, lane_fresh}
 use Rattle.buffer.proofs.ReadyLaws.{line-nodes}
 use Rattle.restart.proofs.StateLaws.{at-node}
 use Rattle.restart.proofs.SweepLaws.{swept_same}
-use Rattle.restart.proofs.AnswerLaws.{asked_inside, asked_down, asked_number, found_number, effect-none, effect_some, commit_number, commit_asked, commit_kept}
+use Rattle.restart.proofs.AnswerLaws.{refused, asked_inside, asked_down, asked_number, found_number, effect-none, effect_some, commit_number, commit_asked, commit_kept}
 
 -- ---- lists by their members
 
@@ -97,15 +101,6 @@ module _ (l : Line) (fits : LineFits l) (standing : Standing l) (n : ℕ) (insid
       ∙ swept_same (λ c x. fresh_lane l.plan (channel_at l.plan c) (entry c)) (λ c. marked) (λ c. with_entry (get_or entries (channel_at l.plan c).sender 0)) (λ c. marked) (with_node n node l) n (ordered_of l fits) fits.lanes
       (λ c e. ap (λ (t : ℕ). with_entry t (lane_at l c)) (rows c e) ∙ entered_is c (entry c) e) (λ c e. refl)
 
--- A list of four, number by number.
-four_entries : (es : List ℕ) → length es ≡ 4 → get_or es 0 0 ∷ get_or es 1 0 ∷ get_or es 2 0 ∷ get_or es 3 0 ∷ [] ≡ es
-four_entries [] e = let no : ⊥ = omega arith in absurd no
-four_entries (a ∷ []) e = let no : ⊥ = omega arith in absurd no
-four_entries (a ∷ b ∷ []) e = let no : ⊥ = omega arith in absurd no
-four_entries (a ∷ b ∷ c ∷ []) e = let no : ⊥ = omega arith in absurd no
-four_entries (a ∷ b ∷ c ∷ d ∷ []) e = refl
-four_entries (a ∷ b ∷ c ∷ d ∷ f ∷ es) e = let no : ⊥ = omega arith in absurd no
-
 -- ---- the targets found
 
 target_small : (l : Line) → LineFits l → (n : ℕ) (u : Target) → In u (targets_of l n) → u.parent < 256
@@ -127,8 +122,8 @@ module _ (s : List ℕ) (n : ℕ) (whole : Undamaged s) where
   standing = (undamaged_sound line whole.undamaged).standing
 
   -- What is found.
-  pub asked_refused : (r : ℕ) → r ≡ restart_asked line n → r ≢ 0 → (xs entries : List ℕ) → Finds s n (record { number = r; low = 0; count = 0 }) xs entries
-  asked_refused r is d xs entries = record { number = asked_number line n r is d; restores = λ z. absurd (d z) }
+  pub asked_refused : (r : Refusal) → refusal_number r ≡ restart_asked line n → Restoring s n (Err r)
+  asked_refused r is = record { number = asked_number line n (refusal_number r) is (refused r); restores = tt }
 
   module _ (asked : restart_asked line n ≡ 0) where
     inside : n < node_count line.plan
@@ -143,131 +138,105 @@ module _ (s : List ℕ) (n : ℕ) (whole : Undamaged s) where
     stopped : (node_at line n).status ≡ down
     stopped = is_down_lem (node_at line n).status (asked_down line n asked)
 
-    module _ (xs : List ℕ) (count : ℕ) (found : Found xs count (targets_of line n)) (low : ℕ) (entries : List ℕ) where
-      abbrev ts : List Target
-      ts = targets_of line n
+    abbrev ts : List Target
+    ts = targets_of line n
 
-      number_is : (full empty : Bool) (r : ℕ) → ltb target_limit (length ts) ≡ full → is_nothing (effect line (recover n)) ≡ empty → first_of full 21 (first_of empty 24 0) ≡ r → line_refusal line (recover n) ≡ r
-      number_is full empty r a b q = found_number line n asked ∙ (λ j. first_of (a j) 21 (first_of (b j) 24 0)) ∙ q
+    number_is : (full empty : Bool) (r : ℕ) → ltb target_limit (length ts) ≡ full → is_nothing (effect line (recover n)) ≡ empty → first_of full 21 (first_of empty 24 0) ≡ r → line_refusal line (recover n) ≡ r
+    number_is full empty r a b q = found_number line n asked ∙ (λ j. first_of (a j) 21 (first_of (b j) 24 0)) ∙ q
 
-      pub find_full : 64 < count → Finds s n (record { number = 21; low = low; count = count }) xs entries
-      find_full h =
-          let full : ltb target_limit (length ts) ≡ true = lt-ltb target_limit (length ts) (omega (arith, found.holds.counted)) in
-          record { number = number_is true (is_nothing (effect line (recover n))) 21 full refl refl; restores = λ z. (let no : ⊥ = omega arith in absurd no) }
+    pub find_full : (r : Refusal) → TooMany ts r → Restoring s n (Err r)
+    find_full r (is, many) = record { number = number_is true (is_nothing (effect line (recover n))) (refusal_number r) (lt-ltb target_limit (length ts) many) refl (sym (ap refusal_number is)); restores = tt }
 
-      module _ (few : count ≤ 64) where
-        room : ltb target_limit (length ts) ≡ false
-        room = le-ltb target_limit (length ts) (omega (arith, found.holds.counted))
+    module _ (found : Found) (finds : Finds s n found) (few : length found.targets ≤ target_limit) where
+      room : ltb target_limit (length ts) ≡ false
+      room = le-ltb target_limit (length ts) (omega (arith, few, ap length finds.targets))
 
-        held : targets_in xs count ≡ ts
-        held = found.holds.held (omega arith)
+      pub find_none : no_outcome line n found.targets ≡ true → Restoring s n (Err NoPlacing)
+      find_none e =
+          let gone = effect-none line n (ordered_of line whole.holds.fits) (shape_of line whole.holds.fits) inside (ap (no_outcome line n) (sym finds.targets) ∙ e) in
+          record { number = number_is false true 24 room (ap is_nothing gone) refl; restores = tt }
 
-        pub find_none : no_outcome line n (targets_in xs count) ≡ true → Finds s n (record { number = 24; low = low; count = count }) xs entries
-        find_none e =
-            let gone = effect-none line n (ordered_of line whole.holds.fits) (shape_of line whole.holds.fits) inside (ap (no_outcome line n) (sym held) ∙ e) in
-            record { number = number_is false true 24 room (ap is_nothing gone) refl; restores = λ z. (let no : ⊥ = omega arith in absurd no) }
-
-        pub find_some : no_outcome line n (targets_in xs count) ≡ false → low ≡ low_of line n → Rows entries (restored line n) → Finds s n (record { number = 0; low = low; count = count }) xs entries
-        find_some e is rows =
-            let leads = effect_some line n (ordered_of line whole.holds.fits) (shape_of line whole.holds.fits) inside (ap (no_outcome line n) (sym held) ∙ e) in
-            record {
-              number = number_is false false 0 room (ap is_nothing leads) refl;
-              restores = λ z. record { inside = inside; stopped = stopped; leads = leads; low = is; few = few; long = found.long; targets = held; rows = rows };
-            }
+      pub find_some : no_outcome line n found.targets ≡ false → Restoring s n (Ok found)
+      find_some e =
+          let leads = effect_some line n (ordered_of line whole.holds.fits) (shape_of line whole.holds.fits) inside (ap (no_outcome line n) (sym finds.targets) ∙ e) in
+          record { number = number_is false false 0 room (ap is_nothing leads) refl; restores = record { inside = inside; stopped = stopped; leads = leads; finds = finds } }
 
   -- Recover and Ask, refused and done.
-  module _ (found : Outcome) (xs entries : List ℕ) (finds : Finds s n found xs entries) where
-    pub recover_refused : found.number ≢ 0 → Did s (recover n) s found.number
-    recover_refused d = record { number = finds.number; refused = λ q. refl; done = λ q. absurd (d q) }
+  pub recover_refused : (r : Refusal) → Restoring s n (Err r) → Did s (recover n) s (refusal_number r)
+  recover_refused r finds = record { number = finds.number; refused = λ q. refl; done = λ q. absurd (refused r q) }
 
-    pub ask_refused : found.number ≢ 0 → Did s (ask n) s found.number
-    ask_refused d = record { number = asks_as_recover line n ∙ finds.number; refused = λ q. refl; done = λ q. absurd (d q) }
+  pub ask_refused : (r : Refusal) → Restoring s n (Err r) → Did s (ask n) s (refusal_number r)
+  ask_refused r finds = record { number = asks_as_recover line n ∙ finds.number; refused = λ q. refl; done = λ q. absurd (refused r q) }
 
-    module _ (zero_is : found.number ≡ 0) where
-      restores : Restores s n found xs entries
-      restores = finds.restores zero_is
+  module _ (found : Found) (restoring : Restoring s n (Ok found)) where
+    restores : Restores s n found
+    restores = restoring.restores
 
-      pub found_on : AtNode s n
-      found_on = at-node whole.holds n restores.inside
+    pub found_on : AtNode s n
+    found_on = at-node whole.holds n restores.inside
 
-      pub found_four : (es : List ℕ) → es ≡ (answer_of line n).entries → get_or es 0 0 ∷ get_or es 1 0 ∷ get_or es 2 0 ∷ get_or es 3 0 ∷ [] ≡ (answer_of line n).entries
-      found_four es e = four_entries es (ap length e ∙ answer_four s n whole.holds.ready (omega (arith, restores.inside, line-nodes s))) ∙ e
+    pub found_inside : n < plan_nodes s
+    found_inside = omega (arith, restores.inside, line-nodes s)
 
-      pub found_inside : n < plan_nodes s
-      found_inside = omega (arith, restores.inside, line-nodes s)
+    module _ (gs : List Goal) (is : targets_in gs ≡ found.targets) where
+      all_found : targets_in gs ≡ targets_of line n
+      all_found = is ∙ restores.finds.targets
 
       -- The targets that it had are gone before those found are written.
-      pub found_fillable : {t : List ℕ} → NodeNow s n (with_targets []) t → Fillable t n xs found.count
-      found_fillable {t} empty =
+      pub found_fillable : length gs ≤ 64 → {t : List ℕ} → NodeNow s n (with_targets []) t → Fillable t n gs
+      found_fillable few empty =
           record {
             on = empty.on;
             none = ap (λ (x : Node). x.targets) (node-after found_on (with_targets [] (node_at line n)) empty.holds);
-            long = restores.long;
-            few = restores.few;
-            parents = λ i h.
-                (let us = targets_of line n in
-                let same : get_or us i no_target ≡ target_at xs i = ap (λ (vs : List Target). get_or vs i no_target) (sym restores.targets) ∙ targets_at_lem xs found.count i no_target h in
-                let among : i < length us = omega (arith, h, sym (ap length restores.targets) ∙ targets_length xs found.count) in
-                subst (λ (u : Target). u.parent < 256) same (target_small line whole.holds.fits n (get_or us i no_target) (in_at us i no_target among)));
+            few = few;
+            parents = λ i d h.
+                (let among : i < length (targets_in gs) = omega (arith, h, targets_length gs) in
+                subst (λ (u : Target). u.parent < 256) (target_at gs i d) (target_small line whole.holds.fits n (get_or (targets_in gs) i (target_is d)) (subst (In (get_or (targets_in gs) i (target_is d))) all_found (in_at (targets_in gs) i (target_is d) among))));
           }
 
-      module _ {t : List ℕ} (targets : NodeNow s n (with_targets (targets_in xs found.count)) t) where
-        pub recover_done : {u v : List ℕ} → NodeNow t n (settled found.low) u → Holds v (restored_lanes n entries (line_of u)) → Did s (recover n) v 0
+      module _ {t : List ℕ} (targets : NodeNow s n (with_targets (targets_in gs)) t) where
+        pub recover_done : {u v : List ℕ} → NodeNow t n (settled found.low) u → Holds v (restored_lanes n found.entries (line_of u)) → Did s (recover n) v 0
         unfolding recovered
         recover_done {v = v} node lanes =
             let both = node_then found_on targets node in
             let few : node_count line.plan ≤ 12 = omega (arith, whole.holds.ready.nodes, line-nodes s) in
             let ordered = ordered_of line whole.holds.fits in
-            let same = ap (restored_lanes n entries) both.holds.same
-            ∙ line_is line whole.holds.fits standing n restores.inside restores.stopped found.low (targets_in xs found.count) (λ (c : ℕ). restored line n (channel_at line.plan c).sender) entries
-            (λ c e. restores.rows.each (channel_at line.plan c).sender (omega (arith, few, ordered.forward c e.0, ordered.inside c e.0)))
-            ∙ (λ j. restored_to (restores.low j) (restores.targets j) (λ (c : ℕ). restored line n (channel_at line.plan c).sender) n line) in
-            record { number = finds.number ∙ zero_is; refused = λ q. absurd (q refl); done = λ q. (recovered n line, (restores.leads, subst (Holds v) same lanes)) }
+            let same = ap (restored_lanes n found.entries) both.holds.same
+            ∙ line_is line whole.holds.fits standing n restores.inside restores.stopped found.low (targets_in gs) (λ (c : ℕ). restored line n (channel_at line.plan c).sender) found.entries
+            (λ c e. restores.finds.rows.each (channel_at line.plan c).sender (omega (arith, few, ordered.forward c e.0, ordered.inside c e.0)))
+            ∙ (λ j. restored_to (restores.finds.low j) (all_found j) (λ (c : ℕ). restored line n (channel_at line.plan c).sender) n line) in
+            record { number = restoring.number; refused = λ q. absurd (q refl); done = λ q. (recovered n line, (restores.leads, subst (Holds v) same lanes)) }
 
-        pub ask_done : {u : List ℕ} (high : ℕ) (es : List ℕ) → high ≡ high_of line n → es ≡ (answer_of line n).entries → NodeNow t n (with_asked (some (record { low = found.low; high = high; entries = es }))) u → Did s (ask n) u 0
-        unfolding effect asked_line asking answer_of
-        ask_done {u} high es is entries-are kept =
-            let both = node_then found_on targets kept in
+        pub ask_done : {u : List ℕ} (kept : Kept) → kept_is kept ≡ answer_of line n → NodeNow t n (with_asked (some (kept_is kept))) u → Did s (ask n) u 0
+        unfolding effect asked_line asking
+        ask_done {u} kept is now =
+            let both = node_then found_on targets now in
             let x = node_at line n in
             let node : Asked → List Target → Node = λ a vs. record { status = x.status; crashed = x.crashed; time = x.time; log = x.log; held = x.held; targets = vs; asked = some a } in
-            let same : node (record { low = found.low; high = high; entries = es }) (targets_in xs found.count) ≡ asking (answer_of line n) (targets_of line n) x = λ j. node (record { low = restores.low j; high = is j; entries = entries-are j }) (restores.targets j) in
+            let same : node (kept_is kept) (targets_in gs) ≡ asking (answer_of line n) (targets_of line n) x = λ j. node (is j) (all_found j) in
             record {
-              number = asks_as_recover line n ∙ finds.number ∙ zero_is;
+              number = asks_as_recover line n ∙ restoring.number;
               refused = λ q. absurd (q refl);
               done = λ q. (asked_line n line, (ap (map (λ (k : Line). asked_line n line)) restores.leads, subst (λ (y : Node). Holds u (with_node n y line)) same both.holds));
             }
 
   -- Commit.
-  pub commit_refused : (r : ℕ) → r ≡ restart_asked line n → r ≢ 0 → Did s (commit n) s r
-  commit_refused r is d = record { number = commit_number line n ∙ commit_asked line n r is d; refused = λ q. refl; done = λ q. absurd (d q) }
+  pub commit_refused : (r : Refusal) → refusal_number r ≡ restart_asked line n → Did s (commit n) s (refusal_number r)
+  commit_refused r is = record { number = commit_number line n ∙ commit_asked line n (refusal_number r) is (refused r); refused = λ q. refl; done = λ q. absurd (refused r q) }
 
   module _ (asked : restart_asked line n ≡ 0) where
-    commit_none : (node_at line n).asked ≡ none → Did s (commit n) s 27
-    commit_none e =
-        record { number = commit_number line n ∙ commit_kept line n asked ∙ ap (λ (o : Option Asked). first_of (is_nothing o) 27 0) e; refused = λ q. refl; done = λ q. (let no : ⊥ = omega arith in absurd no) }
+    pub commit_unkept : none ≡ (node_at line n).asked → Did s (commit n) s 27
+    commit_unkept e =
+        record { number = commit_number line n ∙ commit_kept line n asked ∙ ap (λ (o : Option Asked). first_of (is_nothing o) 27 0) (sym e); refused = λ q. refl; done = λ q. (let no : ⊥ = omega arith in absurd no) }
 
-    commit_done : (a : Asked) → (node_at line n).asked ≡ some a → (low : ℕ) → low ≡ a.low → (entries : List ℕ) → KeptRows (plan_of s) n a entries
-        → {t u : List ℕ} → NodeNow s n (settled low) t → Holds u (restored_lanes n entries (line_of t)) → Did s (commit n) u 0
+    pub commit_done : (a : Asked) → some a ≡ (node_at line n).asked → (entries : List ℕ) → KeptRows (plan_of s) n a entries → {t u : List ℕ} → NodeNow s n (settled a.low) t → Holds u (restored_lanes n entries (line_of t)) → Did s (commit n) u 0
     unfolding effect committed_line committed
-    commit_done a e low is entries rows {u = u} node lanes =
+    commit_done a e entries rows {u = u} node lanes =
         let x = node_at line n in
-        let same_plan = line-plan s in
         let same = ap (restored_lanes n entries) node.holds.same
-        ∙ line_is line whole.holds.fits standing n (inside asked) (stopped asked) low x.targets (beside (entering line.plan n) a.entries) entries (rw (line-plan s) (λ c h. rows c h.0 h.1))
-        ∙ ap (λ (t : ℕ). restored_to t x.targets (beside (entering line.plan n) a.entries) n line) is in
+        ∙ line_is line whole.holds.fits standing n (inside asked) (stopped asked) a.low x.targets (beside (entering line.plan n) a.entries) entries (rw (line-plan s) (λ c h. rows c h.0 h.1)) in
         record {
-          number = commit_number line n ∙ commit_kept line n asked ∙ ap (λ (o : Option Asked). first_of (is_nothing o) 27 0) e;
+          number = commit_number line n ∙ commit_kept line n asked ∙ ap (λ (o : Option Asked). first_of (is_nothing o) 27 0) (sym e);
           refused = λ q. absurd (q refl);
-          done = λ q. (committed n a line, (ap some (ap (λ (o : Option Asked). committed_by n o line) e), subst (Holds u) same lanes));
+          done = λ q. (committed n a line, (ap some (ap (λ (o : Option Asked). committed_by n o line) (sym e)), subst (Holds u) same lanes));
         }
-
-    -- By the test whether an answer is kept.
-    module _ (t : Bool) (is : t ≡ not (is_nothing (node_at line n).asked)) where
-      pub commit_unkept : not t ≡ true → Did s (commit n) s 27
-      commit_unkept e = commit_none (nothing_none (node_at line n).asked (not-false _ (sym is ∙ not-true t e)))
-
-      pub commit_done_by : not t ≡ false → (low : ℕ) → ((a : Asked) → (node_at line n).asked ≡ some a → low ≡ a.low) → (entries : List ℕ) → ((a : Asked) → (node_at line n).asked ≡ some a → KeptRows (plan_of s) n a entries)
-          → {v u : List ℕ} → NodeNow s n (settled low) v → Holds u (restored_lanes n entries (line_of v)) → Did s (commit n) u 0
-      commit_done_by e low low_is entries rows =
-          let (a, q) = something_there (node_at line n).asked (not-true _ (sym is ∙ not-false t e)) in
-          commit_done a q low (low_is a q) entries (rows a q)

@@ -11,6 +11,10 @@ first_of t n rest = elim t [ true ↦ n | false ↦ rest ]
 abbrev pub is_end : Line → ℕ → Bool
 is_end l n = is_source l.plan n || is_sink l.plan n
 
+-- Of 13 and 14: of a node that is to be crashed or restarted.
+abbrev pub reach_answer : Line → ℕ → ℕ
+reach_answer l n = first_of (leb (node_count l.plan) n) 13 (first_of (is_end l n) 14 0)
+
 abbrev pub crash_answer : Line → ℕ → ℕ
 crash_answer l n = first_of (leb (node_count l.plan) n) 13 (first_of (is_end l n) 14 (first_of (node_down l n) 15 (first_of (neighbour_crashed l n) 16 0)))
 

@@ -1,30 +1,29 @@
 -- What Recover finds of a node, and the rows of a kept answer.
-use Rattle.std.specs.Prelude.{ℕ, ◌≤◌, ◌<◌, ◌≡◌, List, length, get_or}
+use Rattle.std.specs.Prelude.{ℕ, ◌<◌, ◌≡◌, List, get_or, IfOk}
+use Rattle.std.specs.declared.result.Result.{Result}
 use Rattle.std.proofs.Math.Option.{some}
 use Rattle.plan.specs.Plan.{Plan, node_count, channel_count, channel_at, entering}
-use Rattle.rules.specs.Line.{target_limit, down, Asked, node_at}
+use Rattle.rules.specs.Line.{down, Asked, node_at}
 use Rattle.rules.specs.Frame.{recover}
-use Rattle.rules.specs.Recover.{low_of, restored, targets_of, recovered, beside}
+use Rattle.rules.specs.Recover.{recovered, beside}
 use Rattle.rules.specs.Step.{line_refusal, effect}
 use Rattle.state.specs.State.{line_of}
-use Rattle.buffer.specs.Rows.{Rows}
-use Rattle.recover.specs.Found.{slots_long, targets_in}
-use Rattle.restart.specs.declared.Outcome.{Outcome}
+use Rattle.recover.specs.declared.told.Found.{Found}
+use Rattle.recover.specs.Finds.{Finds}
+use Rattle.answers.specs.declared.Refusal.{Refusal}
+use Rattle.answers.specs.Number.{number}
 
--- Not refused: the node is down, and the numbers are those that restore it.
-pub record Restores (s : List ℕ) (n : ℕ) (found : Outcome) (xs entries : List ℕ) : Type 0 where
+-- The node is down, and what is found are the numbers that restore it.
+pub record Restores (s : List ℕ) (n : ℕ) (found : Found) : Type 0 where
   pub inside : n < node_count (line_of s).plan
   pub stopped : (node_at (line_of s) n).status ≡ down
   pub leads : effect (line_of s) (recover n) ≡ some (recovered n (line_of s))
-  pub low : found.low ≡ low_of (line_of s) n
-  pub few : found.count ≤ target_limit
-  pub long : length xs ≡ slots_long
-  pub targets : targets_in xs found.count ≡ targets_of (line_of s) n
-  pub rows : Rows entries (restored (line_of s) n)
+  pub finds : Finds s n found
 
-pub record Finds (s : List ℕ) (n : ℕ) (found : Outcome) (xs entries : List ℕ) : Type 0 where
-  pub number : line_refusal (line_of s) (recover n) ≡ found.number
-  pub restores : found.number ≡ 0 → Restores s n found xs entries
+-- So it is, or Recover is refused with this number.
+pub record Restoring (s : List ℕ) (n : ℕ) (r : Result Found Refusal) : Type 0 where
+  pub number : line_refusal (line_of s) (recover n) ≡ number r
+  pub restores : IfOk r (Restores s n)
 
 -- The entries of a kept answer, by the parents' numbers.
 abbrev pub KeptRows : Plan → ℕ → Asked → List ℕ → Type 0

@@ -1,11 +1,11 @@
 -- The node that Crash empties, and the one that Recover and Commit restore.
-use Rattle.std.specs.Prelude.{ℕ, ◌+◌, ◌*◌, ◌≤◌, ◌<◌, ◌≡◌, true, List, [], length, get_or}
+use Rattle.std.specs.Prelude.{ℕ, ◌≤◌, ◌<◌, ◌≡◌, true, List, [], length, get_or}
 use Rattle.std.proofs.Math.Option.{none}
 use Rattle.rules.specs.Line.{target_limit, down, Node, node_at}
 use Rattle.rules.specs.Recover.{status_of}
 use Rattle.state.specs.State.{line_of}
 use Rattle.buffer.specs.Holds.{AtNode}
-use Rattle.recover.specs.Found.{slots_long}
+use Rattle.slots.specs.declared.Goal.{Goal}
 
 abbrev pub emptied : Node → Node
 emptied x = record { status = down; crashed = true; time = 0; log = []; held = []; targets = []; asked = none }
@@ -15,9 +15,8 @@ abbrev pub settled : ℕ → Node → Node
 settled low x = record { status = status_of x.targets; crashed = x.crashed; time = low; log = x.log; held = x.held; targets = x.targets; asked = none }
 
 -- A node that has no targets, and those that are to be written.
-pub record Fillable (s : List ℕ) (n : ℕ) (xs : List ℕ) (count : ℕ) : Type 0 where
+pub record Fillable (s : List ℕ) (n : ℕ) (targets : List Goal) : Type 0 where
   pub on : AtNode s n
   pub none : (node_at (line_of s) n).targets ≡ []
-  pub long : length xs ≡ slots_long
-  pub few : count ≤ target_limit
-  pub parents : (i : ℕ) → i < count → get_or xs (3 * i + 1) 0 < 256
+  pub few : length targets ≤ target_limit
+  pub parents : (i : ℕ) (d : Goal) → i < length targets → (get_or targets i d).parent < 256

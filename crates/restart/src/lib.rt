@@ -1,26 +1,32 @@
 // Crash, Recover, Ask and Commit on the bytes of a state (document 01, kinds 4 and 5; document 02, 2026-07). Nothing is written before the answer is known to be 0: a refusal leaves the state as it came.
 #![tactic(auto)]
 
-ghost use Rattle.std.specs.Prelude.{◌≡◌, ◌≤◌, ◌<◌, length};
-ghost use Rattle.std.proofs.Math.Option.{some};
+ghost use Rattle.std.specs.Prelude.{◌≡◌, ◌<◌, length};
+ghost use Rattle.answers.specs.Number.{number};
 ghost use Rattle.plan.specs.Plan.{plan_of, plan_nodes};
-ghost use Rattle.rules.specs.Line.{Asked, node_at};
+ghost use Rattle.rules.specs.Line.{up, replay};
 ghost use Rattle.rules.specs.Step.{neighbour_crashed};
 ghost use Rattle.rules.specs.Frame.{crash, recover, ask, commit};
 ghost use Rattle.state.specs.Changes.{with_targets};
 ghost use Rattle.state.specs.State.{line_of};
 ghost use Rattle.buffer.specs.Ready.{Ready, OnChannel};
 ghost use Rattle.buffer.specs.Holds.{Holds, AtNode, AtLane, NodeNow, LaneNow, Undamaged, Did};
-ghost use Rattle.buffer.specs.Rows.{rows_long, Rows};
-ghost use Rattle.recover.specs.Found.{slots_long, targets_in};
-ghost use Rattle.restart.specs.Answers.{is_end, beside_on, crash_answer, restart_asked};
-ghost use Rattle.restart.specs.Finds.{Finds, KeptRows};
+ghost use Rattle.buffer.specs.Rows.{rows_long};
+ghost use Rattle.buffer.specs.Status.{status_is};
+ghost use Rattle.node_fields.specs.Kept.{kept_is};
+ghost use Rattle.recover.specs.Found.{targets_in};
+ghost use Rattle.restart.specs.Answers.{is_end, beside_on, reach_answer, crash_answer, restart_asked};
+ghost use Rattle.restart.specs.Finds.{Restoring, KeptRows};
 ghost use Rattle.restart.specs.Lanes.{wiped, cleared, with_entry, marked, crashed_on, restored_on, crashed_lanes, restored_lanes};
 ghost use Rattle.restart.specs.Nodes.{emptied, settled, Fillable};
 
-use buffer::{Line, look};
-
-const MOST: usize = Line::TARGET_LIMIT as usize;
+use answers::Refusal;
+use buffer::look;
+use buffer::status::Status;
+use node_fields::Kept;
+use recover::told;
+use recover::told::Found;
+use slots::Goal;
 
 // ---- what is asked
 
@@ -46,50 +52,50 @@ fn beside_crashed(s: &[u8], n: usize) -> bool
     requires { Ready s.now }
     ensures { result ≡ neighbour_crashed (line_of s.now) n }
 {
-    let m = look::channel_count(s);
     let mut found = false;
-    let mut b: usize = 0;
-    while b < m {
-        found = found | beside_on(s, n, b);
-        b += 1;
+    for b in 0..look::channel_count(s) {
+        found |= beside_on(s, n, b);
     }
     found
 }
 
-fn crash_refusal(s: &[u8], n: usize) -> u32
+// Of a node that is to be crashed or restarted: it is there, and no source or sink.
+fn may_reach(s: &[u8], n: usize) -> Result<(), Refusal>
     requires { Ready s.now }
-    ensures { result ≡ crash_answer (line_of s.now) n }
+    ensures { number result ≡ reach_answer (line_of s.now) n }
 {
     if look::node_count(s) <= n {
-        return 13;
+        return Err(Refusal::NoSuchPlace);
     }
     if is_end(s, n) {
-        return 14;
+        return Err(Refusal::WrongPlace);
     }
-    if look::is_down(s, n) {
-        return 15;
-    }
-    if beside_crashed(s, n) {
-        return 16;
-    }
-    0
+    Ok(())
 }
 
-// Of a node that is to be restarted.
-fn restart_refusal(s: &[u8], n: usize) -> u32
+fn may_crash(s: &[u8], n: usize) -> Result<(), Refusal>
     requires { Ready s.now }
-    ensures { result ≡ restart_asked (line_of s.now) n }
+    ensures { number result ≡ crash_answer (line_of s.now) n }
 {
-    if look::node_count(s) <= n {
-        return 13;
+    may_reach(s, n)?;
+    if look::is_down(s, n) {
+        return Err(Refusal::WrongStatus);
     }
-    if is_end(s, n) {
-        return 14;
+    if beside_crashed(s, n) {
+        return Err(Refusal::CrashedNeighbour);
     }
+    Ok(())
+}
+
+fn may_restart(s: &[u8], n: usize) -> Result<(), Refusal>
+    requires { Ready s.now }
+    ensures { number result ≡ restart_asked (line_of s.now) n }
+{
+    may_reach(s, n)?;
     if !look::is_down(s, n) {
-        return 15;
+        return Err(Refusal::WrongStatus);
     }
-    0
+    Ok(())
 }
 
 // ---- Crash
@@ -99,7 +105,7 @@ fn empty_node(s: &mut [u8], n: usize)
     requires { AtNode s.old n }
     ensures { NodeNow s.old n emptied s.new }
 {
-    node_fields::set_status(s, n, 1);
+    node_fields::set_status(s, n, Status::Down);
     node_fields::mark_crashed(s, n);
     node_fields::set_time(s, n, 0);
     node_fields::clear_log(s, n);
@@ -141,95 +147,61 @@ fn crash_channel(s: &mut [u8], n: usize, b: usize)
     }
 }
 
+// This walk and the one that restores stay two: one over a closure would have to promise it AtLane in each state on the way, in more lines than both.
 fn crash_channels(s: &mut [u8], n: usize)
     requires { Holds s.old (line_of s.old) }
     ensures { Holds s.new (crashed_lanes n (line_of s.old)) }
 {
-    let m = look::channel_count(s);
-    let mut b: usize = 0;
-    while b < m {
+    for b in 0..look::channel_count(s) {
         crash_channel(s, n, b);
-        b += 1;
     }
 }
 
 // Kind 4.
-pub fn crash(s: &mut [u8], n: usize) -> u32
+pub fn crash(s: &mut [u8], n: usize) -> Result<(), Refusal>
     requires { Undamaged s.old }
-    ensures { Did s.old (crash n) s.new result }
+    ensures { Did s.old (crash n) s.new (number result) }
 {
-    let refusal = crash_refusal(s, n);
-    if refusal != 0 {
-        return refusal;
-    }
+    may_crash(s, n)?;
     empty_node(s, n);
     crash_channels(s, n);
-    0
+    Ok(())
 }
 
 // ---- Recover, Ask and Commit
 
-// What Recover finds of a node: the number that it answers, and where it is 0 low and how many targets.
-#[derive(Clone, Copy)]
-pub struct Outcome {
-    pub number: u32,
-    pub low: u32,
-    pub count: usize,
-}
-
-// It leaves the targets in xs and the restored entries, by parent, in rows that are 0 before.
-fn find(s: &[u8], n: usize, xs: &mut [u32], entries: &mut [u32; 12]) -> Outcome
-    requires { Undamaged s.now × (length xs.old ≡ slots_long) × Rows entries.old (λ q. 0) }
-    ensures { Finds s.now n result xs.new entries.new }
+// What Recover finds of a node, if it isn't refused.
+fn find(s: &[u8], n: usize) -> Result<Found, Refusal>
+    requires { Undamaged s.now }
+    ensures { Restoring s.now n result }
 {
-    let refusal = restart_refusal(s, n);
-    if refusal != 0 {
-        return Outcome {
-            number: refusal,
-            low: 0,
-            count: 0,
-        };
+    may_restart(s, n)?;
+    let found = told::find(s, n)?;
+    if found.has_no_outcome(s, n) {
+        return Err(Refusal::NoPlacing);
     }
-    let low = recover::told::low_of(s, n);
-    let count = recover::told::told_of(s, n, low, xs, entries);
-    if MOST < count {
-        return Outcome {
-            number: 21,
-            low,
-            count,
-        };
-    }
-    if recover::rows::no_outcome(s, n, xs, count, entries) {
-        return Outcome {
-            number: 24,
-            low,
-            count,
-        };
-    }
-    Outcome {
-        number: 0,
-        low,
-        count,
-    }
+    Ok(found)
 }
 
 // The targets found, into a node that has none.
-fn put_targets(s: &mut [u8], n: usize, xs: &[u32], count: usize)
-    requires { Fillable s.old n xs.now count }
-    ensures { NodeNow s.old n (with_targets (targets_in xs.now count)) s.new }
+fn put_targets(s: &mut [u8], n: usize, targets: &[Goal])
+    requires { Fillable s.old n targets.now }
+    ensures { NodeNow s.old n (with_targets (targets_in targets.now)) s.new }
 {
-    let mut i: usize = 0;
-    while i < count {
-        node_fields::append_target(s, n, recover::goals::goal_at(xs, i));
-        i += 1;
+    for g in targets {
+        node_fields::append_target(s, n, *g);
     }
 }
 
 // "No targets: B is up. Else it replays."
-fn status_with(count: usize) -> u8
-    ensures { (result ≤ 2) × (count ≡ 0 → result ≡ 0) × (0 < count → result ≡ 2) }
+fn status_with(count: usize) -> Status
+    ensures { (count ≡ 0 → status_is result ≡ up) × (0 < count → status_is result ≡ replay) }
 {
-    if count == 0 { 0 } else { 2 }
+    if count == 0 {
+        Status::Up
+    } else {
+        Status::Replaying
+    }
 }
 
 // "B's time is low", its status goes by its targets, and it keeps no answer.
@@ -279,86 +251,60 @@ fn restore_channels(s: &mut [u8], n: usize, entries: &[u32; 12])
     requires { Holds s.old (line_of s.old) × (length entries.now ≡ rows_long) }
     ensures { Holds s.new (restored_lanes n entries.now (line_of s.old)) }
 {
-    let m = look::channel_count(s);
-    let mut b: usize = 0;
-    while b < m {
+    for b in 0..look::channel_count(s) {
         restore_channel(s, n, b, entries);
-        b += 1;
     }
 }
 
 // Kind 5.
-pub fn recover(s: &mut [u8], n: usize) -> u32
+pub fn recover(s: &mut [u8], n: usize) -> Result<(), Refusal>
     requires { Undamaged s.old }
-    ensures { Did s.old (recover n) s.new result }
+    ensures { Did s.old (recover n) s.new (number result) }
 {
-    let mut xs = [0u32; 3 * MOST];
-    let mut entries: [u32; 12] = [0; 12];
-    let found = find(s, n, &mut xs, &mut entries);
-    if found.number != 0 {
-        return found.number;
-    }
+    let found = find(s, n)?;
     node_fields::clear_targets(s, n);
-    put_targets(s, n, &xs, found.count);
+    put_targets(s, n, found.targets.all());
     settle(s, n, found.low);
-    restore_channels(s, n, &entries);
-    0
+    restore_channels(s, n, &found.entries);
+    Ok(())
 }
 
 // Kind 7: "works out what Recover would and keeps it with the down node".
-pub fn ask(s: &mut [u8], n: usize) -> u32
+pub fn ask(s: &mut [u8], n: usize) -> Result<(), Refusal>
     requires { Undamaged s.old }
-    ensures { Did s.old (ask n) s.new result }
+    ensures { Did s.old (ask n) s.new (number result) }
 {
-    let mut xs = [0u32; 3 * MOST];
-    let mut entries: [u32; 12] = [0; 12];
-    let answer = find(s, n, &mut xs, &mut entries);
-    if answer.number != 0 {
-        return answer.number;
-    }
-    let high = recover::told::high_of(s, n);
-    let mut parents: [u32; 4] = [0; 4];
-    recover::rows::listed(s, n, &entries, &mut parents);
+    let answer = find(s, n)?;
+    let kept = answer.answer(s, n);
     node_fields::clear_targets(s, n);
-    put_targets(s, n, &xs, answer.count);
-    node_fields::set_kept(
-        s, n, answer.low, high, parents[0], parents[1], parents[2], parents[3],
-    );
-    0
+    put_targets(s, n, answer.targets.all());
+    node_fields::set_kept(s, n, kept);
+    Ok(())
 }
 
 // The kept entry of each parent, by the parent's number.
-fn kept_entries(s: &[u8], n: usize, entries: &mut [u32; 12])
-    requires { Ready s.now × (n < plan_nodes s.now) × (length entries.old ≡ rows_long) }
-    ensures { (length entries.new ≡ rows_long) × ((a : Asked) → (node_at (line_of s.now) n).asked ≡ some a → KeptRows (plan_of s.now) n a entries.new) }
+fn kept_entries(s: &[u8], n: usize, kept: Kept) -> [u32; 12]
+    requires { Ready s.now × (n < plan_nodes s.now) }
+    ensures { (length result ≡ rows_long) × KeptRows (plan_of s.now) n (kept_is kept) result }
 {
-    let mut left = plan::masks::entering_mask(s, n);
-    let mut place: usize = 0;
-    while left != 0 {
-        let b = plan::masks::mask_next(left);
-        let parent = look::sender_of(s, b as usize);
-        entries[parent] = node_fields::kept_number(s, n, 2 + place);
-        left = plan::masks::without(left, b);
-        place += 1;
+    let mut entries: [u32; 12] = [0; 12];
+    for (place, b) in plan::masks::entering(s, n).enumerate() {
+        entries[look::sender_of(s, b)] = kept.entries[place];
     }
+    entries
 }
 
 // Kind 8: "applies it". Nothing is worked out.
-pub fn commit(s: &mut [u8], n: usize) -> u32
+pub fn commit(s: &mut [u8], n: usize) -> Result<(), Refusal>
     requires { Undamaged s.old }
-    ensures { Did s.old (commit n) s.new result }
+    ensures { Did s.old (commit n) s.new (number result) }
 {
-    let refusal = restart_refusal(s, n);
-    if refusal != 0 {
-        return refusal;
-    }
-    if !node_fields::has_kept(s, n) {
-        return 27;
-    }
-    let mut kept: [u32; 12] = [0; 12];
-    kept_entries(s, n, &mut kept);
-    let low = node_fields::kept_number(s, n, 0);
-    settle(s, n, low);
-    restore_channels(s, n, &kept);
-    0
+    may_restart(s, n)?;
+    let Some(kept) = node_fields::kept_of(s, n) else {
+        return Err(Refusal::NothingKept);
+    };
+    let entries = kept_entries(s, n, kept);
+    settle(s, n, kept.low);
+    restore_channels(s, n, &entries);
+    Ok(())
 }

@@ -1,15 +1,12 @@
 -- What a read, the opening and a turn leave, by their cases.
-use Rattle.std.proofs.Common.{ℕ, ◌+◌, ◌-◌, ◌≤◌, ◌≡◌, true, refl, List, [], ◌++◌, length, take, drop, sym, subst, arith, true≢false, length-take, length-drop, take_at}
+use Rattle.std.proofs.Common.{ℕ, zero, suc, Ok, ◌≢◌, ◌+◌, ◌-◌, ◌≤◌, ◌≡◌, refl, List, [], ◌++◌, length, take, drop, sym, subst, arith, length-take, length-drop, take_at}
 use Rattle.std.proofs.Math.Seq.{length-take-le}
 use Rattle.stream.specs.declared.Phase.{Phase}
-use Rattle.stream.specs.declared.Phase.TheVariants.{Planning, Framing, Ended}
+use Rattle.stream.specs.declared.Phase.TheVariants.{Planning}
 use Rattle.stream.specs.declared.Reader.{Reader}
 use Rattle.stream.specs.Reading.{taken, closed}
 use Rattle.stream.specs.Reader.{window_size, reading_of, Holding, Gave, Finished}
-use Rattle.sheet.specs.declared.Got.{Got}
-use Rattle.sheet.specs.declared.Got.TheVariants.{Bytes, End}
-use Rattle.sheet.specs.declared.Next.{Next}
-use Rattle.sheet.specs.Turned.{Within, ReadBehind, Between, Went, is_ended, LastTurn, Turned}
+use Rattle.sheet.specs.Turned.{got_of, Got, Bytes, End, Within, ReadBehind, Between, Went, LastTurn}
 
 -- What is read behind the first bytes leaves them.
 pub kept_front : (w : List ℕ) (have : ℕ) → have ≤ length w → (x : List ℕ) → take have (take have w ++ x) ≡ take have w
@@ -24,6 +21,13 @@ bytes_within n have e h = subst (λ (g : Got). Within g have) e h
 
 pub was_got : {g h : Got} {w : List ℕ} {have : ℕ} {window : List ℕ} → g ≡ h → ReadBehind w have window g → ReadBehind w have window h
 was_got {w = w} {have = have} {window = window} e read = subst (λ (x : Got). ReadBehind w have window x) e read
+
+pub some_got : (n : ℕ) → n ≢ 0 → got_of (Ok n) ≡ Bytes n
+some_got zero h = absurd (h refl)
+some_got (suc n) h = refl
+
+pub none_got : {n : ℕ} → n ≡ 0 → got_of (Ok n) ≡ End
+none_got e = rw e
 
 -- What a read gave, handed on.
 module _ (r : Reader) {s w o came state out : List ℕ} {left : ℕ} where
@@ -45,15 +49,6 @@ module _ (r : Reader) {s w o came state out : List ℕ} {left : ℕ} where
         read = was_got e read;
         ended = record { kept = read.kept; asked = record { holding = can.holding; room = omega (arith, can.room); few = omega (arith, can.few) }; finished = finished };
       }
-
-pub is_ended_lem : (p : Phase) → is_ended p ≡ true → p ≡ Ended
-is_ended_lem Planning e = absurd (true≢false (sym e))
-is_ended_lem Framing e = absurd (true≢false (sym e))
-is_ended_lem Ended e = refl
-
--- What a turn left, by what it answered.
-pub turned_as : {t : Next} (q : Reader) (s w o : List ℕ) (left : ℕ) (n : Next) (state window out : List ℕ) → t ≡ n → Turned q s w o left t state window out → Turned q s w o left n state window out
-turned_as q s w o left n state window out e h = subst (λ (t : Next). Turned q s w o left t state window out) e h
 
 -- Nothing is read yet.
 pub first_holding : (p : Phase) (k : ℕ) (state : List ℕ) → p ≡ Planning → k ≡ 1 → Holding p k state

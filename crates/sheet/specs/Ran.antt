@@ -4,10 +4,9 @@ use Rattle.rules.specs.Sheet.{sheet}
 use Rattle.stream.specs.declared.Phase.TheVariants.{Ended}
 use Rattle.stream.specs.declared.Reader.{Reader}
 use Rattle.stream.specs.Reader.{window_size, Begun}
-use Rattle.sheet.specs.declared.Got.TheVariants.{Failed}
 use Rattle.sheet.specs.declared.Ending.{Ending}
 use Rattle.sheet.specs.declared.Ending.TheVariants.{Whole, Unread, Unwritten, TooLong}
-use Rattle.sheet.specs.Turned.{allowance, ReadBehind, Went, LastTurn}
+use Rattle.sheet.specs.Turned.{allowance, Failed, ReadBehind, Went, LastTurn}
 
 -- Turns that took a block each, from a reader and buffers to those that the last of them left.
 pub data Turns (r : Reader) (s w o : List ℕ) : Reader → List ℕ → List ℕ → List ℕ → Type 0 where

@@ -1,17 +1,18 @@
 -- What holds from one block of the input to the next.
-use Rattle.std.specs.Prelude.{ℕ, zero, suc, ◌+◌, ◌-◌, ◌≤◌, ◌<◌, ◌^◌, ◌≡◌, Bool, true, false, List, length, take, Result, Ok, Err, IfOk}
+use Rattle.std.specs.Prelude.{ℕ, zero, suc, ◌+◌, ◌-◌, ◌≤◌, ◌<◌, ◌^◌, ◌≡◌, List, length, take, Result, Ok, Err, IfOk}
 use Rattle.std.specs.declared.io.Error.{Error}
-use Rattle.stream.specs.declared.Phase.{Phase}
-use Rattle.stream.specs.declared.Phase.TheVariants.{Planning, Framing, Ended}
+use Rattle.stream.specs.declared.Phase.TheVariants.{Ended}
 use Rattle.stream.specs.declared.Reader.{Reader}
 use Rattle.stream.specs.Reader.{window_size, Holding}
 use Rattle.stream.specs.Blocks.{BlockTaken, InputEnded}
-use Rattle.sheet.specs.declared.Got.{Got}
-use Rattle.sheet.specs.declared.Got.TheVariants.{Bytes, End, Failed}
 use Rattle.sheet.specs.declared.Ending.{Ending}
 use Rattle.sheet.specs.declared.Ending.TheVariants.{Whole, Unread, Unwritten}
-use Rattle.sheet.specs.declared.Next.{Next}
-use Rattle.sheet.specs.declared.Next.TheVariants.{On, Stop}
+
+-- What a read gives.
+pub data Got : Type 0 where
+  Bytes : ℕ → Got
+  End : Got
+  Failed : Got
 
 -- A read that answers an error has failed; one that gave no byte is at the end of the input.
 abbrev pub got_of : Result ℕ Error → Got
@@ -44,11 +45,6 @@ pub record Between (r : Reader) (left : ℕ) (state : List ℕ) : Type 0 where
   pub room : r.have < window_size
   pub few : r.count + r.have + left ≤ allowance + 1
 
-abbrev pub is_ended : Phase → Bool
-is_ended Planning = false
-is_ended Framing = false
-is_ended Ended = true
-
 -- From the reader r, with a state s, a window w and an output o, a block has been taken: as many bytes as the read told, behind those that were kept. The output has their text.
 pub record Went (r : Reader) (s w o : List ℕ) (next : Reader) (state window out : List ℕ) : Type 0 where
   pub came : List ℕ
@@ -75,6 +71,6 @@ pub data Stopped (r : Reader) (s w o : List ℕ) : Ending → List ℕ → List 
   block_unwritten : {next : Reader} {state window out : List ℕ} → Went r s w o next state window out → 1 ≤ next.wrote → Stopped r s w o Unwritten state window out
   last_unwritten : {wrote : ℕ} {state window out : List ℕ} → LastTurn r s w o wrote state window out → 1 ≤ wrote → Stopped r s w o Unwritten state window out
 
-abbrev pub Turned : Reader → List ℕ → List ℕ → List ℕ → ℕ → Next → List ℕ → List ℕ → List ℕ → Type 0
-Turned r s w o left (On next rest) state window out = WentOn r s w o left next rest state window out
-Turned r s w o left (Stop why) state window out = Stopped r s w o why state window out
+abbrev pub Turned : Reader → List ℕ → List ℕ → List ℕ → ℕ → Result (Reader × ℕ) Ending → List ℕ → List ℕ → List ℕ → Type 0
+Turned r s w o left (Ok (next, rest)) state window out = WentOn r s w o left next rest state window out
+Turned r s w o left (Err why) state window out = Stopped r s w o why state window out

@@ -1,9 +1,9 @@
 // The program `sheet` (document 01, "The sheet"): standard input, block by block, gives the text on standard output. It only moves bytes.
 #![tactic(auto)]
 
-ghost use Rattle.std.specs.Prelude.{◌≡◌, false, ◌≤◌, length};
+ghost use Rattle.std.specs.Prelude.{◌≡◌, ◌≤◌, length, IfErr};
 ghost use Rattle.stream.specs.Reader.{window_size};
-ghost use Rattle.sheet.specs.Turned.{got_of, ReadBehind, is_ended, Between, Turned};
+ghost use Rattle.sheet.specs.Turned.{got_of, ReadBehind, Between, Turned};
 ghost use Rattle.sheet.specs.Ran.{Ran};
 
 use buffer::Line;
@@ -14,14 +14,6 @@ use stream::{OUT, Phase, Reader, WINDOW};
 // A proved loop has to end, and nothing says that the input does: so many bytes are read at most, which no run uses up.
 const ALLOWANCE: usize = 4_611_686_018_427_387_904;
 
-// What a read gives.
-#[derive(Clone, Copy)]
-pub enum Got {
-    Bytes(usize),
-    End,
-    Failed,
-}
-
 // Why a run ended: the sheet is whole, a read failed, a write failed, or the allowance is used up.
 #[derive(Clone, Copy)]
 pub enum Ending {
@@ -29,13 +21,6 @@ pub enum Ending {
     Unread,
     Unwritten,
     TooLong,
-}
-
-// Another block is read, with what reader and what is left of the allowance; or the run ends.
-#[derive(Clone, Copy)]
-pub enum Next {
-    On(Reader, usize),
-    Stop(Ending),
 }
 
 // The three streams, and where a message is made.
@@ -68,60 +53,31 @@ fn tell(streams: Streams, what: &str, why: io::Error) {
     }
 }
 
-// What a read's answer says.
-fn got_of(answer: io::Result<usize>) -> Got
-    ensures { result ≡ got_of answer }
-{
-    match answer {
-        Err(_) => Got::Failed,
-        Ok(0) => Got::End,
-        Ok(n) => Got::Bytes(n),
-    }
-}
-
-// One read, behind the bytes that are kept, which stay. One that fails is told.
-fn read_behind(mut streams: Streams, window: &mut [u8], have: usize) -> Got
+// One read, behind the bytes that are kept, which stay.
+fn read_behind(mut streams: Streams, window: &mut [u8], have: usize) -> io::Result<usize>
     requires { (have ≤ length window.old) × (length window.old ≡ window_size) }
-    ensures { ReadBehind window.old have window.new result }
+    ensures { ReadBehind window.old have window.new (got_of result) }
 {
-    let answer = streams.input.read(&mut window[have..]);
-    if let Err(why) = answer {
-        tell(streams, "sheet: read", why);
-    }
-    got_of(answer)
+    streams.input.read(&mut window[have..])
 }
 
 // The text that was written, to standard output. An empty one is not written, and does not fail. A write that fails is told, but where nobody reads the pipe any more.
-fn write(mut streams: Streams, out: &[u8], wrote: usize) -> bool
+fn write(mut streams: Streams, out: &[u8], wrote: usize) -> Result<(), Ending>
     requires { wrote ≤ length out.now }
-    ensures { result ≡ false → 1 ≤ wrote }
+    ensures { IfErr result (λ why. (why ≡ Ending.Unwritten) × (1 ≤ wrote)) }
 {
     if wrote == 0 {
-        return true;
+        return Ok(());
     }
-    match Write::write_all(&mut streams.output, &out[..wrote]) {
-        Ok(()) => true,
-        Err(why) => {
-            if why.kind() != io::ErrorKind::BrokenPipe {
-                tell(streams, "sheet: write", why);
-            }
-            false
+    Write::write_all(&mut streams.output, &out[..wrote]).map_err(|why| {
+        if why.kind() != io::ErrorKind::BrokenPipe {
+            tell(streams, "sheet: write", why);
         }
-    }
+        Ending::Unwritten
+    })
 }
 
-// "and no more", "ends reading"
-fn is_ended(phase: Phase) -> bool
-    ensures { result ≡ is_ended phase }
-{
-    match phase {
-        Phase::Planning => false,
-        Phase::Framing => false,
-        Phase::Ended => true,
-    }
-}
-
-// One block, or the end of the input.
+// One block: the next reader, and what is left of the allowance; or why no other follows.
 fn turn(
     streams: Streams,
     reader: Reader,
@@ -129,33 +85,28 @@ fn turn(
     state: &mut [u8; Line::STATE_SIZE],
     window: &mut [u8; WINDOW],
     out: &mut [u8; OUT],
-) -> Next
+) -> Result<(Reader, usize), Ending>
     requires { Between reader left state.old × (window_size ≤ left) }
     ensures { Turned reader state.old window.old out.old left result state.new window.new out.new }
 {
-    let have = reader.have;
-    let got = read_behind(streams, window, have);
-    match got {
-        Got::Bytes(n) => {
-            let next = stream::take_block(reader, state, window, n, out);
-            if !write(streams, out, next.wrote) {
-                return Next::Stop(Ending::Unwritten);
-            }
-            let phase = next.phase;
-            if is_ended(phase) {
-                return Next::Stop(Ending::Whole);
-            }
-            let rest = left - n;
-            Next::On(next, rest)
+    match read_behind(streams, window, reader.have) {
+        Ok(0) => {
+            let wrote = reader.finish(state, window, out);
+            write(streams, out, wrote)?;
+            Err(Ending::Whole)
         }
-        Got::End => {
-            let wrote = stream::finish(reader, state, window, out);
-            if !write(streams, out, wrote) {
-                return Next::Stop(Ending::Unwritten);
+        Ok(n) => {
+            let next = reader.take_block(state, window, n, out);
+            write(streams, out, next.wrote)?;
+            if next.phase == Phase::Ended {
+                return Err(Ending::Whole);
             }
-            Next::Stop(Ending::Whole)
+            Ok((next, left - n))
         }
-        Got::Failed => Next::Stop(Ending::Unread),
+        Err(why) => {
+            tell(streams, "sheet: read", why);
+            Err(Ending::Unread)
+        }
     }
 }
 
@@ -168,19 +119,18 @@ fn run(
 ) -> Ending
     ensures { Ran state.old window.old out.old result state.new window.new out.new }
 {
-    let mut reader = stream::begin(out);
-    if !write(streams, out, reader.wrote) {
-        return Ending::Unwritten;
+    let mut reader = Reader::begin(out);
+    if let Err(ending) = write(streams, out, reader.wrote) {
+        return ending;
     }
     let mut left = ALLOWANCE;
     while WINDOW <= left {
-        let t = turn(streams, reader, left, state, window, out);
-        match t {
-            Next::On(next, rest) => {
+        match turn(streams, reader, left, state, window, out) {
+            Ok((next, rest)) => {
                 reader = next;
                 left = rest;
             }
-            Next::Stop(ending) => return ending,
+            Err(ending) => return ending,
         }
     }
     Ending::TooLong

@@ -1,13 +1,13 @@
 -- What stands in a slot, written part by part; and slots moved.
 use Prim.Native.Nat.{ℕ, zero, suc, ◌+◌, ◌*◌, ◌-◌, ◌≤◌, ◌<◌}
 use mathlib.Core.Path.{◌≡◌, refl, sym, ap, ◌∙◌}
-use mathlib.Core.List.{List, [], ◌∷◌, ◌++◌, append_assoc, append-nil}
-use native.Mathlib.Nat.{add_assoc, mul-zero, mul-one, mul-add}
+use mathlib.Core.List.{List, [], ◌∷◌, ◌++◌, append_assoc}
+use native.Mathlib.Nat.{mul-zero, mul-one, mul-add}
 use native.Mathlib.Omega.{arith}
 use lib.ListN.{length, take, drop, replicate}
-use lib.Seq.{take-add, drop-drop}
-use Rattle.basics.specs.Put.{put, put-none, puts, puts-joined}
-use Rattle.plan.specs.Layout.{bytes_of, spelled}
+use lib.Seq.{paste}
+use Rattle.basics.specs.Put.{put, put-none, put-parts, puts, puts-joined}
+use Rattle.plan.specs.Layout.{bytes_of}
 use Rattle.plan.specs.Lawful.{Bytes}
 use Rattle.plan.specs.Record.{record_layout}
 use Rattle.rules.specs.Line.{Origin, Message, Entry, Held, Target}
@@ -19,6 +19,10 @@ use Rattle.buffer.proofs.BytesLaws.{gap_turn, gap_closed}
 use Rattle.buffer.proofs.WordLaws.{part_written}
 use Rattle.slots.specs.Slots.{time_of}
 
+pub time_none : (from time : ℕ) → from ≡ 0 → 0 ≡ time_of from time
+time_none zero time h = refl
+time_none (suc f) time h = let no : ⊥ = omega arith in absurd no
+
 pub time_some : (from time : ℕ) → 0 < from → time ≡ time_of from time
 time_some zero time h = let no : ⊥ = omega arith in absurd no
 time_some (suc f) time h = refl
@@ -29,7 +33,7 @@ module _ (at : ℕ) where
   made_parts from time = (at, bytes_of 1 from) ∷ (at + 1, bytes_of 4 (time_of from time)) ∷ []
 
   abbrev message_parts : Message → List (ℕ × List ℕ)
-  message_parts m = (at, record_layout.write m.what) ∷ (at + 8, bytes_of 4 m.time) ∷ (at + 12, origin_layout.write m.origin) ∷ (at + 17, bytes_of 1 0) ∷ (at + 18, bytes_of 2 0) ∷ []
+  message_parts m = (at, record_layout.write m.what) ∷ (at + 8, bytes_of 4 m.time) ∷ (at + 12, origin_layout.write m.origin) ∷ (at + 17, bytes_of 2 0) ∷ (at + 19, bytes_of 1 0) ∷ []
 
   abbrev entry_parts : Entry → List (ℕ × List ℕ)
   entry_parts e =
@@ -74,21 +78,38 @@ module _ (s : List ℕ) (at : ℕ) (h : at ≤ length s) where
   unfolding target_layout
   target-written t = puts-joined s at (target_parts at t) h (refl, (omega arith, (omega arith, (omega arith, (omega arith, tt)))))
 
--- A slot of two words of eight bytes and one more, written elsewhere word by word.
-pub slot_copied : (w : ℕ) (s : List ℕ) (from to : ℕ) → Bytes s → from + (8 + (8 + w)) ≤ length s → to ≤ length s
-    → puts s ((to, bytes_of 8 (number64 from s)) ∷ (to + 8, bytes_of 8 (number64 (from + 8) s)) ∷ (to + 16, bytes_of w (spelled 0 (take w (drop (from + 16) s)))) ∷ []) ≡ put s to (take (8 + (8 + w)) (drop from s))
-slot_copied w s from to k h l =
-    let slot : List ℕ = drop from s in
-    let first : List ℕ = take 8 slot in
-    let second : List ℕ = take 8 (drop (from + 8) s) in
-    let third : List ℕ = take w (drop (from + 16) s) in
-    let long : length first ≡ 8 = part_long from 8 s (omega arith) in
-    let long_second : length second ≡ 8 = part_long (from + 8) 8 s (omega arith) in
-    let whole : first ++ (second ++ (third ++ [])) ≡ take (8 + (8 + w)) slot =
-    rw (append-nil, take-add 8 (8 + w) slot, drop-drop 8 from s, take-add 8 w (drop (from + 8) s), drop-drop 8 (from + 8) s, add_assoc from 8 8)
-    in
-    rw (part_written 8 from s k (omega arith), part_written 8 (from + 8) s k (omega arith), part_written w (from + 16) s k (omega arith))
-    (puts-joined s to ((to, first) ∷ (to + 8, second) ∷ (to + 16, third) ∷ []) l (refl, (omega arith, (omega arith, tt))) ∙ ap (put s to) whole)
+-- ---- a slot moved to one before it, eight bytes at a time
+
+module _ (s₀ : List ℕ) (from to : ℕ) where
+  -- The first i bytes have moved.
+  pub record Gone (s : List ℕ) (i : ℕ) : Type 0 where
+    pub bytes : Bytes s
+    pub same : length s ≡ length s₀
+    pub now : s ≡ put s₀ to (take i (drop from s₀))
+
+  pub none_gone : Bytes s₀ → Gone s₀ 0
+  none_gone h = record { bytes = h; same = refl; now = sym (put-none s₀ to) }
+
+  part_gone : (s t : List ℕ) (i w : ℕ) → to ≤ from → Gone s i → from + i + w ≤ length s₀ → t ≡ put s (to + i) (take w (drop (from + i) s)) → t ≡ put s₀ to (take (i + w) (drop from s₀))
+  part_gone s t i w down m below e =
+      let (gap, is) : (gap : ℕ) × (to + gap ≡ from) = (from - to, omega arith) in
+      e ∙ rw m.now (rw is at (gap_turn s₀ to gap i w (omega arith)))
+
+  -- Eight bytes more.
+  pub word_gone : (s t : List ℕ) (i v : ℕ) → to ≤ from → Gone s i → from + i + 8 ≤ length s₀ → v ≡ number64 (from + i) s → Bytes t → length t ≡ length s → t ≡ put s (to + i) (bytes_of 8 v) → Gone t (i + 8)
+  word_gone s t i v down m below read h long e =
+      let word : bytes_of 8 v ≡ take 8 (drop (from + i) s) = ap (bytes_of 8) read ∙ part_written 8 (from + i) s m.bytes (omega (arith, m.same)) in
+      record { bytes = h; same = long ∙ m.same; now = part_gone s t i 8 down m below (e ∙ ap (put s (to + i)) word) }
+
+  -- And what is left.
+  pub rest_gone : (s t : List ℕ) (i size : ℕ) → to ≤ from → Gone s i → i ≤ size → from + size ≤ length s₀ → t ≡ paste s (to + i) (drop (from + i) s) (from + size - (from + i)) → t ≡ put s₀ to (take size (drop from s₀))
+  rest_gone s t i size down m h below e =
+      let n = from + size - (from + i) in
+      let all : i + n ≡ size = omega arith in
+      let here : t ≡ put s (to + i) (take n (drop (from + i) s)) =
+      e ∙ put-parts s (to + i) (take n (drop (from + i) s)) (to + i + n) (ap (λ (k : ℕ). to + i + k) (part_long (from + i) n s (omega (arith, m.same))))
+      in
+      rw all at (part_gone s t i n down m (omega arith) here)
 
 -- ---- slots moved to the front, over a gap
 

@@ -1,6 +1,8 @@
 -- What stands in the slots, as the code holds it and as the line has it.
-use Rattle.std.specs.Prelude.{ℕ, zero, suc}
-use Rattle.rules.specs.Line.{Origin, Message, Entry, Held, Target}
+use Rattle.std.specs.Prelude.{ℕ, zero, suc, ◌<◌, ◌≡◌}
+use Rattle.std.specs.declared.option.Option.{Option}
+use Rattle.std.specs.declared.option.Option.TheVariants.{None, Some}
+use Rattle.rules.specs.Line.{Origin, fed, made, Message, Entry, Held, Target}
 use Rattle.state.specs.Pieces.{origin_from}
 use Rattle.slots.specs.declared.Made.{Made}
 use Rattle.slots.specs.declared.Sent.{Sent}
@@ -15,6 +17,11 @@ time_of (suc s) t = t
 
 abbrev pub origin_is : Made → Origin
 origin_is m = origin_from m.from m.time
+
+-- The sender that something was made from, or none.
+abbrev pub SenderIs : Made → Option ℕ → Type 0
+SenderIs m None = origin_is m ≡ fed
+SenderIs m (Some q) = (origin_is m ≡ made q m.time) × (q < 255)
 
 abbrev pub message_is : Sent → Message
 message_is m = record { what = m.what; time = m.time; origin = origin_is m.made }

@@ -10,6 +10,8 @@ use borrow.Author.Tests.{le-leb, lt-leb}
 use lib.Dec.{leb}
 use lib.ListN.{length, set}
 use Rattle.basics.specs.Put.{put}
+use Rattle.answers.specs.declared.Refusal.{Refusal}
+use Rattle.answers.specs.Number.{refusal_number}
 use Rattle.plan.specs.Layout.{bytes_of}
 use Rattle.plan.specs.Lawful.{Bytes}
 use Rattle.plan.specs.Plan.{Plan, plan_of, plan_channels, channel_at, channel_count}
@@ -26,7 +28,7 @@ use Rattle.state.specs.State.{line_bytes, line_of}
 use Rattle.state.proofs.InPlace.{line-plan}
 use Rattle.buffer.specs.Holds.{Holds, Undamaged, Did}
 use Rattle.buffer.proofs.HoldsLaws.{holds-again, holds_channels, count_put}
-use Rattle.frame.specs.declared.Frame.{Frame as FrameRead}
+use Rattle.frame.specs.declared.Asked.{Asked}
 use Rattle.frame.specs.Reading.{AskedBy}
 use Rattle.frame.proofs.FrameLaws.{frame_refused}
 use Rattle.passing.proofs.RefusalLaws.{refusal_first, refused}
@@ -75,6 +77,10 @@ counted-put {s} {t} c steps h inside few e r =
 
 -- ---- a step
 
+-- No refusal is numbered 0.
+pub refusal_some : (r : Refusal) → refusal_number r ≢ 0
+refusal_some r e = grind arith
+
 module _ (s frame : List ℕ) (u : Undamaged s) where
   -- Refused: the state is as it was, and that is what the rules' step leaves.
   pub refused_step : (r : ℕ) → r ≢ 0 → refusal (line_of s) frame ≡ r → Stepped s frame s r
@@ -84,40 +90,45 @@ module _ (s frame : List ℕ) (u : Undamaged s) where
     undamaged = u;
   }
 
-  pub frame_step : (r : ℕ) → (frame_refusal frame ≡ r) × (r ≢ 0) → Stepped s frame s r
-  frame_step r (e, other) = refused_step r other (frame_refused frame r e other (line_of s))
+  pub frame_step : (r : Refusal) → frame_refusal frame ≡ refusal_number r → Stepped s frame s (refusal_number r)
+  frame_step r e = refused_step (refusal_number r) (refusal_some r) (frame_refused frame r e (line_of s))
 
-  module _ {c : ℕ} {f : FrameRead} (asked : AskedBy frame c f) where
-    formed : Formed frame c (frame_of frame)
+  module _ {a : Asked} (asked : AskedBy frame a) where
+    abbrev c : ℕ
+    c = a.console
+
+    formed : Formed frame a.console (frame_of frame)
     formed = record { formed = asked.formed; from = sym asked.from; asks = refl }
 
-    pub limit_step : step_limit ≤ steps_from (line_of s) c → Stepped s frame s 12
+    pub limit_step : step_limit ≤ steps_from (line_of s) a.console → Stepped s frame s 12
     unfolding no_steps_left
     limit_step full = refused_step 12 (λ z. omega arith) (formed_refusal (line_of s) formed ∙ rw (le-leb step_limit (steps_from (line_of s) c) full))
 
-    module _ (left : steps_from (line_of s) c < step_limit) where
+    module _ (left : steps_from (line_of s) a.console < step_limit) where
       asks : refusal (line_of s) frame ≡ line_refusal (line_of s) (frame_of frame)
       unfolding no_steps_left
       asks = formed_refusal (line_of s) formed ∙ rw (lt-leb step_limit (steps_from (line_of s) c) left)
 
-      pub kind_refused : (t : List ℕ) (r : ℕ) → r ≢ 0 → Did s (frame_of frame) t r → Stepped s frame t r
-      kind_refused t r other did = subst (λ (x : List ℕ). Stepped s frame x r) (sym (did.refused other)) (refused_step r other (asks ∙ did.number))
+      pub kind_refused : (t : List ℕ) (r : Refusal) → Did s (frame_of frame) t (refusal_number r) → Stepped s frame t (refusal_number r)
+      kind_refused t r did =
+          let other = refusal_some r in
+          subst (λ (x : List ℕ). Stepped s frame x (refusal_number r)) (sym (did.refused other)) (refused_step (refusal_number r) other (asks ∙ did.number))
 
       -- Accepted: the line that the kind leaves has its counts as they were.
-      pub few_left : (t : List ℕ) (r : ℕ) → r ≡ 0 → Did s (frame_of frame) t r → Holds t (line_of t) × (c < console_count) × (steps_from (line_of t) c < step_limit)
-      few_left t r z did =
-          let (k, (leads, holds)) = did.done z in
+      pub few_left : (t : List ℕ) → Did s (frame_of frame) t 0 → Holds t (line_of t) × (a.console < console_count) × (steps_from (line_of t) a.console < step_limit)
+      few_left t did =
+          let (k, (leads, holds)) = did.done refl in
           (holds-again holds, asked.there, rw (ap (λ (x : Line). x.steps) holds.same ∙ effect-steps (line_of s) (frame_of frame) leads) left)
 
       -- Accepted: the effect, and one more step of the caller's.
-      pub kind_accepted : Bytes frame → (t v : List ℕ) (r : ℕ) → r ≡ 0 → Did s (frame_of frame) t r → Holds v (counted c (line_of t)) → Stepped s frame v r
-      kind_accepted bytes t v r z did now =
-          let zeroed : refusal (line_of s) frame ≡ 0 = asks ∙ did.number ∙ z in
-          let (k, (leads, holds)) = did.done z in
+      pub kind_accepted : Bytes frame → (t v : List ℕ) → Did s (frame_of frame) t 0 → Holds v (counted a.console (line_of t)) → Stepped s frame v 0
+      kind_accepted bytes t v did now =
+          let zeroed : refusal (line_of s) frame ≡ 0 = asks ∙ did.number in
+          let (k, (leads, holds)) = did.done refl in
           let line : counted c (line_of t) ≡ (step (line_of s) frame).line = ap (counted c) holds.same ∙ sym (formed_line (line_of s) formed zeroed ∙ ap (accepted c (line_of s)) leads) in
           let right : Holds v (step (line_of s) frame).line = subst (Holds v) line now in
           record {
-            number = z ∙ sym zeroed;
+            number = sym zeroed;
             left = right.written;
             undamaged = record { holds = holds-again right; undamaged = ap damaged right.same ∙ step_undamaged (line_of s) frame bytes u.undamaged };
           }

@@ -2,6 +2,7 @@
 #![tactic(auto)]
 
 ghost use Rattle.std.specs.Prelude.{◌<◌};
+ghost use Rattle.answers.specs.Number.{number};
 ghost use Rattle.rules.specs.Line.{step_limit, console_count, steps_from, counted};
 ghost use Rattle.rules.specs.Frame as frames;
 ghost use Rattle.state.specs.State.{line_of};
@@ -9,22 +10,23 @@ ghost use Rattle.buffer.specs.Holds.{Holds, Undamaged, Did};
 ghost use Rattle.frame.specs.Reading.{Asks};
 ghost use Rattle.step.specs.Stepped.{Stepped};
 
+use answers::Refusal;
 use buffer::{Line, bytes, layout, look};
-use frame::{Frame, Reading};
+use frame::{Asked, Frame};
 
 // Take: what both kinds of receivers are asked, then the one that there is.
-fn take(s: &mut [u8], b: usize) -> u32
+fn take(s: &mut [u8], b: usize) -> Result<(), Refusal>
     requires { Undamaged s.old }
-    ensures { Did s.old (frames.take b) s.new result }
+    ensures { Did s.old (frames.take b) s.new (number result) }
 {
     if look::channel_count(s) <= b {
-        return 13;
+        return Err(Refusal::NoSuchPlace);
     }
     if passing::end_down(s, b) {
-        return 15;
+        return Err(Refusal::WrongStatus);
     }
     if channel_fields::queue_count(s, b) == 0 {
-        return 18;
+        return Err(Refusal::NothingThere);
     }
     if look::is_replaying(s, look::receiver_of(s, b)) {
         return replay::take_replaying(s, b);
@@ -33,12 +35,12 @@ fn take(s: &mut [u8], b: usize) -> u32
 }
 
 // What a frame asks, by its kind.
-fn asked(s: &mut [u8], f: Frame) -> u32
+fn asked(s: &mut [u8], f: Frame) -> Result<(), Refusal>
     requires { Undamaged s.old }
-    ensures { (g : frames.Frame) → Asks f g → Did s.old g s.new result }
+    ensures { (g : frames.Frame) → Asks f g → Did s.old g s.new (number result) }
 {
     match f {
-        Frame::Feed { node, what, fits } => passing::feed(s, node, what, fits),
+        Frame::Feed { node, what } => passing::feed(s, node, what),
         Frame::Send(b) => passing::send(s, b),
         Frame::Take(b) => take(s, b),
         Frame::Crash(n) => restart::crash(s, n),
@@ -58,24 +60,16 @@ fn count_step(s: &mut [u8], console: usize)
     bytes::put32(s, layout::STEPS + layout::COUNT * console, steps + 1);
 }
 
-// A frame passed to such a state: 9 to 21, 24 to 27 or 0.
-pub fn step(s: &mut [u8], frame: &[u8]) -> u32
+// A frame passed to such a state: 9 to 21 and 24 to 27 refuse it.
+pub fn step(s: &mut [u8], frame: &[u8]) -> Result<(), Refusal>
     requires { Undamaged s.old }
-    ensures { Stepped s.old frame.now s.new result }
+    ensures { Stepped s.old frame.now s.new (number result) }
 {
-    let reading = frame::read(frame);
-    match reading {
-        Reading::Refused(refusal) => refusal,
-        Reading::WellFormed(console, f) => {
-            if Line::STEP_LIMIT <= look::steps_from(s, console) {
-                return 12;
-            }
-            let number = asked(s, f);
-            if number != 0 {
-                return number;
-            }
-            count_step(s, console);
-            number
-        }
+    let Asked { console, frame } = frame::read(frame)?;
+    if Line::STEP_LIMIT <= look::steps_from(s, console) {
+        return Err(Refusal::StepsUsedUp);
     }
+    asked(s, frame)?;
+    count_step(s, console);
+    Ok(())
 }

@@ -7,6 +7,8 @@ use mathlib.Core.Option.{Option, none}
 use native.Mathlib.Omega.{arith}
 use lib.ListN.{length, take, drop}
 use lib.Seq.{slice, take-take, length-take-le}
+use Rattle.answers.specs.declared.Refusal.{Refusal}
+use Rattle.answers.specs.Number.{refusal_number}
 use Rattle.basics.specs.Put.{put-none, put_same}
 use Rattle.plan.specs.Layout.{spelled}
 use Rattle.plan.specs.Lawful.{Bytes}
@@ -31,6 +33,9 @@ use Rattle.stream.proofs.ReadingLaws.{plan_told_few, plan_told_part, plan_told-w
 use Rattle.stream.proofs.WindowLaws.{part_field}
 use Rattle.stream.proofs.GoingLaws.{wrote_none}
 use Rattle.stream.proofs.EndingLaws.{gave_of}
+
+pub refused : (r : Refusal) → refusal_number r ≢ 0
+refused r e = grind arith
 
 pub size_within : (w : List ℕ) (end : ℕ) → end ≤ length w → {n : ℕ} → PlanSize (take end w) n → n ≤ end
 size_within w end h size = omega (arith, size.within, length-take-le end w h)
@@ -127,19 +132,19 @@ module _ (state w : List ℕ) (end : ℕ) (o : List ℕ) (can : Loadable state w
       line_is : answer_line 0 (plan_refusal (take n all)) ≡ answer_line 0 answer
       line_is = ap (answer_line 0) (sym load_number)
 
-      refused : plan_refusal (take n all) ≡ 0 → ⊥
-      refused z = other (load_number ∙ z)
+      not_loaded : plan_refusal (take n all) ≡ 0 → ⊥
+      not_loaded z = other (load_number ∙ z)
 
       as_it_was : after ≡ state
-      as_it_was = left ∙ sym (plan_refused (take n w) state (λ z. refused (ap plan_refusal plan_is ∙ z))).1
+      as_it_was = left ∙ sym (plan_refused (take n w) state (λ z. not_loaded (ap plan_refusal plan_is ∙ z))).1
 
       pub block_refused : 2 ≤ end → n ≡ spelled 0 (take 2 w) → Gave (plan_told all) (1 + end) state w o after w u (record { phase = Ended; have = 0; count = 1; wrote = r })
       block_refused two e =
-          gave_of (whole-told n two e within ∙ told_refused (plan_refusal (take n all)) (take n all) (drop n all) refused)
+          gave_of (whole-told n two e within ∙ told_refused (plan_refusal (take n all)) (take n all) (drop n all) not_loaded)
           (record { text = rw line_is (wrote_most out_size (omega (arith, wrote.short)) wrote); next = refl; left = sym (put-none w 0); held = as_it_was; holding = tt; room = omega arith; counted = omega arith })
 
       pub closed_refused : PlanSize all n → Finished (plan_all all) (plan_told all) state o after u r
       closed_refused size = record {
-        text = rw (← size.same, text_refused (plan_refusal (take n all)) (take n all) (drop n all) refused, line_is) (wrote_most out_size (omega (arith, wrote.short)) wrote);
-        held = as_it_was ∙ sym (ap (λ (l : Option Line). state_left l state) (size.line ∙ ap (λ (k : Told). k.line) (told_refused (plan_refusal (take n all)) (take n all) (drop n all) refused)));
+        text = rw (← size.same, text_refused (plan_refusal (take n all)) (take n all) (drop n all) not_loaded, line_is) (wrote_most out_size (omega (arith, wrote.short)) wrote);
+        held = as_it_was ∙ sym (ap (λ (l : Option Line). state_left l state) (size.line ∙ ap (λ (k : Told). k.line) (told_refused (plan_refusal (take n all)) (take n all) (drop n all) not_loaded)));
       }

@@ -1,22 +1,22 @@
 -- A part of the window: its length, its length field, the frame in front of it, what stands behind that, and what moves to the front.
-use Prim.Native.Nat.{ℕ, ◌+◌, ◌-◌, ◌≤◌, ◌<◌}
+use Prim.Native.Nat.{ℕ, ◌+◌, ◌-◌, ◌≤◌, ◌<◌, min}
 use mathlib.Core.Path.{◌≡◌, refl, sym, ap, ap₂, ◌∙◌}
-use mathlib.Core.Bool.{false}
+use mathlib.Core.Logic.{◌⊎◌, inl, inr}
 use mathlib.Core.List.{List}
-use native.Mathlib.Nat.{zero-add}
 use native.Mathlib.Omega.{arith}
 use borrow.Author.Tests.{lt-ltb, lt-leb, le-leb}
-use lib.Dec.{ltb}
-use lib.ListN.{length, get_or, take, drop, set, length-take, length-drop, drop_of_length-le}
-use lib.Seq.{slice, length-slice, length-take-le, take-take, take_all, drop-cons, drop-drop}
-use Rattle.basics.specs.Put.{put, length-put, put-set}
+use lib.Dec.{leb, ltb}
+use lib.ListN.{length, take, drop, length-take, drop_of_length-le}
+use lib.Seq.{slice, paste, length-slice, length-take-le, take-take, take_all, drop-drop}
+use Rattle.std.proofs.Math.Nat.{min-eq_left, min-eq_right}
+use Rattle.basics.specs.Bools.{below_or_not}
+use Rattle.basics.specs.Put.{put}
 use Rattle.plan.specs.Layout.{spelled}
 use Rattle.plan.specs.Plan.{plan_length}
 use Rattle.plan.specs.Check.{bad_length, plan_refusal}
 use Rattle.plan.proofs.CheckLaws.{accepted}
 use Rattle.plan.proofs.BytesLaws.{drop-take}
 use Rattle.rules.specs.Sheet.{answer_line, length_field, plan_text}
-use Rattle.buffer.proofs.BytesLaws.{gap_turn}
 use Rattle.stream.specs.Reading.{Told, too_short}
 use Rattle.stream.specs.Reader.{window_size}
 use Rattle.stream.specs.Frames.{FrameSize, PlanSize}
@@ -47,10 +47,10 @@ module _ (w : List ℕ) (at end : ℕ) (inside : end ≤ length w) where
   pub frame_few : end - at < 2 → FrameSize rest 0
   frame_few less = no_frame rest (λ two five. omega (arith, part_long w at end inside))
 
-  pub short_few : end - at < 2 → false ≡ too_short rest
+  pub short_few : end - at < 2 → leb 2 (end - at) ≡ too_short rest
   short_few less =
       let few : length rest < 2 = omega (arith, part_long w at end inside) in
-      sym (rw (lt-leb 2 (length rest) few))
+      rw (lt-leb 2 (end - at) less, lt-leb 2 (length rest) few)
 
   module _ (n : ℕ) (two : 2 ≤ end - at) (e : n ≡ spelled 0 (take 2 (drop at w))) where
     field_is : n ≡ length_field rest
@@ -134,13 +134,16 @@ module _ (w : List ℕ) (end : ℕ) (inside : end ≤ length w) where
           line = line_of (plan_told_part all less) ∙ sym (line_of (told_refused (plan_refusal (take end all)) (take end all) (drop end all) cut));
         }
 
+    -- As long as the field says, or all there is.
+    pub plan_least : PlanSize all (min n end)
+    plan_least = by (below_or_not end n)
+      where
+        by : (end < n) ⊎ (n ≤ end) → PlanSize all (min n end)
+        by (inl less) = let all_there : end ≤ n = omega arith in rw (min-eq_right all_there) (plan_all less)
+        by (inr h) = rw (min-eq_left h) (plan_field h)
+
 -- ---- what moves to the front
 
-pub move_turn : (w : List ℕ) (at i : ℕ) → at + i < length w
-    → set (put w 0 (take i (drop at w))) i (get_or (put w 0 (take i (drop at w))) (at + i) 0) ≡ put w 0 (take (i + 1) (drop at w))
-move_turn w at i h =
-    let front : List ℕ = take i (drop at w) in
-    let moved : List ℕ = put w 0 front in
-    let few : length front ≡ i = length-take-le i (drop at w) (simp length-drop (omega arith)) in
-    let long : length moved ≡ length w = length-put w 0 front (omega arith) in
-    put-set moved i (get_or moved (at + i) 0) (omega arith) ∙ ap (put moved i) (sym (ap (take 1) (drop-cons moved (at + i) 0 (omega arith)))) ∙ simp zero-add at (gap_turn w 0 at i 1 (omega arith))
+pub moved_front : (w : List ℕ) (at end : ℕ) → at ≤ end → end ≤ length w → paste w 0 (drop at w) (end - at) ≡ put w 0 (slice at end w)
+unfolding put
+moved_front w at end h inside = rw (part_long w at end inside, drop-take at end w)

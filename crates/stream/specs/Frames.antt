@@ -1,13 +1,15 @@
 -- The frames in a part of the window, worked one after the other.
 use Rattle.std.specs.Prelude.{ℕ, ◌+◌, ◌*◌, ◌≤◌, ◌<◌, ◌≡◌, ◌≢◌, List, ◌++◌, length, take, drop}
 use Rattle.std.proofs.Math.Seq.{slice}
+use Rattle.std.specs.declared.option.Option.{Option}
+use Rattle.std.specs.declared.option.Option.TheVariants.{None, Some}
 use Rattle.plan.specs.Check.{plan_refusal}
 use Rattle.rules.specs.Sheet.{length_field, frames_text, plan_text}
 use Rattle.state.specs.Sizes.{state_size}
 use Rattle.state.specs.State.{line_of}
 use Rattle.buffer.specs.Holds.{Undamaged}
 use Rattle.report.specs.Wrote.{Wrote}
-use Rattle.stream.specs.declared.frames.Worked.{Worked}
+use Rattle.stream.specs.declared.frames.Frames.{Frames}
 use Rattle.stream.specs.Reading.{before, frames_told, loaded_told, plan_told, plan_all}
 use Rattle.stream.specs.Reader.{window_size, out_size, count_most}
 
@@ -15,6 +17,11 @@ use Rattle.stream.specs.Reader.{window_size, out_size, count_most}
 pub record FrameSize (s : List ℕ) (r : ℕ) : Type 0 where
   pub none : r ≡ 0 → 2 ≤ length s → 5 ≤ length_field s → (length s < length_field s) × (length_field s < window_size)
   pub one : r ≢ 0 → (r ≡ length_field s) × ((5 ≤ r) × (r ≤ length s))
+
+-- What is found in front of some bytes: no whole frame, or one of so many bytes.
+abbrev pub Found : List ℕ → Option ℕ → Type 0
+Found s None = FrameSize s 0
+Found s (Some n) = (n ≢ 0) × FrameSize s n
 
 -- The size of the plan in front of the bytes that are all there is.
 pub record PlanSize (s : List ℕ) (r : ℕ) : Type 0 where
@@ -51,6 +58,7 @@ pub record Going (s w : List ℕ) (from end k : ℕ) (o state out : List ℕ) (a
   pub counted : count + from ≤ k + at
 
 -- All of them: no whole frame is left.
-pub record AllWorked (s w : List ℕ) (from end k : ℕ) (o state out : List ℕ) (r : Worked) : Type 0 where
-  pub going : Going s w from end k o state out r.at r.count r.wrote
+pub record AllWorked (s w : List ℕ) (from end k : ℕ) (o state out : List ℕ) (wrote : ℕ) (r : Frames) : Type 0 where
+  pub going : Going s w from end k o state out r.at r.count wrote
   pub none : FrameSize (slice r.at end w) 0
+  pub same : r.end ≡ end

@@ -9,7 +9,9 @@ ghost use Rattle.stream.specs.Reading.{frames_told, plan_told, taken, plan_all, 
 ghost use Rattle.stream.specs.Frames.{Loadable, Workable};
 ghost use Rattle.stream.specs.Reader.{reading_of, Asked, Gave, Finished, Begun};
 
+use crate::frames::Frames;
 use buffer::Line;
+use report::text::Text;
 
 mod frames;
 
@@ -19,14 +21,14 @@ pub const WINDOW: usize = 65_536;
 // What a window's frames give fits the output, and the nodes behind it (`out_size`): at most 34 bytes for each 5 read, one answer more, and the nodes' text (`text_most` in the crate `report`). These are 539,806 bytes; 132 pages of 4,096 hold them.
 pub const OUT: usize = 540_672;
 
-#[derive(Clone, Copy)]
+#[derive(Clone, Copy, PartialEq, Eq)]
 pub enum Phase {
     Planning,
     Framing,
     Ended,
 }
 
-// How far reading has come: how many bytes are kept, the next frame's number, and how many bytes the last call wrote.
+// How far reading has come: how many bytes are kept, the next frame's number, and how many bytes the last call wrote. What a call asks and gives (`Asked`, `Gave`) speaks of these in every phase.
 #[derive(Clone, Copy)]
 pub struct Reader {
     pub phase: Phase,
@@ -35,167 +37,178 @@ pub struct Reader {
     pub wrote: usize,
 }
 
-// So many bytes are no whole plan yet.
-fn waiting(have: usize) -> Reader
-    ensures { result ≡ record { phase = Phase.Planning; have = have; count = 1; wrote = 0 } }
+// The frames in a part of the window; what is no whole frame yet is kept.
+fn frame_block(state: &mut [u8], window: &mut [u8], frames: Frames, text: &mut Text) -> Reader
+    requires { Workable state.old window.old frames.at frames.end frames.count text.old.out.now × (text.old.at ≡ 0) }
+    ensures gave { Gave (frames_told (length (slice frames.at frames.end window.old)) frames.count (line_of state.old) (slice frames.at frames.end window.old))
+        (frames.count + (frames.end - frames.at)) state.old window.old text.old.out.now state.new window.new text.new.out.now result }
+    ensures lent { text.new.out.ghost_name ≡ text.old.out.ghost_name }
 {
-    Reader {
-        phase: Phase::Planning,
-        have: have,
-        count: 1,
-        wrote: 0,
+    let left = frames.work(state, window, text);
+    if left.too_short(window) {
+        left.cut(text);
+        report::line_text(state, text);
+        return Reader::ended(left.count, text.at);
     }
-}
-
-// The frames from a place on; what is no whole frame yet is kept.
-fn frame_block(
-    state: &mut [u8],
-    window: &mut [u8],
-    from: usize,
-    end: usize,
-    count: u64,
-    out: &mut [u8],
-) -> Reader
-    requires { Workable state.old window.old from end count out.old }
-    ensures { Gave (frames_told (length (slice from end window.old)) count (line_of state.old) (slice from end window.old))
-        (count + (end - from)) state.old window.old out.old state.new window.new out.new result }
-{
-    let done = frames::work(state, window, from, end, count, out);
-    let at = done.at;
-    if frames::too_short(window, at, end) {
-        let nodes = report::answer_line(out, done.wrote, done.count, 9);
-        let wrote = report::line_text(state, out, nodes);
-        return Reader {
-            phase: Phase::Ended,
-            have: 0,
-            count: done.count,
-            wrote: wrote,
-        };
-    }
-    frames::keep(window, at, end);
+    window.copy_within(left.at..left.end, 0);
     Reader {
         phase: Phase::Framing,
-        have: end - at,
-        count: done.count,
-        wrote: done.wrote,
+        have: left.end - left.at,
+        count: left.count,
+        wrote: text.at,
     }
 }
 
-// The frames from a place on, where no more bytes come. "A frame length field cut short, under 5, or more than is left, is answered 9 and ends reading."
-fn frame_end(
-    state: &mut [u8],
-    window: &[u8],
-    from: usize,
-    end: usize,
-    count: u64,
-    out: &mut [u8],
-) -> usize
-    requires { Workable state.old window.now from end count out.old }
-    ensures { Finished (frames_text (length (slice from end window.now)) count (line_of state.old) (slice from end window.now))
-        (frames_told (length (slice from end window.now)) count (line_of state.old) (slice from end window.now))
-        state.old out.old state.new out.new result }
+// The frames in a part of the window, where no more bytes come. "A frame length field cut short, under 5, or more than is left, is answered 9 and ends reading."
+fn frame_end(state: &mut [u8], window: &[u8], frames: Frames, text: &mut Text)
+    requires { Workable state.old window.now frames.at frames.end frames.count text.old.out.now × (text.old.at ≡ 0) }
+    ensures finished { Finished (frames_text (length (slice frames.at frames.end window.now)) frames.count (line_of state.old) (slice frames.at frames.end window.now))
+        (frames_told (length (slice frames.at frames.end window.now)) frames.count (line_of state.old) (slice frames.at frames.end window.now))
+        state.old text.old.out.now state.new text.new.out.now text.new.at }
+    ensures lent { text.new.out.ghost_name ≡ text.old.out.ghost_name }
 {
-    let done = frames::work(state, window, from, end, count, out);
-    if done.at == end {
-        return report::line_text(state, out, done.wrote);
+    let left = frames.work(state, window, text);
+    if left.at != left.end {
+        left.cut(text);
     }
-    let behind_cut = report::answer_line(out, done.wrote, done.count, 9);
-    report::line_text(state, out, behind_cut)
+    report::line_text(state, text);
 }
 
 // The plan, once it is whole, and the frames behind it.
-fn plan_block(state: &mut [u8], window: &mut [u8], end: usize, out: &mut [u8]) -> Reader
-    requires { Loadable state.old window.old end out.old }
-    ensures { Gave (plan_told (take end window.old)) (1 + end) state.old window.old out.old state.new window.new out.new result }
+fn plan_block(state: &mut [u8], window: &mut [u8], end: usize, text: &mut Text) -> Reader
+    requires { Loadable state.old window.old end text.old.out.now × (text.old.at ≡ 0) }
+    ensures gave { Gave (plan_told (take end window.old)) (1 + end) state.old window.old text.old.out.now state.new window.new text.new.out.now result }
+    ensures lent { text.new.out.ghost_name ≡ text.old.out.ghost_name }
 {
     if end < 2 {
-        return waiting(end);
+        return Reader::waiting(end);
     }
     let size = frames::field(window, 0);
     if end < size {
-        return waiting(end);
+        return Reader::waiting(end);
     }
-    let answer = line::line_load(&window[..size], state);
-    if answer != 0 {
-        let wrote = report::answer_line(out, 0, 0, answer);
-        return Reader {
-            phase: Phase::Ended,
-            have: 0,
-            count: 1,
-            wrote: wrote,
-        };
+    if let Err(refusal) = line::line_load(&window[..size], state) {
+        report::answer_line(0, u32::from(refusal), text);
+        return Reader::ended(1, text.at);
     }
-    frame_block(state, window, size, end, 1, out)
+    let frames = Frames {
+        at: size,
+        end: end,
+        count: 1,
+    };
+    frame_block(state, window, frames, text)
 }
 
 // The plan and the frames behind it, where no more bytes come.
-fn plan_end(state: &mut [u8], window: &[u8], end: usize, out: &mut [u8]) -> usize
-    requires { Loadable state.old window.now end out.old }
-    ensures { Finished (plan_all (take end window.now)) (plan_told (take end window.now)) state.old out.old state.new out.new result }
+fn plan_end(state: &mut [u8], window: &[u8], end: usize, text: &mut Text)
+    requires { Loadable state.old window.now end text.old.out.now × (text.old.at ≡ 0) }
+    ensures finished { Finished (plan_all (take end window.now)) (plan_told (take end window.now)) state.old text.old.out.now state.new text.new.out.now text.new.at }
+    ensures lent { text.new.out.ghost_name ≡ text.old.out.ghost_name }
 {
     let size = frames::plan_size(window, end);
-    let answer = line::line_load(&window[..size], state);
-    if answer != 0 {
-        return report::answer_line(out, 0, 0, answer);
+    if let Err(refusal) = line::line_load(&window[..size], state) {
+        report::answer_line(0, u32::from(refusal), text);
+        return;
     }
-    frame_end(state, window, size, end, 1, out)
-}
-
-// Nothing is read yet: the opening is written.
-pub fn begin(out: &mut [u8; OUT]) -> Reader
-    ensures { Begun out.old out.new result }
-{
-    let wrote = report::opening(out, 0);
-    Reader {
-        phase: Phase::Planning,
-        have: 0,
+    let frames = Frames {
+        at: size,
+        end: end,
         count: 1,
-        wrote: wrote,
-    }
+    };
+    frame_end(state, window, frames, text);
 }
 
-// A block: n new bytes stand in the window behind those that are kept.
-pub fn take_block(
-    reader: Reader,
-    state: &mut [u8; Line::STATE_SIZE],
-    window: &mut [u8; WINDOW],
-    n: usize,
-    out: &mut [u8; OUT],
-) -> Reader
-    requires { Asked reader state.old n }
-    ensures { Gave (taken (reading_of reader state.old window.old) (take n (drop reader.have window.old)))
-        (reader.count + reader.have + n) state.old window.old out.old state.new window.new out.new result }
-{
-    let phase = reader.phase;
-    let end = reader.have + n;
-    match phase {
-        Phase::Planning => plan_block(state, window, end, out),
-        Phase::Framing => frame_block(state, window, 0, end, reader.count, out),
-        Phase::Ended => Reader {
+impl Reader {
+    // So many bytes are no whole plan yet.
+    fn waiting(have: usize) -> Reader
+        ensures { result ≡ record { phase = Phase.Planning; have = have; count = 1; wrote = 0 } }
+    {
+        Reader {
+            phase: Phase::Planning,
+            have: have,
+            count: 1,
+            wrote: 0,
+        }
+    }
+
+    // No more is read, whatever comes.
+    fn ended(count: u64, wrote: usize) -> Reader
+        ensures { result ≡ record { phase = Phase.Ended; have = 0; count = count; wrote = wrote } }
+    {
+        Reader {
             phase: Phase::Ended,
             have: 0,
-            count: reader.count,
-            wrote: 0,
-        },
+            count: count,
+            wrote: wrote,
+        }
     }
-}
 
-// The end of the input: how many bytes were written.
-pub fn finish(
-    reader: Reader,
-    state: &mut [u8; Line::STATE_SIZE],
-    window: &[u8; WINDOW],
-    out: &mut [u8; OUT],
-) -> usize
-    requires { Asked reader state.old 0 }
-    ensures { Finished (closed (reading_of reader state.old window.now)) (taken (reading_of reader state.old window.now) [])
-        state.old out.old state.new out.new result }
-{
-    let phase = reader.phase;
-    let have = reader.have;
-    match phase {
-        Phase::Planning => plan_end(state, window, have, out),
-        Phase::Framing => frame_end(state, window, 0, have, reader.count, out),
-        Phase::Ended => 0,
+    // Nothing is read yet: the opening is written.
+    pub fn begin(out: &mut [u8; OUT]) -> Reader
+        ensures { Begun out.old out.new result }
+    {
+        let mut text = Text::new(out);
+        report::opening(&mut text);
+        Reader {
+            phase: Phase::Planning,
+            have: 0,
+            count: 1,
+            wrote: text.at,
+        }
+    }
+
+    // A block: n new bytes stand in the window behind those that are kept.
+    pub fn take_block(
+        self,
+        state: &mut [u8; Line::STATE_SIZE],
+        window: &mut [u8; WINDOW],
+        n: usize,
+        out: &mut [u8; OUT],
+    ) -> Reader
+        requires { Asked self state.old n }
+        ensures { Gave (taken (reading_of self state.old window.old) (take n (drop self.have window.old)))
+            (self.count + self.have + n) state.old window.old out.old state.new window.new out.new result }
+    {
+        let end = self.have + n;
+        let mut text = Text::new(out);
+        match self.phase {
+            Phase::Planning => plan_block(state, window, end, &mut text),
+            Phase::Framing => {
+                let frames = Frames {
+                    at: 0,
+                    end: end,
+                    count: self.count,
+                };
+                frame_block(state, window, frames, &mut text)
+            }
+            Phase::Ended => Reader::ended(self.count, 0),
+        }
+    }
+
+    // The end of the input: how many bytes were written.
+    pub fn finish(
+        self,
+        state: &mut [u8; Line::STATE_SIZE],
+        window: &[u8; WINDOW],
+        out: &mut [u8; OUT],
+    ) -> usize
+        requires { Asked self state.old 0 }
+        ensures { Finished (closed (reading_of self state.old window.now)) (taken (reading_of self state.old window.now) [])
+            state.old out.old state.new out.new result }
+    {
+        let mut text = Text::new(out);
+        match self.phase {
+            Phase::Planning => plan_end(state, window, self.have, &mut text),
+            Phase::Framing => {
+                let frames = Frames {
+                    at: 0,
+                    end: self.have,
+                    count: self.count,
+                };
+                frame_end(state, window, frames, &mut text);
+            }
+            Phase::Ended => {}
+        }
+        text.at
     }
 }

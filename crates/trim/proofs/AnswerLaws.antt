@@ -1,21 +1,22 @@
 -- What Trim answers is the rules' number.
 use Prim.Native.Nat.{ℕ, suc, ◌+◌, ◌-◌, ◌≤◌, ◌<◌}
 use mathlib.Core.Path.{◌≡◌, refl, sym, ap, ◌∙◌}
+use mathlib.Core.Logic.{◌≢◌}
 use mathlib.Core.Bool.{Bool, true, false, not, ◌||◌, or_assoc, or-false}
 use native.Mathlib.Omega.{arith}
 use lib.Dec.{leb}
 use borrow.Author.Tests.{leb-false, le-leb, lt-leb}
+use Rattle.answers.specs.declared.Refusal.{Refusal}
+use Rattle.answers.specs.Number.{refusal_number}
 use Rattle.plan.specs.Plan.{node_count}
 use Rattle.rules.specs.Lists.{any_of, up_to}
-use Rattle.rules.specs.Line.{Status, up, down, replay, Line, node_at, is_up, is_down, is_replay}
+use Rattle.rules.specs.Line.{Line, node_at, is_up}
 use Rattle.rules.specs.Frame.{trim}
-use Rattle.rules.specs.Step.{not_all_up, node_down, replaying, no_placing, effect, line_refusal}
+use Rattle.rules.specs.Step.{not_all_up, no_placing, effect, line_refusal}
 use Rattle.trim.specs.Trimmed.{trim_answer}
 
-not_up : (s : Status) → (is_down s || is_replay s) ≡ not (is_up s)
-not_up up = refl
-not_up down = refl
-not_up replay = refl
+pub refused : (r : Refusal) → refusal_number r ≢ 0
+refused r e = grind arith
 
 module _ (l : Line) where
   abbrev stopped : ℕ → Bool
@@ -25,11 +26,11 @@ module _ (l : Line) where
   abbrev pub stopped_from : ℕ → ℕ → Bool
   stopped_from n count = any_of (λ (n : ℕ). not (is_up (node_at l n).status)) (up_to n (count - n))
 
-  pub stopped_turn : (n count : ℕ) (found whole : Bool) → n < count → (found || stopped_from n count) ≡ whole → ((found || node_down l n || replaying l n) || stopped_from (n + 1) count) ≡ whole
-  stopped_turn n count found whole h e =
+  pub stopped_turn : (n count : ℕ) (found whole halted : Bool) → n < count → halted ≡ stopped n → (found || stopped_from n count) ≡ whole → ((found || halted) || stopped_from (n + 1) count) ≡ whole
+  stopped_turn n count found whole halted h is e =
       let more : count - n ≡ suc (count - (n + 1)) = omega arith in
       let next : n + 1 ≡ suc n = omega arith in
-      ap (λ (t : Bool). t || stopped_from (n + 1) count) (or_assoc found (node_down l n) (replaying l n) ∙ ap (λ (t : Bool). found || t) (not_up (node_at l n).status))
+      ap (λ (t : Bool). (found || t) || stopped_from (n + 1) count) is
       ∙ or_assoc found (stopped n) (stopped_from (n + 1) count)
       ∙ ap (λ (k : ℕ). found || (stopped n || any_of stopped (up_to k (count - (n + 1))))) next
       ∙ ap (λ (k : ℕ). found || any_of stopped (up_to n k)) (sym more) ∙ e

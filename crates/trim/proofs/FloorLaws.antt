@@ -1,7 +1,7 @@
 -- Floor times, found channel by channel.
-use Prim.Native.Nat.{ℕ, zero, suc, ◌+◌, ◌/◌, min, ◌≤◌, ◌<◌}
+use Prim.Native.Nat.{ℕ, zero, suc, ◌+◌, min, ◌≤◌, ◌<◌}
 use mathlib.Core.Path.{◌≡◌, refl, sym, ap, subst, ◌∙◌}
-use mathlib.Core.Logic.{◌≢◌, inl, inr}
+use mathlib.Core.Logic.{inl, inr}
 use mathlib.Core.Bool.{Bool, true, false, cond}
 use mathlib.Core.List.{List, [], ◌∷◌, map}
 use mathlib.Core.Option.{Option, none, some}
@@ -23,12 +23,12 @@ use Rattle.rules.proofs.Steps.Floors.{floor_entry, floor_heard}
 use Rattle.state.specs.State.{line_of}
 use Rattle.state.proofs.InPlace.{line-plan}
 use Rattle.state.proofs.PlanFitting.{heard_long}
-use Rattle.items.specs.Items.{from_sender, place_from, if_found}
+use Rattle.items.specs.Items.{place_from, if_found}
 use Rattle.items.proofs.Lookup.{senders, sender_placed}
 use Rattle.buffer.specs.Ready.{Ready}
-use Rattle.buffer.specs.Table.{code_or}
+use Rattle.buffer.specs.Joins.{Missing, Joining}
+use Rattle.buffer.specs.declared.joins.Joint.{Joint}
 use Rattle.buffer.proofs.ReadyLaws.{heard_entering}
-use Rattle.buffer.proofs.TableLaws.{coded, not_placed}
 use Rattle.buffer.specs.Rows.{Rows}
 use Rattle.trim.specs.Trimmed.{lowers_at, heard_lowers, channel_lowers}
 use Rattle.trim.proofs.RowLaws.{rows_one}
@@ -172,23 +172,22 @@ module _ (l : Line) (q : ℕ) where
   unfolding floor_time
   floor_whole = omega (arith, above_floor (channel_count l.plan) (omega arith), least_above ((node_at l q).time ∷ entries_for l q) refl under_all)
 
--- ---- on bytes, by the table's code for a node and a channel's sender
+-- ---- on bytes, by what a lookup finds for a node and a channel's sender
 
-module _ (s : List ℕ) (ready : Ready s) (b : ℕ) (below : b < plan_channels s) (q code : ℕ) (is : code ≡ code_or (plan_of s) (from_sender (plan_of s) q (entering (plan_of s) (channel_at (plan_of s) b).sender))) where
-  lowers_is : (k : ℕ) → heard_lowers (line_of s) b q k ≡ lowers_at (place_from (plan_of s) q 0 (entering (plan_of s) (channel_at (plan_of s) b).sender)) (lane_at (line_of s) b).heard k
+module _ (s : List ℕ) (b q sender : ℕ) (from : sender ≡ (channel_at (plan_of s) b).sender) where
+  lowers_is : (k : ℕ) → heard_lowers (line_of s) b q k ≡ lowers_at (place_from (plan_of s) q 0 (entering (plan_of s) sender)) (lane_at (line_of s) b).heard k
   unfolding heard_lowers
-  lowers_is k = ap (λ (p : Plan). lowers_at (place_from p q 0 (entering p (channel_at p b).sender)) (lane_at (line_of s) b).heard k) (line-plan s)
+  lowers_is k = rw from (ap (λ (p : Plan). lowers_at (place_from p q 0 (entering p (channel_at p b).sender)) (lane_at (line_of s) b).heard k) (line-plan s))
 
-  pub unheard : code ≡ 255 → (k : ℕ) → k ≡ heard_lowers (line_of s) b q k
-  unheard e k = sym (lowers_is k ∙ ap (λ (o : Option ℕ). lowers_at o (lane_at (line_of s) b).heard k) (not_placed s ready q (channel_at (plan_of s) b).sender code is e))
+  pub unheard : Missing s q sender → (k : ℕ) → k ≡ heard_lowers (line_of s) b q k
+  unheard missing k = sym (lowers_is k ∙ ap (λ (o : Option ℕ). lowers_at o (lane_at (line_of s) b).heard k) missing.placed)
 
-  pub heard_place : code ≢ 255 → code / 32 < length (lane_at (line_of s) b).heard
-  heard_place d =
-      let c = coded s ready q (channel_at (plan_of s) b).sender code is d in
-      omega (arith, c.early, heard_long s ready.fits b below, heard_entering s b (record { ready = ready; below = below }))
+  module _ {j : Joint} (joint : Joining s q sender j) where
+    pub heard_place : Ready s → b < plan_channels s → j.place < length (lane_at (line_of s) b).heard
+    heard_place ready below = let early = rw from at joint.early in omega (arith, early, heard_long s ready.fits b below, heard_entering s b (record { ready = ready; below = below }))
 
-  pub heard_lowers_lem : code ≢ 255 → (k : ℕ) → min k (get_or (lane_at (line_of s) b).heard (code / 32) 0) ≡ heard_lowers (line_of s) b q k
-  heard_lowers_lem d k = sym (lowers_is k ∙ ap (λ (o : Option ℕ). lowers_at o (lane_at (line_of s) b).heard k) (coded s ready q (channel_at (plan_of s) b).sender code is d).placed)
+    pub heard_lowers_lem : (k : ℕ) → min k (get_or (lane_at (line_of s) b).heard j.place 0) ≡ heard_lowers (line_of s) b q k
+    heard_lowers_lem k = sym (lowers_is k ∙ ap (λ (o : Option ℕ). lowers_at o (lane_at (line_of s) b).heard k) joint.placed)
 
 -- A channel's turn, and all of them.
 pub lowered_on : (s : List ℕ) (b sender : ℕ) (old rows : List ℕ) → sender ≡ (channel_at (plan_of s) b).sender → sender < 12 → Rows rows (λ q. heard_lowers (line_of s) b q (get_or old q 0))
@@ -199,11 +198,6 @@ lowered_on s b sender old rows from few heard =
     rows_one (λ q. channel_lowers (line_of s) b q (get_or old q 0)) rows sender (min (get_or rows sender 0) (lane_at (line_of s) b).taken) heard.long
     (rw (eq-eqb (sender_of (line_of s) b) sender same, heard.each sender few))
     (λ q d h. rw (ne_eqb (sender_of (line_of s) b) q (λ e. d (sym e ∙ same))) (heard.each q h))
-
-pub floor_turn : (s : List ℕ) (b : ℕ) (old rows : List ℕ) → Rows old (λ q. floor_to (line_of s) q b) → Rows rows (λ q. channel_lowers (line_of s) b q (get_or old q 0)) → Rows rows (λ q. floor_to (line_of s) q (b + 1))
-floor_turn s b old rows before now =
-    let next : b + 1 ≡ suc b = omega arith in
-    record { long = now.long; each = λ q h. now.each q h ∙ ap (channel_lowers (line_of s) b q) (before.each q h) ∙ ap (floor_to (line_of s) q) (sym next) }
 
 pub floors_found : (s : List ℕ) (b : ℕ) (rows : List ℕ) → b ≡ plan_channels s → Rows rows (λ q. floor_to (line_of s) q b) → Rows rows (floor_time (line_of s))
 floors_found s b rows e now =

@@ -1,6 +1,6 @@
 -- What stands for each node, changed node by node.
 use Prim.Native.Nat.{ℕ, ◌+◌, ◌≤◌, ◌<◌}
-use mathlib.Core.Path.{◌≡◌, refl, ◌∙◌}
+use mathlib.Core.Path.{◌≡◌, ◌∙◌}
 use mathlib.Core.Logic.{◌≢◌, inl, inr}
 use mathlib.Core.List.{List}
 use native.Mathlib.Decide.{ℕ_discrete}
@@ -17,9 +17,6 @@ pub record RowsTo (f : ℕ → ℕ → ℕ) (old rows : List ℕ) (i : ℕ) : Ty
   pub rest : (q : ℕ) → i ≤ q → get_or rows q 0 ≡ get_or old q 0
 
 module _ (f : ℕ → ℕ → ℕ) (old : List ℕ) where
-  pub rows_start : length old ≡ 12 → RowsTo f old old 0
-  rows_start e = record { long = e; done = λ q h k. (let no : ⊥ = omega arith in absurd no); rest = λ q h. refl }
-
   module _ (rows : List ℕ) (i : ℕ) (now : RowsTo f old rows i) (few : i < 12) where
     pub rows_set : (v : ℕ) → v ≡ f i (get_or old i 0) → RowsTo f old (set rows i v) (i + 1)
     rows_set v e =

@@ -1,10 +1,11 @@
 -- Trim: what it leaves is the rules' line.
 use Prim.Native.Nat.{ℕ, ◌≤◌}
 use mathlib.Core.Path.{◌≡◌, refl, sym, ap, subst, ◌∙◌}
-use mathlib.Core.Logic.{◌≢◌}
 use mathlib.Core.List.{List, [], ◌∷◌}
 use native.Mathlib.Omega.{arith}
 use lib.ListN.{length, take, drop}
+use Rattle.answers.specs.declared.Refusal.{Refusal}
+use Rattle.answers.specs.Number.{refusal_number}
 use Rattle.plan.specs.Plan.{entering}
 use Rattle.rules.specs.Line.{Entry, Node, Lane, Line, node_at, lane_at, sender_of, parents, with_node, with_lane, with_lanes}
 use Rattle.rules.specs.Frame.{trim}
@@ -15,7 +16,7 @@ use Rattle.state.specs.State.{line_of}
 use Rattle.buffer.specs.Holds.{Holds, AtNode, NodeNow, Undamaged, Did}
 use Rattle.buffer.proofs.HoldsLaws.{holds-nodes, onward, onward-node, node_same, lane_same}
 use Rattle.trim.specs.Trimmed.{trim_answer, raised_on}
-use Rattle.trim.proofs.AnswerLaws.{trim_number, trim_inside}
+use Rattle.trim.proofs.AnswerLaws.{refused, trim_number, trim_inside}
 use Rattle.trim.proofs.RunLaws.{leading_front, behind_rest}
 
 -- Channels that stay as they are.
@@ -45,8 +46,8 @@ nothing_goes l n run =
     sym (node_same n l) ∙ ap (λ (k : Line). with_node n (with_log (drop 0 (node_at k n).log) (node_at k n)) k) (sym (lanes_left (raised_on l n 0) (λ b x. refl) (entering l.plan n) l)) ∙ trimmed_is l n 0 run
 
 module _ (s : List ℕ) (n : ℕ) (whole : Undamaged s) where
-  pub trim_refused : (r : ℕ) → r ≡ trim_answer (line_of s) n → r ≢ 0 → Did s (trim n) s r
-  trim_refused r is d = record { number = trim_number (line_of s) n ∙ sym is; refused = λ q. refl; done = λ q. absurd (d q) }
+  pub trim_refused : (r : Refusal) → refusal_number r ≡ trim_answer (line_of s) n → Did s (trim n) s (refusal_number r)
+  trim_refused r is = record { number = trim_number (line_of s) n ∙ sym is; refused = λ q. refl; done = λ q. absurd (refused r q) }
 
   pub trim_on : trim_answer (line_of s) n ≡ 0 → AtNode s n
   trim_on e = record { holds = whole.holds; inside = omega (arith, trim_inside (line_of s) n e, holds-nodes whole.holds) }

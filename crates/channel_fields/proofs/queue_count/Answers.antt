@@ -4,5 +4,5 @@ use Rattle.channel_fields.proofs.queue_count.Goals as goal
 
 pub returns : goal.returns
 returns c =
-    let is = c.size.ensures ∙ c.get32.ensures ∙ queue_word c.args.s.now c.args.b c.requires in
+    let is = c.count.ensures ∙ queue_word c.args.s.now c.args.b c.requires in
     (is, rw is (queue_few c.args.s.now c.args.b c.requires))

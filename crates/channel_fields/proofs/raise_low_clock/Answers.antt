@@ -1,5 +1,3 @@
-use Prim.Native.Nat.{ℕ, max}
-use mathlib.Core.Path.{ap, ◌∙◌}
 use native.Mathlib.Omega.{arith}
 use Rattle.channel_fields.proofs.LaneReads.{low_five, low_word}
 use Rattle.channel_fields.proofs.LaneWrites.{low_raised}
@@ -9,23 +7,18 @@ pub overflow_mul-at-2 : goal.overflow_mul-at-2
 overflow_mul-at-2 c = omega (arith, c.requires.1, low_five c.args.s.now c.args.b c.requires.0.holds.ready c.requires.0.below)
 
 pub overflow_add-at-3 : goal.overflow_add-at-3
-overflow_add-at-3 c = omega (arith, c.requires.1, low_five c.args.s.now c.args.b c.requires.0.holds.ready c.requires.0.below, c.requires.0.below, c.requires.0.holds.ready.channels)
+overflow_add-at-3 c =
+    let at = c.requires.0 in
+    omega (arith, c.requires.1, low_five c.args.s.now c.args.b at.holds.ready at.below, at.below, at.holds.ready.channels)
 
-pub get32-low-requires : goal.get32-low-requires
-get32-low-requires c =
-    let ready = c.requires.0.holds.ready in
-    omega (arith, c.requires.1, low_five c.args.s.now c.args.b c.requires.0.holds.ready c.requires.0.below, c.requires.0.below, ready.channels, ready.long)
-
-pub put32-requires : goal.put32-requires
-put32-requires c =
-    let ready = c.requires.0.holds.ready in
-    omega (arith, c.requires.1, low_five c.args.s.now c.args.b c.requires.0.holds.ready c.requires.0.below, c.requires.0.below, ready.channels, ready.long)
+pub raise-requires : goal.raise-requires
+raise-requires c =
+    let at = c.requires.0 in
+    omega (arith, c.requires.1, low_five c.args.s.now c.args.b at.holds.ready at.below, at.below, at.holds.ready.channels, at.holds.ready.long)
 
 pub returns : goal.returns
 returns c =
     let a = c.args in
     let at = c.requires.0 in
-    let few = low_five a.s.now a.b at.holds.ready at.below in
-    let entry = c.get32-low.ensures ∙ low_word a.s.now a.b at.holds.ready at.below a.place c.requires.1 in
-    let most = c.greater.ensures ∙ ap (λ (k : ℕ). max k a.time) entry in
-    low_raised a.s.now c.put32.new.s a.b at a.place a.time c.requires.1 (omega arith) (omega (arith, entry)) (rw most at c.put32.ensures)
+    let entry = low_word a.s.now a.b at.holds.ready at.below a.place c.requires.1 in
+    low_raised a.s.now c.raise.new.s a.b at a.place a.time c.requires.1 (omega (arith, low_five a.s.now a.b at.holds.ready at.below, c.requires.1)) (omega arith) (rw entry at c.raise.ensures)

@@ -8,6 +8,6 @@ pub returns-then-frame-lt-HEAD : goal.returns-then-frame-lt-HEAD
 unfolding bad_frame_length
 returns-then-frame-lt-HEAD c = rw (lt-ltb (length c.args.frame.now) 5 c.if-frame-lt-HEAD.true)
 
-pub returns : goal.returns
+pub returns-else-frame-lt-HEAD : goal.returns-else-frame-lt-HEAD
 unfolding bad_frame_length
-returns c = rw (c.count_of.ensures, c.get16.ensures, le-ltb (length c.args.frame.now) 5 c.if-frame-lt-HEAD.false, size_field c.args.frame.now)
+returns-else-frame-lt-HEAD c = rw (c.from.ensures, c.get16.ensures, le-ltb (length c.args.frame.now) 5 c.if-frame-lt-HEAD.false, size_field c.args.frame.now)

@@ -1,27 +1,27 @@
-use mathlib.Core.Path.{refl, sym, ◌∙◌}
-use native.Mathlib.Omega.{arith}
-use Rattle.frame.proofs.FrameLaws.{by_kind, by_tests, kind_long, console_above, console_there}
+use Rattle.std.proofs.Common.{◌≡◌, rules}
+use Rattle.rules.specs.Frame.{frame_refusal}
+use Rattle.frame.proofs.FrameLaws.{unknown_kind, unknown_console, well_formed, asked_behind}
 use Rattle.frame.proofs.read_from.Goals as goal
 
-pub returns-then-bad_kind : goal.returns-then-bad_kind
-returns-then-bad_kind c =
-    (by_tests c.args.frame.now c.requires.sized c.requires.known (sym c.bad_kind.ensures ∙ c.if-bad_kind.true) refl, λ z. omega arith)
+pub returns-in_err-asked : goal.returns-in_err-asked
+returns-in_err-asked c =
+    let unknown = rw c.in_err-asked.ensures.ok_part at c.frame_of.ensures in
+    let refused : frame_refusal c.args.frame.now ≡ 11 = unknown_kind c.args.frame.now c.kind_of.result c.args.console c.args.from c.kind_of.ensures c.requires unknown in
+    let z = c.from_residual.ensures in
+    search rules
 
 pub returns-then-console-ge-CONSOLES : goal.returns-then-console-ge-CONSOLES
 returns-then-console-ge-CONSOLES c =
-    let f = c.args.frame.now in
-    (by_tests f c.requires.sized c.requires.known (sym c.bad_kind.ensures ∙ c.if-bad_kind.false) (console_above f c.args.console c.requires.from c.if-console-ge-CONSOLES.true), λ z. omega arith)
-
-pub frame_of-f-requires : goal.frame_of-f-requires
-frame_of-f-requires c =
-    kind_long c.args.frame.now c.kind_of-kind.result c.args.extra c.kind_of-kind.ensures c.requires.bytes c.requires.few (sym c.bad_kind.ensures ∙ c.if-bad_kind.false)
+    let known = rw c.in_ok-asked.ensures.ok_part at c.frame_of.ensures in
+    unknown_console c.args.frame.now c.kind_of.result c.args.console c.args.from c.kind_of.ensures c.requires known.0 c.if-console-ge-CONSOLES.true
 
 pub returns : goal.returns
 returns c =
     let f = c.args.frame.now in
+    let known = rw c.in_ok-asked.ensures.ok_part at c.frame_of.ensures in
     record {
-      formed = by_tests f c.requires.sized c.requires.known (sym c.bad_kind.ensures ∙ c.if-bad_kind.false) (console_there f c.args.console c.requires.from c.if-console-ge-CONSOLES.false);
-      from = c.requires.from;
+      formed = well_formed f c.kind_of.result c.args.console c.args.from c.kind_of.ensures c.requires known.0 c.if-console-ge-CONSOLES.false;
+      from = c.requires.whose;
       there = c.if-console-ge-CONSOLES.false;
-      asks = rw (by_kind f c.kind_of-kind.result c.args.extra c.kind_of-kind.ensures c.requires.bytes) c.frame_of-f.ensures;
+      asks = rw (asked_behind f c.kind_of.result c.args.console c.args.from c.kind_of.ensures c.requires) known.1;
     }

@@ -10,9 +10,9 @@ returns-then-state-ne-STATE_SIZE c = size_wrong c.args.state.now c.if-state-ne-S
 pub returns-then-not-state_ok : goal.returns-then-not-state_ok
 returns-then-not-state_ok c =
     let s = c.args.state.now in
-    state_wrong s c.if-state-ne-STATE_SIZE.false (bytes_known s (λ i. (c.shared_slice_known-1.given i).fits)) (sym c.state_ok.ensures ∙ c.if-not-state_ok.true)
+    state_wrong s c.if-state-ne-STATE_SIZE.false (bytes_known s (λ i. (c.type_inv.state i).fits)) (sym c.state_ok.ensures ∙ c.if-not-state_ok.true)
 
 pub returns : goal.returns
 returns c =
     let s = c.args.state.now in
-    sym ((check_answer s c.if-state-ne-STATE_SIZE.false (bytes_known s (λ i. (c.shared_slice_known-1.given i).fits))).0 (sym c.state_ok.ensures ∙ c.if-not-state_ok.false))
+    sym ((check_answer s c.if-state-ne-STATE_SIZE.false (bytes_known s (λ i. (c.type_inv.state i).fits))).0 (sym c.state_ok.ensures ∙ c.if-not-state_ok.false))

@@ -1,10 +1,5 @@
-use Prim.Native.Nat.{◌-◌}
-use lib.ListN.{length}
 use Rattle.marking.proofs.LoopLaws.{Going}
 use Rattle.marking.proofs.first_broken.Given as goal
 
 abbrev pub invariant-loop-k : goal.invariant-loop-k
-invariant-loop-k l = Going l.low l.high l.rows l.fixed l.floors l.columns l.k
-
-abbrev pub decreases-loop-k : goal.decreases-loop-k
-decreases-loop-k l = length l.rows - l.k
+invariant-loop-k l = let t = l.table in Going t.low t.high t.rows.now t.fixed.now t.floors.now l.columns l.k

@@ -1,27 +1,20 @@
-use mathlib.Core.Path.{◌≡◌, ◌∙◌}
 use native.Mathlib.Omega.{arith}
-use lib.ListN.{length}
-use Rattle.rules.specs.Line.{node_at}
-use Rattle.state.specs.State.{line_of}
 use Rattle.slots.specs.Slots.{target_is}
 use Rattle.buffer.proofs.HoldsLaws.{node_targets_counted}
-use Rattle.node_fields.proofs.FieldLaws.{target_more}
+use Rattle.node_fields.proofs.FieldLaws.{targets_whole, target_more}
 use Rattle.node_fields.proofs.append_target.Goals as goal
 
-pub overflow_add-count : goal.overflow_add-count
-overflow_add-count c =
-    let count : c.get32-count.result ≡ length (node_at (line_of c.args.s.now) c.args.n).targets = c.get32-count.ensures ∙ node_targets_counted c.requires.0 in
-    omega (arith, count, c.requires.1)
+pub add-at-requires : goal.add-at-requires
+add-at-requires c = targets_whole c.requires.0
 
-pub put_target-requires : goal.put_target-requires
-put_target-requires c =
+pub write-requires : goal.write-requires
+write-requires c =
     let at = c.requires.0 in
-    let count : c.size.result ≡ length (node_at (line_of c.args.s.now) c.args.n).targets =
-    c.size.ensures ∙ c.get32-count.ensures ∙ node_targets_counted at
-    in
-    omega (arith, count, c.requires.1, at.inside, at.holds.ready.nodes, at.holds.ready.long)
+    (omega (arith, c.add-at.auto.s, c.add-at.ensures.place, node_targets_counted at, c.requires.1, at.inside, at.holds.ready.nodes, at.holds.ready.long), c.requires.2)
 
 pub returns : goal.returns
 returns c =
-    target_more c.requires.0 (target_is c.args.g) (record { time = omega arith; parent = omega (arith, c.requires.2); parent_time = omega arith })
-    c.requires.1 c.get32-count.result c.size.result (c.get32-count.ensures ∙ node_targets_counted c.requires.0) c.size.ensures c.put32.ensures c.put_target.ensures
+    let x = c.args.g in
+    let good = c.well_formed.1.1.0 in
+    target_more c.requires.0 (target_is x) (record { time = omega arith; parent = omega (arith, c.requires.2); parent_time = omega arith })
+    c.requires.1 c.add-at.result c.add-at.ensures.counted c.add-at.ensures.place c.write.ensures

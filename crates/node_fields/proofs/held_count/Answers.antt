@@ -8,6 +8,5 @@ use Rattle.node_fields.proofs.held_count.Goals as goal
 
 pub returns : goal.returns
 returns c =
-    let at = c.requires in
-    let is : c.size.result ≡ length (node_at (line_of c.args.s.now) c.args.n).held = c.size.ensures ∙ c.get32.ensures ∙ node_held_counted at in
-    (is, omega (arith, is, (node_fits at).held.0))
+    let is : c.count.result ≡ length (node_at (line_of c.args.s.now) c.args.n).held = c.count.ensures ∙ node_held_counted c.requires in
+    (is, omega (arith, is, (node_fits c.requires).held.0))

@@ -7,6 +7,3 @@ use Rattle.passing.proofs.first_later.Given as goal
 
 abbrev pub invariant-loop-k : goal.invariant-loop-k
 invariant-loop-k l = (l.k ≤ length (node_at (line_of l.s) l.n).log) × Each (λ (e : Entry). l.mark < e.time) (drop l.k (node_at (line_of l.s) l.n).log)
-
-abbrev pub decreases-loop-k : goal.decreases-loop-k
-decreases-loop-k l = l.k

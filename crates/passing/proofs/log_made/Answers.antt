@@ -13,6 +13,6 @@ returns c =
     let x = node_at (line_of a.s.now) a.n in
     let both = node_then c.requires.at c.append_entry.ensures c.set_time.ensures in
     record {
-      holds = subst (λ (y : Node). Holds c.set_time.new.s (with_node a.n y (line_of a.s.now))) (logged_twice a.time a.set a.what (origin_is a.made) (origin_is a.before) x) both.holds;
+      holds = subst (λ (y : Node). Holds c.set_time.new.s (with_node a.n y (line_of a.s.now))) (logged_twice a.e.time a.e.set a.e.what (origin_is a.e.made) (origin_is a.e.before) x) both.holds;
       on = both.on;
     }

@@ -13,21 +13,12 @@ use Rattle.buffer.specs.Holds.{NodeNow}
 use Rattle.passing.proofs.FeedLaws.{timed_in}
 use Rattle.passing.proofs.log_taken.Goals as goal
 
-pub set_of-set-requires : goal.set_of-set-requires
-set_of-set-requires c = (c.requires.0.at.holds.ready, c.requires.0.at.inside, c.leaving_from-first.ensures)
-
-pub time_for-time-requires : goal.time_for-time-requires
-time_for-time-requires c = (c.requires.0, c.leaving_from-first.ensures)
-
 pub returns : goal.returns
 returns c =
     let a = c.args in
     let s = a.s.now in
     let now : ℕ = (node_at (line_of s) a.n).time in
-    let chosen : c.set_of-set.result ≡ set_of (line_of s).plan a.n a.what = c.set_of-set.ensures ∙ ap (λ (p : Plan). set_of p a.n a.what) (sym (line-plan s)) in
-    let time : c.time_for-time.result ≡ time_for (line_of s).plan a.n a.what now = c.time_for-time.ensures ∙ ap (λ (t : Bool). cond t (suc now) now) (timed_in s a.n c.set_of-set.result a.what c.set_of-set.ensures) in
-    let now-logged : NodeNow s a.n (logged c.time_for-time.result c.set_of-set.result a.what (origin_is a.made) (origin_is a.before)) c.log_made.new.s = c.log_made.ensures in
+    let chosen : c.of-takers.result.set ≡ set_of (line_of s).plan a.n a.what = c.of-takers.ensures.1 ∙ ap (λ (p : Plan). set_of p a.n a.what) (sym (line-plan s)) in
+    let time : c.time-time.result ≡ time_for (line_of s).plan a.n a.what now = c.time-time.ensures ∙ ap (λ (t : Bool). cond t (suc now) now) (timed_in s a.n c.of-takers.result.set a.what c.of-takers.ensures.1) in
+    let now-logged : NodeNow s a.n (logged c.time-time.result c.of-takers.result.set a.what (origin_is a.made) (origin_is a.before)) c.log_made.new.s = c.log_made.ensures in
     rw (time, chosen) at now-logged
-
-pub leaving_from-first-requires : goal.leaving_from-first-requires
-leaving_from-first-requires c = ((c.requires.0.at.holds.ready, c.requires.1))

@@ -1,4 +1,3 @@
-use Prim.Native.Nat.{◌-◌}
 use Rattle.plan.specs.Plan.{plan_of, channel_at}
 use Rattle.rules.specs.Line.{node_at}
 use Rattle.state.specs.State.{line_of}
@@ -7,6 +6,3 @@ use Rattle.passing.proofs.next_of.Given as goal
 
 abbrev pub invariant-loop-i : goal.invariant-loop-i
 invariant-loop-i l = Searched (channel_at (plan_of l.s) l.b) l.mark (node_at (line_of l.s) l.n).log l.i
-
-abbrev pub decreases-loop-i : goal.decreases-loop-i
-decreases-loop-i l = l.count - l.i

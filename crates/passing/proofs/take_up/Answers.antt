@@ -18,13 +18,13 @@ use Rattle.passing.proofs.take_up.Goals as goal
 pub log_count-requires : goal.log_count-requires
 log_count-requires c =
     let given = c.requires in
-    at_receiver (at-lane given.undamaged given.below) (c.index-n.ensures.0 ∙ ap (λ (d : Channel). d.receiver) c.channel_of-c.ensures)
+    at_receiver (at-lane given.undamaged given.below) (c.from-n.ensures ∙ ap (λ (d : Channel). d.receiver) c.channel_of-c.ensures)
 
 pub returns-then-log_count-ge-LOG : goal.returns-then-log_count-ge-LOG
 returns-then-log_count-ge-LOG c =
     let a = c.args in
     let l = line_of a.s.now in
-    let is : c.index-n.result ≡ receiver_of l a.b = c.index-n.ensures.0 ∙ ap (λ (d : Channel). d.receiver) c.channel_of-c.ensures ∙ rw (line-plan a.s.now) in
+    let is : c.from-n.result ≡ receiver_of l a.b = c.from-n.ensures ∙ ap (λ (d : Channel). d.receiver) c.channel_of-c.ensures ∙ rw (line-plan a.s.now) in
     take-full a.s.now a.b c.requires (rw (← is) (omega (arith, c.log_count.ensures.0)))
 
 pub made_by-what-requires : goal.made_by-what-requires
@@ -32,28 +32,24 @@ made_by-what-requires c =
     let q = (lane_at (line_of c.args.s.now) c.args.b).queue in
     (c.take_first.ensures (drop 1 q) (first_is q (message_is c.first_of-m.result) c.requires.waiting c.first_of-m.ensures)).ready
 
-pub overflow_add-made : goal.overflow_add-made
-overflow_add-made c =
+pub by-requires : goal.by-requires
+by-requires c =
     let a = c.args in
     let u = c.requires.undamaged in
     let inside : c.channel_of-c.result.sender < plan_nodes a.s.now = rw c.channel_of-c.ensures (sender_inside a.s.now a.b (on_channel (at-lane u c.requires.below))) in
     omega (arith, inside, u.holds.ready.nodes)
-
-pub overflow_add-b : goal.overflow_add-b
-overflow_add-b c =
-    omega (arith, c.requires.below, c.requires.undamaged.holds.ready.channels)
 
 pub log_taken-requires : goal.log_taken-requires
 log_taken-requires c =
     let a = c.args in
     let u = c.requires.undamaged in
     let q = (lane_at (line_of a.s.now) a.b).queue in
-    let there = at_receiver (at-lane u c.requires.below) (c.index-n.ensures.0 ∙ ap (λ (d : Channel). d.receiver) c.channel_of-c.ensures) in
+    let there = at_receiver (at-lane u c.requires.below) (c.from-n.ensures ∙ ap (λ (d : Channel). d.receiver) c.channel_of-c.ensures) in
     let after = c.take_first.ensures (drop 1 q) (first_is q (message_is c.first_of-m.result) c.requires.waiting c.first_of-m.ensures) in (
-      taken_loggable a.s.now c.take_first.new.s a.b (message_is c.first_of-m.result) (drop 1 q) after c.index-n.result
+      taken_loggable a.s.now c.take_first.new.s a.b (message_is c.first_of-m.result) (drop 1 q) after c.from-n.result
           (record { at = there; room = omega (arith, c.log_count.ensures.0, c.if-log_count-ge-LOG.false); time = time_within u there.inside }),
-      subst (λ (p : Plan). LeaveFrom p c.index-n.result (a.b + 1)) (sym (taken_in_front a.s.now c.take_first.new.s a.b (message_is c.first_of-m.result) (drop 1 q) after))
-          (none_to_entering (on_channel (at-lane u c.requires.below)) (c.index-n.ensures.0 ∙ ap (λ (d : Channel). d.receiver) c.channel_of-c.ensures)),
+      subst (λ (p : Plan). LeaveFrom p c.from-n.result (a.b + 1)) (sym (taken_in_front a.s.now c.take_first.new.s a.b (message_is c.first_of-m.result) (drop 1 q) after))
+          (none_to_entering (on_channel (at-lane u c.requires.below)) (c.from-n.ensures ∙ ap (λ (d : Channel). d.receiver) c.channel_of-c.ensures)),
     )
 
 pub returns : goal.returns
@@ -62,12 +58,9 @@ returns c =
     let l = line_of a.s.now in
     let q = (lane_at l a.b).queue in
     let first = first_is q (message_is c.first_of-m.result) c.requires.waiting c.first_of-m.ensures in
-    let is : c.index-n.result ≡ receiver_of l a.b = c.index-n.ensures.0 ∙ ap (λ (d : Channel). d.receiver) c.channel_of-c.ensures ∙ rw (line-plan a.s.now) in
+    let is : c.from-n.result ≡ receiver_of l a.b = c.from-n.ensures ∙ ap (λ (d : Channel). d.receiver) c.channel_of-c.ensures ∙ rw (line-plan a.s.now) in
     take_done a.s.now a.b c.requires c.log_taken.new.s (message_is c.first_of-m.result) (drop 1 q)
     (rw (← is) (omega (arith, c.log_count.ensures.0, c.if-log_count-ge-LOG.false)))
     first
     (taken_up_lem a.s.now c.take_first.new.s a.b (message_is c.first_of-m.result) (drop 1 q) (c.take_first.ensures (drop 1 q) first)
-    c.log_taken.new.s c.channel_of-c.result c.index-n.result c.made_by-what.result c.channel_of-c.ensures c.index-n.ensures.0 c.made_by-what.ensures c.log_taken.ensures)
-
-pub channel_of-c-requires : goal.channel_of-c-requires
-channel_of-c-requires c = let given = c.requires in on_channel (at-lane given.undamaged given.below)
+    c.log_taken.new.s c.channel_of-c.result c.from-n.result c.made_by-what.result c.channel_of-c.ensures c.from-n.ensures c.made_by-what.ensures (rw c.by.ensures at c.log_taken.ensures))

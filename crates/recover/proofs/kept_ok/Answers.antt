@@ -1,21 +1,11 @@
-use mathlib.Core.Path.{sym, ap, ◌∙◌}
-use mathlib.Core.Bool.{not, not-not}
-use Rattle.rules.specs.Line.{node_at}
-use Rattle.rules.specs.Step.{is_nothing}
+use Rattle.std.proofs.Common.{false}
 use Rattle.state.specs.State.{line_of}
-use Rattle.recover.proofs.KeptLaws.{kept_right_lem, kept_nothing}
+use Rattle.node_fields.specs.Kept.{kept_is}
+use Rattle.recover.proofs.KeptLaws.{answer_many, kept_some}
 use Rattle.recover.proofs.kept_ok.Goals as goal
 
-pub returns-then-has_kept : goal.returns-then-has_kept
-returns-then-has_kept c =
-    let a = c.args in
-    let l = line_of a.s.now in
-    let o = (node_at l a.n).asked in
-    kept_right_lem l a.n c.answer_ok.result o (sym (not-not (is_nothing o)) ∙ ap not (sym c.has_kept.ensures ∙ c.if-has_kept.true)) c.answer_ok.ensures
-
-pub returns : goal.returns
-returns c =
-    let a = c.args in
-    let l = line_of a.s.now in
-    let o = (node_at l a.n).asked in
-    kept_nothing l a.n o (sym (not-not (is_nothing o)) ∙ ap not (sym c.has_kept.ensures ∙ c.if-has_kept.false))
+pub returns-in-Err : goal.returns-in-Err
+returns-in-Err c =
+    let l = line_of c.args.s.now in
+    let n = c.args.n in
+    kept_some l n false c.in-Some.kept c.in-Some.ensures (answer_many l n (kept_is c.in-Some.kept) c.in-Err.field-0 c.in-Err.ensures)

@@ -14,15 +14,15 @@ returns-then-receiver_of-n c =
 pub returns-then-c-b : goal.returns-then-c-b
 returns-then-c-b c =
     let a = c.args in
-    let inside : c.sender_of-parent.result < rows_long = omega (arith, c.sender_of-parent.ensures.1, c.requires.0.holds.ready.nodes) in
-    row_here a.s.now a.n a.b a.time a.c c.receiver_of.result c.sender_of-parent.result (get_or a.goals.now c.sender_of-parent.result 0) c.taken_of-taken.result
-    c.receiver_of.ensures.0 c.if-receiver_of-n.false c.sender_of-parent.ensures.0 (c.requires.1.each c.sender_of-parent.result inside)
+    let inside : c.sender_of.result < rows_long = omega (arith, c.sender_of.ensures.1, c.requires.0.holds.ready.nodes) in
+    row_here a.s.now a.n a.b a.time a.c c.receiver_of.result c.sender_of.result (get_or a.goals.now c.sender_of.result 0) c.taken_of-taken.result
+    c.receiver_of.ensures.0 c.if-receiver_of-n.false c.sender_of.ensures.0 (c.requires.1.each c.sender_of.result inside)
     (taken_else a.s.now a.n a.b a.time a.c c.taken_of-taken.result c.taken_of-taken.ensures c.if-c-b.true)
 
 pub returns : goal.returns
 returns c =
     let a = c.args in
-    let inside : c.sender_of-parent.result < rows_long = omega (arith, c.sender_of-parent.ensures.1, c.requires.0.holds.ready.nodes) in
-    row_here a.s.now a.n a.b a.time a.c c.receiver_of.result c.sender_of-parent.result (get_or a.goals.now c.sender_of-parent.result 0) c.greater.result
-    c.receiver_of.ensures.0 c.if-receiver_of-n.false c.sender_of-parent.ensures.0 (c.requires.1.each c.sender_of-parent.result inside)
-    (taken_here a.s.now a.n a.b a.time a.c c.greater.result (c.greater.ensures ∙ ap (λ (t : ℕ). max t a.time) c.taken_of-taken.ensures) c.if-c-b.false)
+    let inside : c.sender_of.result < rows_long = omega (arith, c.sender_of.ensures.1, c.requires.0.holds.ready.nodes) in
+    row_here a.s.now a.n a.b a.time a.c c.receiver_of.result c.sender_of.result (get_or a.goals.now c.sender_of.result 0) c.max.result
+    c.receiver_of.ensures.0 c.if-receiver_of-n.false c.sender_of.ensures.0 (c.requires.1.each c.sender_of.result inside)
+    (taken_here a.s.now a.n a.b a.time a.c c.max.result (c.max.ensures ∙ ap (λ (t : ℕ). max t a.time) c.taken_of-taken.ensures) c.if-c-b.false)

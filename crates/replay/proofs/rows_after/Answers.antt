@@ -1,6 +1,6 @@
 use Prim.Native.Nat.{ℕ, ◌+◌, ◌<◌}
 use mathlib.Core.Path.{◌≡◌, sym, ap, ◌∙◌}
-use mathlib.Core.Bool.{Bool, true, false, ◌&&◌}
+use mathlib.Core.Bool.{Bool, false, ◌&&◌}
 use mathlib.Core.List.{List}
 use native.Mathlib.Omega.{arith}
 use Rattle.plan.specs.Plan.{plan_channels, channel_count}
@@ -32,24 +32,11 @@ pub returns-then-not-row_after : goal.returns-then-not-row_after
 returns-then-not-row_after c =
     let t = c.loop-c in
     let a = c.args in
-    sym (next a.s.now a.n a.b a.time t.c false (omega (arith, c.channel_count-m.ensures.0)) (sym c.if-not-row_after.true ∙ c.row_after.ensures) t.invariant)
-
-pub loop-c-preserved : goal.loop-c-preserved
-loop-c-preserved c =
-    let t = c.loop-c in
-    let a = c.args in
-    let below : t.c < plan_channels a.s.now = omega (arith, c.channel_count-m.ensures.0) in
-    record { few = omega arith; now = next a.s.now a.n a.b a.time t.c true below (sym c.if-not-row_after.false ∙ c.row_after.ensures) t.invariant }
+    sym (next a.s.now a.n a.b a.time t.c false (omega (arith, c.channel_count-c-end.ensures.0)) (sym c.if-not-row_after.true ∙ c.row_after.ensures) t.invariant)
 
 pub returns : goal.returns
 returns c =
     let t = c.loop-c in
     let a = c.args in
     let l = line_of a.s.now in
-    sym (t.invariant.now ∙ all_end l.plan a.n (row_after l a.n a.b a.time) t.c (rw (counted a.s.now) (omega (arith, c.channel_count-m.ensures.0))))
-
-pub channel_count-m-requires : goal.channel_count-m-requires
-channel_count-m-requires c = c.requires.0.holds.ready
-
-pub row_after-requires : goal.row_after-requires
-row_after-requires c = (c.requires.0, c.requires.1, omega (arith, c.channel_count-m.ensures.0))
+    sym (t.invariant.now ∙ all_end l.plan a.n (row_after l a.n a.b a.time) t.c (rw (counted a.s.now) (omega (arith, c.channel_count-c-end.ensures.0))))

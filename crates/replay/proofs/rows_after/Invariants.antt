@@ -1,4 +1,4 @@
-use Prim.Native.Nat.{ℕ, ◌-◌, ◌≤◌}
+use Prim.Native.Nat.{ℕ, ◌≤◌}
 use mathlib.Core.Path.{◌≡◌}
 use mathlib.Core.List.{List}
 use Rattle.plan.specs.Plan.{plan_channels}
@@ -14,6 +14,3 @@ pub record RowsFrom (s : List ℕ) (n b time c : ℕ) : Type 0 where
 
 abbrev pub invariant-loop-c : goal.invariant-loop-c
 invariant-loop-c l = RowsFrom l.s l.n l.b l.time l.c
-
-abbrev pub decreases-loop-c : goal.decreases-loop-c
-decreases-loop-c l = l.m - l.c

@@ -14,9 +14,6 @@ returns c =
     let a = c.args in
     let l = line_of a.s.now in
     let what : c.made_by.result ≡ made_by l (receiver_of l a.b) a.m.what = c.made_by.ensures ∙ ap (λ (k : ℕ). made_by l k a.m.what) c.requires.to in
-    let sender : c.channel_of-c.result.sender ≡ sender_of l a.b =
-    ap (λ (d : Channel). d.sender) c.channel_of-c.ensures ∙ ap (λ (p : Plan). (channel_at p a.b).sender) (sym (line-plan a.s.now)) in
+    let sender : c.channel_of.result.sender ≡ sender_of l a.b =
+    ap (λ (d : Channel). d.sender) c.channel_of.ensures ∙ ap (λ (p : Plan). (channel_at p a.b).sender) (sym (line-plan a.s.now)) in
     λ i. record { what = what i; sender = sender i; time = a.m.time; before = origin_is a.m.made }
-
-pub channel_of-c-requires : goal.channel_of-c-requires
-channel_of-c-requires c = record { ready = c.requires.on.holds.ready; below = c.requires.below }

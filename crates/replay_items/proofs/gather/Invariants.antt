@@ -1,9 +1,9 @@
+use Rattle.plan.specs.Mask.{listed}
 use Rattle.replay_items.specs.Items.{held_by}
 use Rattle.replay_items.proofs.TableLaws.{RowsTo}
 use Rattle.replay_items.proofs.gather.Given as goal
 
-abbrev pub invariant-loop-left : goal.invariant-loop-left
-invariant-loop-left l = RowsTo l.s l.e.node (held_by l.s l.e) l.initial.t l.left l.row l.k l.t
-
-abbrev pub decreases-loop-left : goal.decreases-loop-left
-decreases-loop-left l = l.left
+abbrev pub invariant-loop-row : goal.invariant-loop-row
+invariant-loop-row l =
+    (goal.iterator-loop-row).can_next l.row-iterator × (goal.iterator-loop-row).is_finite l.row-iterator
+    × RowsTo l.s l.e.node (held_by l.s l.e) l.initial.items l.row-iterator.count (listed l.row-iterator.iter) l.items

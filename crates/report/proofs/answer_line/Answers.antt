@@ -5,9 +5,8 @@ use Rattle.report.proofs.PartsLaws.{answer-parts}
 use Rattle.report.proofs.WroteLaws.{writing_of, writing_on, writing_last}
 use Rattle.report.proofs.answer_line.Goals as goal
 
-pub decimal-second-requires : goal.decimal-second-requires
-decimal-second-requires c =
-    omega (arith, decimal-most c.args.frame (omega arith), c.byte-first.ensures.end, c.byte-first.ensures.same, c.byte-word.ensures.end, c.byte-word.ensures.same, c.requires)
+pub decimal-requires : goal.decimal-requires
+decimal-requires c = omega (arith, decimal-most c.args.frame (omega arith))
 
 pub returns : goal.returns
 returns c =
@@ -16,8 +15,8 @@ returns c =
     (writing_on refl
     (writing_on refl
     (writing_on refl
-    (writing_on refl (writing_of a.out.now a.at (answer-parts a.frame a.answer) (omega (arith, c.requires))) c.byte-word.ensures)
-    c.byte-first.ensures)
-    c.decimal-second.ensures)
-    c.byte_and_number-last.ensures)
-    c.byte.ensures
+    (writing_on refl (writing_of a.text.now (answer-parts a.frame a.answer) (omega arith)) c.byte.ensures)
+    c.byte-2.ensures)
+    c.decimal.ensures)
+    c.byte_and_number.ensures)
+    c.byte-3.ensures

@@ -1,6 +1,6 @@
-use Prim.Native.Nat.{◌-◌, ◌*◌, ◌≤◌}
+use Prim.Native.Nat.{◌*◌}
 use mathlib.Core.List.{map}
-use lib.ListN.{length, drop}
+use lib.ListN.{drop}
 use Rattle.rules.specs.Lists.{joined}
 use Rattle.rules.specs.Line.{node_numbers}
 use Rattle.rules.specs.Sheet.{node_text}
@@ -12,7 +12,4 @@ use Rattle.report.proofs.line_text.Given as goal
 abbrev pub invariant-loop-n : goal.invariant-loop-n
 invariant-loop-n l =
     let numbers = node_numbers (line_of l.s) in
-    (l.n ≤ length numbers) × Writing (joined (map (node_text (line_of l.s)) numbers)) l.initial.out l.at (l.n * node_most) l.out l.to (joined (map (node_text (line_of l.s)) (drop l.n numbers)))
-
-abbrev pub decreases-loop-n : goal.decreases-loop-n
-decreases-loop-n l = l.count - l.n
+    Writing (joined (map (node_text (line_of l.s)) numbers)) (l.n * node_most) l.initial.text l.text (joined (map (node_text (line_of l.s)) (drop l.n numbers)))

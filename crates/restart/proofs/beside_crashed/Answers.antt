@@ -12,21 +12,21 @@ pub loop-b-init : goal.loop-b-init
 loop-b-init c = (omega arith, refl)
 
 pub beside_on-found-requires : goal.beside_on-found-requires
-beside_on-found-requires c = record { ready = c.requires; below = omega (arith, c.channel_count-m.ensures.0) }
+beside_on-found-requires c = record { ready = c.requires; below = omega (arith, c.channel_count-b-end.ensures.0) }
 
 pub loop-b-preserved : goal.loop-b-preserved
 loop-b-preserved c =
     let t = c.loop-b in
     let a = c.args in
     let s = a.s.now in
-    let h : t.b < channel_count (line_of s).plan = omega (arith, c.channel_count-m.ensures.0, line_channels s) in
+    let h : t.b < channel_count (line_of s).plan = omega (arith, c.channel_count-b-end.ensures.0, line_channels s) in
     (omega (arith, line_channels s), ap₂ ◌||◌ t.invariant.1 c.beside_on-found.ensures ∙ sym (beside_turn (line_of s) a.n t.b h))
 
 pub returns : goal.returns
 returns c =
     let t = c.loop-b in
     let a = c.args in
-    t.invariant.1 ∙ beside-whole (line_of a.s.now) a.n t.b (omega (arith, c.channel_count-m.ensures.0, line_channels a.s.now))
+    t.invariant.1 ∙ beside-whole (line_of a.s.now) a.n t.b (omega (arith, c.channel_count-b-end.ensures.0, line_channels a.s.now))
 
-pub channel_count-m-requires : goal.channel_count-m-requires
-channel_count-m-requires c = c.requires
+pub channel_count-b-end-requires : goal.channel_count-b-end-requires
+channel_count-b-end-requires c = c.requires

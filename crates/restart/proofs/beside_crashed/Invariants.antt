@@ -1,4 +1,4 @@
-use Prim.Native.Nat.{◌-◌, ◌≤◌}
+use Prim.Native.Nat.{◌≤◌}
 use mathlib.Core.Path.{◌≡◌}
 use Rattle.plan.specs.Plan.{plan_channels}
 use Rattle.state.specs.State.{line_of}
@@ -7,6 +7,3 @@ use Rattle.restart.proofs.beside_crashed.Given as goal
 
 abbrev pub invariant-loop-b : goal.invariant-loop-b
 invariant-loop-b l = (l.b ≤ plan_channels l.s) × (l.found ≡ beside_to (line_of l.s) l.n l.b)
-
-abbrev pub decreases-loop-b : goal.decreases-loop-b
-decreases-loop-b l = l.m - l.b

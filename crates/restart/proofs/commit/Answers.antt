@@ -1,52 +1,26 @@
-use mathlib.Core.Path.{ap}
-use mathlib.Core.Bool.{not}
-use mathlib.Core.Path.{refl, sym, ◌∙◌}
-use borrow.Author.Rules.{rules}
-use Rattle.restart.proofs.RecoverLaws.{restart_inside, restart_on, commit_refused, commit_unkept, commit_done_by}
+use Rattle.std.proofs.Common.{sym}
+use Rattle.std.proofs.lemmas.Result.{err_from_is_err_and}
+use Rattle.node_fields.specs.Kept.{kept_is}
+use Rattle.restart.proofs.RecoverLaws.{restart_inside, restart_on, commit_refused, commit_unkept, commit_done}
 use Rattle.restart.proofs.commit.Goals as goal
 
-pub returns-then-refusal-ne0 : goal.returns-then-refusal-ne0
-returns-then-refusal-ne0 c =
-    commit_refused c.args.s.now c.args.n c.requires c.restart_refusal-refusal.result c.restart_refusal-refusal.ensures c.if-refusal-ne0.true
+pub returns-in_err-may_restart : goal.returns-in_err-may_restart
+returns-in_err-may_restart c =
+    let p = err_from_is_err_and c.from_residual.result c.from_residual.ensures.1 in
+    rw (p.1, p.2) (commit_refused c.args.s.now c.args.n c.requires c.in_err-may_restart.field-0.0 c.in_err-may_restart.ensures)
 
-pub has_kept-requires : goal.has_kept-requires
-has_kept-requires c =
-    (c.requires.holds.ready, restart_inside c.args.s.now c.args.n c.requires (sym c.restart_refusal-refusal.ensures ∙ c.if-refusal-ne0.false))
+pub kept_of-requires : goal.kept_of-requires
+kept_of-requires c = (c.requires.holds.ready, restart_inside c.args.s.now c.args.n c.requires (sym c.in_ok-may_restart.ensures))
 
-pub returns-then-not-has_kept : goal.returns-then-not-has_kept
-returns-then-not-has_kept c =
-    commit_unkept c.args.s.now c.args.n c.requires (sym c.restart_refusal-refusal.ensures ∙ c.if-refusal-ne0.false) c.has_kept.result c.has_kept.ensures (ap not c.if-not-has_kept.true)
+pub returns-in_default : goal.returns-in_default
+returns-in_default c = commit_unkept c.args.s.now c.args.n c.requires (sym c.in_ok-may_restart.ensures) c.in_default.ensures
 
-pub kept_entries-requires : goal.kept_entries-requires
-kept_entries-requires c =
-    (c.requires.holds.ready, restart_inside c.args.s.now c.args.n c.requires (sym c.restart_refusal-refusal.ensures ∙ c.if-refusal-ne0.false), refl)
-
-pub kept_number-low-requires : goal.kept_number-low-requires
-kept_number-low-requires c =
-    (c.requires.holds.ready, restart_inside c.args.s.now c.args.n c.requires (sym c.restart_refusal-refusal.ensures ∙ c.if-refusal-ne0.false), search rules)
+pub kept_entries-entries-requires : goal.kept_entries-entries-requires
+kept_entries-entries-requires c = (c.requires.holds.ready, restart_inside c.args.s.now c.args.n c.requires (sym c.in_ok-may_restart.ensures))
 
 pub settle-requires : goal.settle-requires
-settle-requires c =
-    restart_on c.args.s.now c.args.n c.requires (sym c.restart_refusal-refusal.ensures ∙ c.if-refusal-ne0.false)
-
-pub restore_channels-requires : goal.restore_channels-requires
-restore_channels-requires c =
-    (c.settle.ensures.on.holds, c.kept_entries.ensures.0)
+settle-requires c = restart_on c.args.s.now c.args.n c.requires (sym c.in_ok-may_restart.ensures)
 
 pub returns : goal.returns
 returns c =
-    commit_done_by c.args.s.now c.args.n c.requires (sym c.restart_refusal-refusal.ensures ∙ c.if-refusal-ne0.false) c.has_kept.result c.has_kept.ensures (ap not c.if-not-has_kept.false)
-    c.kept_number-low.result c.kept_number-low.ensures c.kept_entries.new.entries c.kept_entries.ensures.1 c.settle.ensures c.restore_channels.ensures
-
-pub shape_of-s : goal.shape_of-s
-shape_of-s c =
-    c.restore_channels.ensures.ready.long ∙ sym c.requires.holds.ready.long
-
-pub restart_refusal-refusal-requires : goal.restart_refusal-refusal-requires
-restart_refusal-refusal-requires c = c.requires.holds.ready
-
-pub shape_of-s-then-refusal-ne0 : goal.shape_of-s-then-refusal-ne0
-shape_of-s-then-refusal-ne0 c = refl
-
-pub shape_of-s-then-not-has_kept : goal.shape_of-s-then-not-has_kept
-shape_of-s-then-not-has_kept c = refl
+    commit_done c.args.s.now c.args.n c.requires (sym c.in_ok-may_restart.ensures) (kept_is c.in-Some.kept) c.in-Some.ensures c.kept_entries-entries.result c.kept_entries-entries.ensures.1 c.settle.ensures c.restore_channels.ensures

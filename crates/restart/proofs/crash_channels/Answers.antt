@@ -17,7 +17,7 @@ crash_channel-requires c =
     let t = c.loop-b in
     let a = c.args in
     let s = a.s.now in
-    swept_on (crashed_on (line_of s).plan a.n) (line_of s) t.s t.b (omega (arith, c.channel_count-m.ensures.0, line_channels s)) t.invariant
+    swept_on (crashed_on (line_of s).plan a.n) (line_of s) t.s t.b (omega (arith, c.channel_count-b-end.ensures.0, line_channels s)) t.invariant
 
 pub loop-b-preserved : goal.loop-b-preserved
 loop-b-preserved c =
@@ -26,7 +26,7 @@ loop-b-preserved c =
     let s = a.s.now in
     let u = c.crash_channel.new.s in
     let f = crashed_on (line_of s).plan a.n in
-    let h : t.b < channel_count (line_of s).plan = omega (arith, c.channel_count-m.ensures.0, line_channels s) in
+    let h : t.b < channel_count (line_of s).plan = omega (arith, c.channel_count-b-end.ensures.0, line_channels s) in
     swept_turn f (line_of s) t.s t.b u h t.invariant (subst (λ (p : Plan). LaneNow t.s t.b (crashed_on p a.n t.b) u) (swept_plan_in f (line_of s) t.s t.b t.invariant) c.crash_channel.ensures)
 
 pub returns : goal.returns
@@ -34,7 +34,7 @@ returns c =
     let t = c.loop-b in
     let a = c.args in
     let s = a.s.now in
-    swept_end (crashed_on (line_of s).plan a.n) (line_of s) t.s t.b (omega (arith, c.channel_count-m.ensures.0, line_channels s)) t.invariant
+    swept_end (crashed_on (line_of s).plan a.n) (line_of s) t.s t.b (omega (arith, c.channel_count-b-end.ensures.0, line_channels s)) t.invariant
 
-pub channel_count-m-requires : goal.channel_count-m-requires
-channel_count-m-requires c = c.requires.ready
+pub channel_count-b-end-requires : goal.channel_count-b-end-requires
+channel_count-b-end-requires c = c.requires.ready

@@ -1,75 +1,37 @@
-use mathlib.Core.Path.{sym, ◌∙◌}
-use native.Mathlib.Omega.{arith}
-use lib.Pow.{pow_pos}
-use lib.Seq.{get_or-drop}
-use Rattle.plan.specs.Plan.{plan_channels}
-use Rattle.state.specs.Pieces.{asked_numbers}
-use Rattle.buffer.proofs.MaskWalk.{next}
-use Rattle.restart.proofs.KeptLaws.{kept_start, kept_there, kept_turn, kept_end}
+use Rattle.std.proofs.Common.{rules, arith, [], ◌≡◌, ◌+◌, ◌≤◌, length, get_or, set, replicate}
+use Rattle.std.proofs.lemmas.Grind.{common_steps}
+use Rattle.plan.specs.Mask.{listed}
+use Rattle.buffer.specs.Rows.{rows_long}
+use Rattle.buffer.proofs.ReadyLaws.{few_enter}
+use Rattle.restart.proofs.KeptLaws.{KeptTo, kept_start, kept_turn, kept_end}
 use Rattle.restart.proofs.kept_entries.Goals as goal
 
-pub loop-left-init : goal.loop-left-init
-loop-left-init c =
+pub loop-place-init-derived : goal.loop-place-init-derived
+loop-place-init-derived c =
+    let few : length (listed c.entering.result) ≤ 4 = rw (c.entering.ensures.few c.requires.0.channels) (few_enter c.requires.0 c.args.n c.requires.1) in
+    grind (arith, common_steps)
+
+pub loop-place-init : goal.loop-place-init
+loop-place-init c =
     let a = c.args in
-    kept_start a.s.now a.n c.requires.0 c.requires.1 c.entering_mask-left.result c.entering_mask-left.ensures (omega arith) a.entries.now c.requires.2
+    let all = c.entering.ensures.few c.requires.0.channels in
+    let few : length (listed c.entering.result) ≤ 4 = rw all (few_enter c.requires.0 a.n c.requires.1) in
+    let start : KeptTo a.s.now a.n a.kept.entries (listed c.entering.result) 0 (replicate rows_long 0) = rw all (kept_start a.s.now a.n c.requires.0 c.requires.1 a.kept.entries) in
+    grind (arith, common_steps)
 
-pub overflow_cast-b : goal.overflow_cast-b
-overflow_cast-b c =
-    let t = c.loop-left in
+pub loop-place-preserved : goal.loop-place-preserved
+loop-place-preserved c =
     let a = c.args in
-    omega (arith, (next (plan_channels a.s.now) t.left c.mask_next-b.result t.invariant.channels t.invariant.rest c.loop-left-test.true c.mask_next-b.ensures).small)
-
-pub sender_of-parent-requires : goal.sender_of-parent-requires
-sender_of-parent-requires c =
-    let t = c.loop-left in
-    let x = next (plan_channels c.args.s.now) t.left c.mask_next-b.result t.invariant.channels t.invariant.rest c.loop-left-test.true c.mask_next-b.ensures in
-    record { ready = c.requires.0; below = x.below }
-
-pub kept_number-requires : goal.kept_number-requires
-kept_number-requires c =
-    let t = c.loop-left in
-    let a = c.args in
-    let x = next (plan_channels a.s.now) t.left c.mask_next-b.result t.invariant.channels t.invariant.rest c.loop-left-test.true c.mask_next-b.ensures in
-    (c.requires.0, c.requires.1, omega (arith, kept_there a.s.now a.n c.requires.0 c.requires.1 t.left t.place t.entries c.mask_next-b.result t.invariant x))
-
-pub bounds-entries-parent : goal.bounds-entries-parent
-bounds-entries-parent c =
-    omega (arith, c.sender_of-parent.ensures.1, c.requires.0.nodes, c.loop-left.invariant.long)
-
-pub without-left-requires : goal.without-left-requires
-without-left-requires c =
-    let t = c.loop-left in
-    let a = c.args in
-    let x = next (plan_channels a.s.now) t.left c.mask_next-b.result t.invariant.channels t.invariant.rest c.loop-left-test.true c.mask_next-b.ensures in
-    (x.small, x.bit)
-
-pub overflow_add-place-in-loop-left : goal.overflow_add-place-in-loop-left
-overflow_add-place-in-loop-left c =
-    let t = c.loop-left in
-    let a = c.args in
-    let x = next (plan_channels a.s.now) t.left c.mask_next-b.result t.invariant.channels t.invariant.rest c.loop-left-test.true c.mask_next-b.ensures in
-    omega (arith, kept_there a.s.now a.n c.requires.0 c.requires.1 t.left t.place t.entries c.mask_next-b.result t.invariant x)
-
-pub loop-left-smaller : goal.loop-left-smaller
-loop-left-smaller c = omega (arith, c.without-left.ensures, pow_pos c.mask_next-b.result, c.loop-left-test.true)
-
-pub loop-left-preserved : goal.loop-left-preserved
-loop-left-preserved c =
-    let t = c.loop-left in
-    let a = c.args in
-    let s = a.s.now in
-    let b = c.mask_next-b.result in
-    let x = next (plan_channels s) t.left b t.invariant.channels t.invariant.rest c.loop-left-test.true c.mask_next-b.ensures in
-    rw (c.without-left.ensures, c.sender_of-parent.ensures.0)
-    (kept_turn s a.n c.requires.0 c.requires.1 t.left t.place t.entries b t.invariant x c.kept_number.result (λ v q. c.kept_number.ensures v q ∙ sym (get_or-drop 2 (asked_numbers v) t.place 0)))
+    let t = c.loop-place in
+    let b = c.in-Some.b in
+    let steps = c.in-Some.ensures.steps in
+    let turn = kept_turn a.s.now a.n c.requires.0 c.requires.1 a.kept.entries (listed t.place-iterator.iter) (listed c.next.new.self.iter) t.place-iterator.count t.entries b t.invariant.2 steps.0 in
+    let more : KeptTo a.s.now a.n a.kept.entries (listed c.next.new.self.iter) (t.place-iterator.count + 1) (set t.entries c.sender_of.result (get_or a.kept.entries c.in-Some.place 0)) = rw (c.sender_of.ensures.0, steps.1) turn in
+    grind (arith, common_steps)
 
 pub returns : goal.returns
 returns c =
-    let t = c.loop-left in
-    (t.invariant.long, kept_end c.args.s.now c.args.n c.requires.0 c.requires.1 t.place t.entries (rw c.loop-left-test.false at t.invariant))
-
-pub overflow_add-place : goal.overflow_add-place
-overflow_add-place c = omega (arith, c.loop-left.invariant.few)
-
-pub offset_bounds-entries-parent : goal.offset_bounds-entries-parent
-offset_bounds-entries-parent c = omega (arith, c.sender_of-parent.ensures.1, c.requires.0.nodes)
+    let a = c.args in
+    let t = c.loop-place in
+    let none : listed t.place-iterator.iter ≡ [] = search rules in
+    (t.invariant.2.long, kept_end a.s.now a.n c.requires.0 c.requires.1 a.kept.entries (listed t.place-iterator.iter) t.place-iterator.count t.entries t.invariant.2 none)

@@ -1,23 +1,13 @@
-use mathlib.Core.Path.{ap}
-use native.Mathlib.Omega.{arith}
-use Rattle.rules.specs.Line.{Target}
-use Rattle.slots.specs.Slots.{target_is}
-use Rattle.restart.proofs.TargetLaws.{filled_start, filled_room, filled_turn, filled_end}
+use Rattle.restart.proofs.TargetLaws.{filled_start, filled_room, filled_turn}
 use Rattle.restart.proofs.put_targets.Goals as goal
+
+pub loop-g-init : goal.loop-g-init
+loop-g-init c = filled_start c.requires
 
 pub append_target-requires : goal.append_target-requires
 append_target-requires c =
-    let t = c.loop-i in
-    let fill = c.requires in
-    let below = c.loop-i-test.true in
-    (t.invariant.now.on, filled_room fill below t.invariant, omega (arith, ap (λ (u : Target). u.parent) c.goal_at.ensures, fill.parents t.i below))
+    let t = c.loop-g in
+    (t.invariant.now.on, filled_room c.requires c.loop-g-test.true t.invariant, c.requires.parents t.g-index _ c.loop-g-test.true)
 
-pub loop-i-preserved : goal.loop-i-preserved
-loop-i-preserved c =
-    filled_turn c.requires c.loop-i-test.true c.loop-i.invariant (target_is c.goal_at.result) c.goal_at.ensures c.append_target.new.s c.append_target.ensures
-
-pub returns : goal.returns
-returns c = filled_end c.requires (omega arith) c.loop-i.invariant
-
-pub loop-i-init : goal.loop-i-init
-loop-i-init c = filled_start c.requires
+pub loop-g-preserved : goal.loop-g-preserved
+loop-g-preserved c = filled_turn c.requires c.loop-g-test.true c.loop-g.invariant _ c.append_target.ensures

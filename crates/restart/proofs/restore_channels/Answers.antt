@@ -17,7 +17,7 @@ restore_channel-requires c =
     let t = c.loop-b in
     let a = c.args in
     let s = a.s.now in
-    (swept_on (restored_on (line_of s).plan a.n a.entries.now) (line_of s) t.s t.b (omega (arith, c.channel_count-m.ensures.0, line_channels s)) t.invariant, c.requires.1)
+    (swept_on (restored_on (line_of s).plan a.n a.entries.now) (line_of s) t.s t.b (omega (arith, c.channel_count-b-end.ensures.0, line_channels s)) t.invariant, c.requires.1)
 
 pub loop-b-preserved : goal.loop-b-preserved
 loop-b-preserved c =
@@ -26,7 +26,7 @@ loop-b-preserved c =
     let s = a.s.now in
     let u = c.restore_channel.new.s in
     let f = restored_on (line_of s).plan a.n a.entries.now in
-    let h : t.b < channel_count (line_of s).plan = omega (arith, c.channel_count-m.ensures.0, line_channels s) in
+    let h : t.b < channel_count (line_of s).plan = omega (arith, c.channel_count-b-end.ensures.0, line_channels s) in
     swept_turn f (line_of s) t.s t.b u h t.invariant (subst (λ (p : Plan). LaneNow t.s t.b (restored_on p a.n a.entries.now t.b) u) (swept_plan_in f (line_of s) t.s t.b t.invariant) c.restore_channel.ensures)
 
 pub returns : goal.returns
@@ -34,7 +34,7 @@ returns c =
     let t = c.loop-b in
     let a = c.args in
     let s = a.s.now in
-    swept_end (restored_on (line_of s).plan a.n a.entries.now) (line_of s) t.s t.b (omega (arith, c.channel_count-m.ensures.0, line_channels s)) t.invariant
+    swept_end (restored_on (line_of s).plan a.n a.entries.now) (line_of s) t.s t.b (omega (arith, c.channel_count-b-end.ensures.0, line_channels s)) t.invariant
 
-pub channel_count-m-requires : goal.channel_count-m-requires
-channel_count-m-requires c = c.requires.0.ready
+pub channel_count-b-end-requires : goal.channel_count-b-end-requires
+channel_count-b-end-requires c = c.requires.0.ready

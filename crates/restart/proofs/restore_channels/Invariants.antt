@@ -1,4 +1,3 @@
-use Prim.Native.Nat.{◌-◌}
 use Rattle.state.specs.State.{line_of}
 use Rattle.restart.specs.Lanes.{restored_on}
 use Rattle.restart.proofs.SweepLaws.{SweptIn}
@@ -6,6 +5,3 @@ use Rattle.restart.proofs.restore_channels.Given as goal
 
 abbrev pub invariant-loop-b : goal.invariant-loop-b
 invariant-loop-b l = SweptIn (restored_on (line_of l.initial.s).plan l.n l.entries) (line_of l.initial.s) l.s l.b
-
-abbrev pub decreases-loop-b : goal.decreases-loop-b
-decreases-loop-b l = l.m - l.b

@@ -5,8 +5,10 @@ use Rattle.sheet.proofs.TurnLaws.{first_holding}
 use Rattle.sheet.proofs.RanLaws.{so_far, ran_by, one_turn_longer}
 use Rattle.sheet.proofs.run.Goals as goal
 
-pub returns-then-not-write : goal.returns-then-not-write
-returns-then-not-write c = unwritten_after (so_far c.begin-reader.ensures no_turn) (c.write.ensures c.if-not-write.true)
+pub returns-in-Err : goal.returns-in-Err
+returns-in-Err c =
+    let (why, some) = c.in-Err.ensures in
+    rw why (unwritten_after (so_far c.begin-reader.ensures no_turn) some)
 
 pub loop-left-init : goal.loop-left-init
 loop-left-init c =
@@ -16,12 +18,12 @@ loop-left-init c =
 
 pub loop-left-preserved : goal.loop-left-preserved
 loop-left-preserved c =
-    let on = c.in-On.ensures in
+    let on = c.in-Ok.ensures in
     let turns = c.loop-left.invariant.1.0 in
     (on.between, (more turns on.went, omega (arith, one_turn_longer turns on.went, on.spent, c.loop-left.invariant.1.1)))
 
-pub returns-in-Stop : goal.returns-in-Stop
-returns-in-Stop c = ran_by (so_far c.begin-reader.ensures c.loop-left.invariant.1.0) c.in-Stop.ensures
+pub returns-in-Err-turn : goal.returns-in-Err-turn
+returns-in-Err-turn c = ran_by (so_far c.begin-reader.ensures c.loop-left.invariant.1.0) c.in-Err-turn.ensures
 
 pub returns : goal.returns
 returns c = allowance_used (so_far c.begin-reader.ensures c.loop-left.invariant.1.0) (omega (arith, c.loop-left-test.false, c.loop-left.invariant.1.1))

@@ -1,30 +1,39 @@
 -- A turn's ways out, by what the read gave.
-use Rattle.std.proofs.Common.{refl, sym, arith, ◌∙◌}
+use Rattle.std.proofs.Common.{◌≡◌, sym, Err, arith, rules}
+use denote.Enum.Bare.{same_true}
+use Rattle.stream.specs.contracts.Phase.{the_type}
 use Rattle.sheet.specs.Turned.{complete, at_the_end, read_failed, block_unwritten, last_unwritten}
-use Rattle.sheet.proofs.TurnLaws.{went, ended, is_ended_lem}
+use Rattle.sheet.proofs.TurnLaws.{some_got, none_got, went, ended}
 use Rattle.sheet.proofs.turn.Goals as goal
 
-pub returns-then-not-write : goal.returns-then-not-write
-returns-then-not-write c = block_unwritten (went c.args.reader c.in-Bytes.n refl c.in-Bytes.ensures c.requires.0 c.take_block-next.ensures) (c.write.ensures c.if-not-write.true)
+pub returns-in_err-write-in-Ok : goal.returns-in_err-write-in-Ok
+returns-in_err-write-in-Ok c =
+    let told : c.from_residual-in_err-write-in-Ok.result ≡ Err c.in_err-write-in-Ok.field-0.0 = search rules in
+    let (why, some) = c.in_err-write-in-Ok.ensures in
+    rw (told, why) (block_unwritten (went c.args.reader c.in-Ok.n (some_got c.in-Ok.n c.in-Ok.n-test.1) c.in-Ok.ensures c.requires.0 c.take_block-next.ensures) some)
 
-pub returns-then-is_ended : goal.returns-then-is_ended
-returns-then-is_ended c =
-    complete (went c.args.reader c.in-Bytes.n refl c.in-Bytes.ensures c.requires.0 c.take_block-next.ensures) (is_ended_lem c.take_block-next.result.phase (sym c.is_ended.ensures ∙ c.if-is_ended.true))
+pub returns-then-eq : goal.returns-then-eq
+returns-then-eq c =
+    complete (went c.args.reader c.in-Ok.n (some_got c.in-Ok.n c.in-Ok.n-test.1) c.in-Ok.ensures c.requires.0 c.take_block-next.ensures) (same_true the_type (search rules) _ _ (sym c.if-eq.ensures))
 
-pub returns-then-not-write-2 : goal.returns-then-not-write-2
-returns-then-not-write-2 c = last_unwritten (ended c.args.reader refl c.in-End.ensures c.requires.0 c.finish-wrote.ensures) (c.write-in-End.ensures c.if-not-write-2.true)
-
-pub returns-else-is_ended : goal.returns-else-is_ended
-returns-else-is_ended c =
+pub returns-else-eq : goal.returns-else-eq
+returns-else-eq c =
     let g = c.take_block-next.ensures in
+    let all = went c.args.reader c.in-Ok.n (some_got c.in-Ok.n c.in-Ok.n-test.1) c.in-Ok.ensures c.requires.0 g in
     record {
-      went = went c.args.reader c.in-Bytes.n refl c.in-Bytes.ensures c.requires.0 g;
-      between = record { holding = g.holding; room = g.room; few = omega (arith, c.in-Bytes.ensures.within, g.counted, c.requires) };
-      spent = omega (arith, c.in-Bytes.ensures.within, c.requires.1);
+      went = all;
+      between = record { holding = g.holding; room = g.room; few = omega (arith, all.read.within, g.counted, c.requires) };
+      spent = omega (arith, all.read.within, c.requires.1);
     }
 
-pub returns-else-not-write-2 : goal.returns-else-not-write-2
-returns-else-not-write-2 c = at_the_end (ended c.args.reader refl c.in-End.ensures c.requires.0 c.finish-wrote.ensures)
+pub returns-in_err-write-in-Ok-eq0 : goal.returns-in_err-write-in-Ok-eq0
+returns-in_err-write-in-Ok-eq0 c =
+    let told : c.from_residual.result ≡ Err c.in_err-write-in-Ok-eq0.field-0.0 = search rules in
+    let (why, some) = c.in_err-write-in-Ok-eq0.ensures in
+    rw (told, why) (last_unwritten (ended c.args.reader (none_got c.in-Ok-eq0.field-0-test) c.in-Ok-eq0.ensures c.requires.0 c.finish-wrote.ensures) some)
 
-pub returns-in-Failed : goal.returns-in-Failed
-returns-in-Failed c = read_failed c.in-Failed.ensures
+pub returns-in_ok-write-in-Ok-eq0 : goal.returns-in_ok-write-in-Ok-eq0
+returns-in_ok-write-in-Ok-eq0 c = at_the_end (ended c.args.reader (none_got c.in-Ok-eq0.field-0-test) c.in-Ok-eq0.ensures c.requires.0 c.finish-wrote.ensures)
+
+pub returns-in-Err : goal.returns-in-Err
+returns-in-Err c = read_failed c.in-Err.ensures

@@ -6,8 +6,8 @@ use Rattle.step.proofs.asked.Goals as goal
 
 pub returns-in-Feed : goal.returns-in-Feed
 returns-in-Feed c g asks =
-    let (bytes, (is, (what, fits))) = subst (λ (f : Frame). Asks f g) c.in-Feed.is asks in
-    same_asked is (c.feed.ensures bytes what fits)
+    let (bytes, (is, what)) = subst (λ (f : Frame). Asks f g) c.in-Feed.is asks in
+    same_asked is (c.feed.ensures bytes what)
 
 pub returns-in-Send : goal.returns-in-Send
 returns-in-Send c g asks = same_asked (subst (λ (f : Frame). Asks f g) c.in-Send.is asks) c.send.ensures

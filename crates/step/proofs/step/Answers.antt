@@ -1,45 +1,41 @@
 use Prim.Native.Nat.{◌<◌}
+use mathlib.Core.Path.{◌≡◌}
 use native.Mathlib.Omega.{arith}
+use Rattle.std.proofs.Common.{rules}
+use Rattle.std.specs.Prelude.{Err}
 use Rattle.plan.proofs.BytesLaws.{bytes_known}
 use Rattle.rules.specs.Line.{step_limit, steps_from}
 use Rattle.rules.specs.Frame.{frame_of}
 use Rattle.state.specs.State.{line_of}
-use Rattle.frame.specs.declared.Reading.TheVariants.{Refused, WellFormed}
-use Rattle.frame.proofs.FrameLaws.{read_as}
 use Rattle.step.proofs.StepLaws.{frame_step, limit_step, kind_refused, kind_accepted, few_left}
 use Rattle.step.proofs.step.Goals as goal
 
-pub returns-in-Refused : goal.returns-in-Refused
-returns-in-Refused c =
-    frame_step c.args.s.now c.args.frame.now c.requires c.in-Refused.refusal (read_as (Refused c.in-Refused.refusal) c.args.frame.now c.in-Refused.is c.read-reading.ensures)
-
-pub steps_from-requires : goal.steps_from-requires
-steps_from-requires c =
-    (c.requires.holds.ready, (read_as (WellFormed c.in-WellFormed.console c.in-WellFormed.f) c.args.frame.now c.in-WellFormed.is c.read-reading.ensures).there)
+pub returns-in_err-console : goal.returns-in_err-console
+returns-in_err-console c =
+    let told : c.from_residual.result ≡ Err c.in_err-console.field-0.0 = search rules in
+    rw told (frame_step c.args.s.now c.args.frame.now c.requires c.in_err-console.field-0.0 c.in_err-console.ensures)
 
 pub returns-then-steps_from-ge-STEP_LIMIT : goal.returns-then-steps_from-ge-STEP_LIMIT
 returns-then-steps_from-ge-STEP_LIMIT c =
-    let asked = read_as (WellFormed c.in-WellFormed.console c.in-WellFormed.f) c.args.frame.now c.in-WellFormed.is c.read-reading.ensures in
-    limit_step c.args.s.now c.args.frame.now c.requires asked (omega (arith, c.if-steps_from-ge-STEP_LIMIT.true, c.steps_from.ensures))
+    limit_step c.args.s.now c.args.frame.now c.requires c.in_ok-console.ensures (omega (arith, c.if-steps_from-ge-STEP_LIMIT.true, c.steps_from.ensures))
 
-pub returns-then-number-ne0 : goal.returns-then-number-ne0
-returns-then-number-ne0 c =
-    let asked = read_as (WellFormed c.in-WellFormed.console c.in-WellFormed.f) c.args.frame.now c.in-WellFormed.is c.read-reading.ensures in
-    let left : steps_from (line_of c.args.s.now) c.in-WellFormed.console < step_limit = omega (arith, c.if-steps_from-ge-STEP_LIMIT.false, c.steps_from.ensures) in
-    kind_refused c.args.s.now c.args.frame.now c.requires asked left c.asked-number.new.s c.asked-number.result c.if-number-ne0.true (c.asked-number.ensures (frame_of c.args.frame.now) asked.asks)
+pub returns-in_err-asked : goal.returns-in_err-asked
+returns-in_err-asked c =
+    let by = c.in_ok-console.ensures in
+    let left : steps_from (line_of c.args.s.now) c.in_ok-console.field-0.console < step_limit = omega (arith, c.if-steps_from-ge-STEP_LIMIT.false, c.steps_from.ensures) in
+    let told : c.from_residual-in_err-asked.result ≡ Err c.in_err-asked.field-0.0 = search rules in
+    let did = c.asked.ensures (frame_of c.args.frame.now) by.asks in
+    rw told (kind_refused c.args.s.now c.args.frame.now c.requires by left c.asked.new.s c.in_err-asked.field-0.0 (rw c.in_err-asked.was at did))
 
 pub count_step-requires : goal.count_step-requires
 count_step-requires c =
-    let asked = read_as (WellFormed c.in-WellFormed.console c.in-WellFormed.f) c.args.frame.now c.in-WellFormed.is c.read-reading.ensures in
-    let left : steps_from (line_of c.args.s.now) c.in-WellFormed.console < step_limit = omega (arith, c.if-steps_from-ge-STEP_LIMIT.false, c.steps_from.ensures) in
-    few_left c.args.s.now c.args.frame.now c.requires asked left c.asked-number.new.s c.asked-number.result c.if-number-ne0.false (c.asked-number.ensures (frame_of c.args.frame.now) asked.asks)
+    let by = c.in_ok-console.ensures in
+    let left : steps_from (line_of c.args.s.now) c.in_ok-console.field-0.console < step_limit = omega (arith, c.if-steps_from-ge-STEP_LIMIT.false, c.steps_from.ensures) in
+    few_left c.args.s.now c.args.frame.now c.requires by left c.asked.new.s (rw c.in_ok-asked.was at c.asked.ensures (frame_of c.args.frame.now) by.asks)
 
-pub returns-else-number-ne0 : goal.returns-else-number-ne0
-returns-else-number-ne0 c =
-    let asked = read_as (WellFormed c.in-WellFormed.console c.in-WellFormed.f) c.args.frame.now c.in-WellFormed.is c.read-reading.ensures in
-    let left : steps_from (line_of c.args.s.now) c.in-WellFormed.console < step_limit = omega (arith, c.if-steps_from-ge-STEP_LIMIT.false, c.steps_from.ensures) in
-    let bytes = bytes_known c.args.frame.now (λ i. (c.shared_slice_known-1.given i).fits) in
-    kind_accepted c.args.s.now c.args.frame.now c.requires asked left bytes c.asked-number.new.s c.count_step.new.s c.asked-number.result c.if-number-ne0.false (c.asked-number.ensures (frame_of c.args.frame.now) asked.asks) c.count_step.ensures
-
-pub asked-number-requires : goal.asked-number-requires
-asked-number-requires c = c.requires
+pub returns : goal.returns
+returns c =
+    let by = c.in_ok-console.ensures in
+    let left : steps_from (line_of c.args.s.now) c.in_ok-console.field-0.console < step_limit = omega (arith, c.if-steps_from-ge-STEP_LIMIT.false, c.steps_from.ensures) in
+    let bytes = bytes_known c.args.frame.now (λ i. (c.type_inv.frame i).fits) in
+    kind_accepted c.args.s.now c.args.frame.now c.requires by left bytes c.asked.new.s c.count_step.new.s (rw c.in_ok-asked.was at c.asked.ensures (frame_of c.args.frame.now) by.asks) c.count_step.ensures

@@ -1,27 +1,23 @@
 use mathlib.Core.Path.{sym, ◌∙◌}
-use native.Mathlib.Omega.{arith}
 use Rattle.stream.proofs.EndingLaws.{ended_short, kept_part}
+use Rattle.stream.proofs.WindowLaws.{moved_front}
 use Rattle.stream.proofs.frame_block.Goals as goal
 
-pub answer_line-nodes-requires : goal.answer_line-nodes-requires
-answer_line-nodes-requires c =
-    let g = c.work-done.ensures.going in
-    omega (arith, g.spent, g.inside, g.text.same, c.requires.space, c.requires.inside, c.requires.whole)
-
-pub line_text-wrote-requires : goal.line_text-wrote-requires
-line_text-wrote-requires c =
-    let g = c.work-done.ensures.going in
-    let line = c.answer_line-nodes.ensures in
-    (g.undamaged.holds, omega (arith, line.end, line.short, line.same, g.spent, g.inside, g.text.same, c.requires.space, c.requires.inside, c.requires.whole))
-
-pub returns-then-too_short : goal.returns-then-too_short
-returns-then-too_short c =
+pub returns-then-too_short-clause-gave : goal.returns-then-too_short-clause-gave
+returns-then-too_short-clause-gave c =
     let a = c.args in
-    ended_short a.state.now a.window.now a.from a.end a.count a.out.now c.requires c.work-done.ensures.going
-    (sym c.too_short.ensures ∙ c.if-too_short.true) c.answer_line-nodes.ensures c.line_text-wrote.ensures
+    let f = a.frames in
+    let worked = c.work-left.ensures.worked in
+    let short = rw worked.same at (sym c.too_short.ensures ∙ c.if-too_short.true) in
+    rw c.ended.ensures (ended_short a.state.now a.window.now f.at f.end f.count a.text.now.out.now c.requires.0 worked.going short c.cut.ensures.wrote c.line_text.ensures.wrote)
 
-pub returns : goal.returns
-returns c =
+pub returns-clause-gave : goal.returns-clause-gave
+returns-clause-gave c =
     let a = c.args in
-    kept_part a.state.now a.window.now a.from a.end a.count a.out.now c.requires c.work-done.ensures.going c.work-done.ensures.none
-    (sym c.if-too_short.false ∙ c.too_short.ensures) c.keep.ensures
+    let f = a.frames in
+    let worked = c.work-left.ensures.worked in
+    let long = rw worked.same at (sym c.if-too_short.false ∙ c.too_short.ensures) in
+    let moved = rw worked.same at c.copy_within.ensures.after in
+    rw worked.same
+    (kept_part a.state.now a.window.now f.at f.end f.count a.text.now.out.now c.requires.0 worked.going worked.none long
+    (moved ∙ moved_front a.window.now c.work-left.result.at f.end worked.going.inside c.requires.0.inside))

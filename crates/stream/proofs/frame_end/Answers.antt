@@ -1,30 +1,15 @@
-use native.Mathlib.Omega.{arith}
 use Rattle.stream.proofs.EndingLaws.{closed_even, closed_cut}
+use Rattle.stream.proofs.frame_end.Goals.{then-left, else-left}
 use Rattle.stream.proofs.frame_end.Goals as goal
 
-pub line_text-requires : goal.line_text-requires
-line_text-requires c =
-    let g = c.work-done.ensures.going in
-    (g.undamaged.holds, omega (arith, g.spent, g.inside, g.text.same, c.requires.space, c.requires.inside, c.requires.whole))
-
-pub answer_line-behind_cut-requires : goal.answer_line-behind_cut-requires
-answer_line-behind_cut-requires c =
-    let g = c.work-done.ensures.going in
-    omega (arith, g.spent, g.inside, g.text.same, c.requires.space, c.requires.inside, c.requires.whole)
-
-pub line_text-requires-2 : goal.line_text-requires-2
-line_text-requires-2 c =
-    let g = c.work-done.ensures.going in
-    let line = c.answer_line-behind_cut.ensures in
-    (g.undamaged.holds, omega (arith, line.end, line.short, line.same, g.spent, g.inside, g.text.same, c.requires.space, c.requires.inside, c.requires.whole))
-
-pub returns-then-done-end : goal.returns-then-done-end
-returns-then-done-end c =
+pub returns-clause-finished : goal.returns-clause-finished
+returns-clause-finished c =
     let a = c.args in
-    closed_even a.state.now a.window.now a.from a.end a.count a.out.now c.requires c.work-done.ensures.going c.work-done.ensures.none c.if-done-end.true c.line_text.ensures
-
-pub returns : goal.returns
-returns c =
-    let a = c.args in
-    closed_cut a.state.now a.window.now a.from a.end a.count a.out.now c.requires c.work-done.ensures.going c.work-done.ensures.none
-    c.if-done-end.false c.answer_line-behind_cut.ensures c.line_text-2.ensures
+    let f = a.frames in
+    let worked = c.work-left.ensures.worked in
+    elim c.if-left.branch [
+      | then-left w ↦ (let line = rw w.text-is at c.line_text.ensures in
+          closed_cut a.state.now a.window.now f.at f.end f.count a.text.now.out.now c.requires.0 worked.going worked.none (rw worked.same at w.if-left.true) w.cut.ensures.wrote line.wrote)
+      | else-left w ↦ (let line = rw w.text-is at c.line_text.ensures in
+          closed_even a.state.now a.window.now f.at f.end f.count a.text.now.out.now c.requires.0 worked.going worked.none (rw worked.same at w.if-left.false) line.wrote)
+    ]

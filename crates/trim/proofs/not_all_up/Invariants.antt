@@ -1,4 +1,3 @@
-use Prim.Native.Nat.{◌-◌}
 use mathlib.Core.Path.{◌≡◌}
 use mathlib.Core.Bool.{◌||◌}
 use Rattle.rules.specs.Step.{not_all_up}
@@ -7,7 +6,4 @@ use Rattle.trim.proofs.AnswerLaws.{stopped_from}
 use Rattle.trim.proofs.not_all_up.Given as goal
 
 abbrev pub invariant-loop-n : goal.invariant-loop-n
-invariant-loop-n l = (l.found || stopped_from (line_of l.s) l.n l.count) ≡ not_all_up (line_of l.s)
-
-abbrev pub decreases-loop-n : goal.decreases-loop-n
-decreases-loop-n l = l.count - l.n
+invariant-loop-n l = (l.found || stopped_from (line_of l.s) l.n l.n-end) ≡ not_all_up (line_of l.s)

@@ -1,8 +1,7 @@
+use Rattle.plan.specs.Mask.{listed}
 use Rattle.trim.proofs.RaiseLaws.{RaisedLeft}
 use Rattle.trim.proofs.raise_channels.Given as goal
 
-abbrev pub invariant-loop-left : goal.invariant-loop-left
-invariant-loop-left l = RaisedLeft l.initial.s l.n l.count l.left l.s
-
-abbrev pub decreases-loop-left : goal.decreases-loop-left
-decreases-loop-left l = l.left
+abbrev pub invariant-loop-b : goal.invariant-loop-b
+invariant-loop-b l =
+    (goal.iterator-loop-b).can_next l.b-iterator × (goal.iterator-loop-b).is_finite l.b-iterator × RaisedLeft l.initial.s l.n l.count (listed l.b-iterator) l.s

@@ -21,7 +21,7 @@ entry_asked c =
     let a = c.args in
     let ready = c.requires.0.holds.ready in
     let l = line_of a.s.now in
-    c.entry_within.ensures ∙ entry_is_lem l a.floors.now c.requires.1 (omega (arith, nodes-counted a.s.now (counted ready), ready.nodes)) a.n (entry_is c.entry_of-e.result) ∙ ap (droppable l a.n) c.entry_of-e.ensures
+    c.entry_within.ensures ∙ entry_is_lem l a.floors.now c.requires.1 (omega (arith, nodes-counted a.s.now (counted ready), ready.nodes)) a.n (entry_is c.entry_of.result) ∙ ap (droppable l a.n) c.entry_of.ensures
 
 pub returns-then-not-entry_within : goal.returns-then-not-entry_within
 returns-then-not-entry_within c =
@@ -30,17 +30,15 @@ returns-then-not-entry_within c =
     let log = (node_at (line_of a.s.now) a.n).log in
     let many = c.log_count-count.ensures.0 in
     let stop : droppable (line_of a.s.now) a.n (get_or log t.i no_entry) ≡ false = sym (entry_asked (goal.at.returns-then-not-entry_within c).After-entry_within) ∙ c.if-not-entry_within.true in
-    (run_ends (droppable (line_of a.s.now) a.n) no_entry log t.i (omega (arith, t.invariant.0, many)) t.invariant.1 (λ h. stop), omega (arith, t.invariant.0, many))
+    (run_ends (droppable (line_of a.s.now) a.n) no_entry log t.i (omega (arith, many)) t.invariant (λ h. stop), omega (arith, many))
 
 pub loop-i-preserved : goal.loop-i-preserved
 loop-i-preserved c =
-    let t = c.loop-i in (
-      omega arith,
-      λ j h. elim (below_or_not j t.i) [
-        | inl k ↦ t.invariant.1 j k
-        | inr k ↦ (let same : t.i ≡ j = omega arith in rw (← same) (sym (entry_asked (goal.at.loop-i-preserved c).After-entry_within) ∙ c.if-not-entry_within.false))
-      ],
-    )
+    let t = c.loop-i in
+    λ j h. elim (below_or_not j t.i) [
+      | inl k ↦ t.invariant j k
+      | inr k ↦ (let same : t.i ≡ j = omega arith in rw (← same) (sym (entry_asked (goal.at.loop-i-preserved c).After-entry_within) ∙ c.if-not-entry_within.false))
+    ]
 
 pub returns : goal.returns
 returns c =
@@ -48,19 +46,5 @@ returns c =
     let a = c.args in
     let log = (node_at (line_of a.s.now) a.n).log in
     let many = c.log_count-count.ensures.0 in
-    (run_ends (droppable (line_of a.s.now) a.n) no_entry log t.i (omega (arith, t.invariant.0, many)) t.invariant.1 (λ h. (let no : ⊥ = omega (arith, many, c.loop-i-test.false) in absurd no)), omega (arith, t.invariant.0, many))
-
-pub log_count-count-requires : goal.log_count-count-requires
-log_count-count-requires c = c.requires.0
-
-pub loop-i-init : goal.loop-i-init
-loop-i-init c = (omega arith, λ j h. (let no : ⊥ = omega arith in absurd no))
-
-pub entry_of-e-requires : goal.entry_of-e-requires
-entry_of-e-requires c = (c.requires.0, omega (arith, c.log_count-count.ensures.0))
-
-pub entry_within-requires : goal.entry_within-requires
-entry_within-requires c = (c.requires.1.long, omega (arith, c.requires.0.inside, c.requires.0.holds.ready.nodes))
-
-pub overflow_add-i : goal.overflow_add-i
-overflow_add-i c = omega (arith, c.log_count-count.ensures.1)
+    let all : t.i ≡ c.log_count-count.result = omega arith in
+    (rw all at (run_ends (droppable (line_of a.s.now) a.n) no_entry log t.i (omega (arith, many)) t.invariant (λ h. (let no : ⊥ = omega (arith, many) in absurd no))), omega (arith, many))

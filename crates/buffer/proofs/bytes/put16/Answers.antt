@@ -1,17 +1,13 @@
-use Prim.Native.Nat.{suc, ◌+◌, ◌/◌, ◌%◌}
-use mathlib.Core.Path.{◌≡◌}
-use mathlib.Core.List.{[], ◌∷◌}
-use native.Mathlib.Nat.{div-one}
-use native.Mathlib.Omega.{arith}
-use lib.ListN.{length-set}
-use Rattle.basics.specs.Put.{put_sets}
+use Prim.Native.Nat.{◌-◌, ◌+◌}
+use mathlib.Core.Path.{refl, ap, ◌∙◌}
+use mathlib.Core.List.{List}
+use Prim.Native.Nat.{ℕ}
+use borrow.Rule.Slice.PartMut.{put_mid}
+use Rattle.plan.specs.Layout.{bytes_of}
+use Rattle.buffer.proofs.BytesLaws.{number_put, be_two}
 use Rattle.buffer.proofs.bytes.put16.Goals as goal
 
 pub returns : goal.returns
 returns c =
     let a = c.args in
-    let second : a.at + 1 ≡ suc a.at = omega arith in
-    rw (div-one, second) (put_sets a.s.now a.at (a.v / 256 % 256 ∷ a.v % 256 ∷ []) (omega arith))
-
-pub bounds-s-at-2 : goal.bounds-s-at-2
-bounds-s-at-2 c = simp length-set (omega arith)
+    ap (λ (bs : List ℕ). put_mid a.at (a.at + 2 - a.at) a.s.now bs) (c.copy_from_slice.ensures.after ∙ c.to_be_bytes.ensures ∙ be_two a.v) ∙ number_put a.s.now a.at 2 (bytes_of 2 a.v) refl

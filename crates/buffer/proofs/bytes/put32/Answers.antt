@@ -1,25 +1,13 @@
-use Prim.Native.Nat.{suc, ◌+◌, ◌/◌, ◌%◌}
-use mathlib.Core.Path.{◌≡◌}
-use mathlib.Core.List.{[], ◌∷◌}
-use native.Mathlib.Nat.{div-one}
-use native.Mathlib.Omega.{arith}
-use lib.ListN.{length-set}
-use Rattle.basics.specs.Put.{put_sets}
+use Prim.Native.Nat.{◌-◌, ◌+◌}
+use mathlib.Core.Path.{refl, ap, ◌∙◌}
+use mathlib.Core.List.{List}
+use Prim.Native.Nat.{ℕ}
+use borrow.Rule.Slice.PartMut.{put_mid}
+use Rattle.plan.specs.Layout.{bytes_of}
+use Rattle.buffer.proofs.BytesLaws.{number_put, be_four}
 use Rattle.buffer.proofs.bytes.put32.Goals as goal
 
 pub returns : goal.returns
 returns c =
     let a = c.args in
-    let second : a.at + 1 ≡ suc a.at = omega arith in
-    let third : a.at + 2 ≡ suc (suc a.at) = omega arith in
-    let fourth : a.at + 3 ≡ suc (suc (suc a.at)) = omega arith in
-    rw (div-one, second, third, fourth) (put_sets a.s.now a.at (a.v / 16_777_216 % 256 ∷ a.v / 65_536 % 256 ∷ a.v / 256 % 256 ∷ a.v % 256 ∷ []) (omega arith))
-
-pub bounds-s-at-2 : goal.bounds-s-at-2
-bounds-s-at-2 c = simp length-set (omega arith)
-
-pub bounds-s-at-3 : goal.bounds-s-at-3
-bounds-s-at-3 c = simp length-set (omega arith)
-
-pub bounds-s-at-4 : goal.bounds-s-at-4
-bounds-s-at-4 c = simp length-set (omega arith)
+    ap (λ (bs : List ℕ). put_mid a.at (a.at + 4 - a.at) a.s.now bs) (c.copy_from_slice.ensures.after ∙ c.to_be_bytes.ensures ∙ be_four a.v) ∙ number_put a.s.now a.at 4 (bytes_of 4 a.v) refl

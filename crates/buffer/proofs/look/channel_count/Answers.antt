@@ -6,4 +6,4 @@ use Rattle.buffer.proofs.look.channel_count.Goals as goal
 pub returns : goal.returns
 returns c =
     let s = c.args.s.now in
-    (c.index.ensures.0 ∙ sym (channels_byte s), omega (arith, channels_byte s, c.index.ensures.0, c.requires.channels))
+    (c.from.ensures ∙ sym (channels_byte s), omega (arith, channels_byte s, c.from.ensures, c.requires.channels))

@@ -6,4 +6,4 @@ use Rattle.buffer.proofs.look.node_count.Goals as goal
 pub returns : goal.returns
 returns c =
     let s = c.args.s.now in
-    (c.index.ensures.0 ∙ sym (nodes_byte s), omega (arith, nodes_byte s, c.index.ensures.0, c.requires.nodes))
+    (c.from.ensures ∙ sym (nodes_byte s), omega (arith, nodes_byte s, c.from.ensures, c.requires.nodes))

@@ -13,8 +13,8 @@ bounds-s-at c = omega (arith, c.channel_from-at.ensures.1, c.requires.ready.long
 pub returns : goal.returns
 returns c =
     let a = c.args in
-    let e : c.index.result ≡ (channel_at (plan_of a.s.now) a.b).sender =
-    c.index.ensures.0 ∙ ap (λ (i : ℕ). get_or a.s.now i 0) c.channel_from-at.ensures.0 ∙ sender_byte a.s.now a.b c.requires.below in
+    let e : c.from.result ≡ (channel_at (plan_of a.s.now) a.b).sender =
+    c.from.ensures ∙ ap (λ (i : ℕ). get_or a.s.now i 0) c.channel_from-at.ensures.0 ∙ sender_byte a.s.now a.b c.requires.below in
     (e, rw e (sender_inside a.s.now a.b c.requires))
 
 pub channel_from-at-requires : goal.channel_from-at-requires

@@ -13,6 +13,6 @@ returns c =
     let number = c.get64-number in
     let a = c.args in
     let s = a.s.now in
-    let bytes = bytes_known s (λ i. (c.shared_slice_known-1.given i).fits) in
+    let bytes = bytes_known s (λ i. (c.type_inv.s i).fits) in
     rw (c.known.ensures, c.piece_of-piece.ensures, c.material_of-material.ensures, c.mass_of-mass.ensures, c.zero_of.ensures)
     (ap (λ (n : ℕ). record_fits (bytes_of 8 n)) number.ensures ∙ ap record_fits (part_written 8 a.at s bytes c.requires) ∙ record_tested a.at s bytes c.requires)

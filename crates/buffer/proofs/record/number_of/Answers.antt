@@ -3,5 +3,4 @@ use Rattle.buffer.proofs.WordLaws.{number_of_record}
 use Rattle.buffer.proofs.record.number_of.Goals as goal
 
 pub returns : goal.returns
-returns c =
-    number_of_record c.args.r (omega (arith, c.struct_known-1.given)) (omega (arith, c.struct_known-2-1.given)) (omega (arith, c.struct_known-3-1.given))
+returns c = number_of_record c.args.r (omega arith) (omega arith) (omega arith)

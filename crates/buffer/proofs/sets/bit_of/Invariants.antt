@@ -4,6 +4,3 @@ use Rattle.buffer.proofs.sets.bit_of.Given as goal
 
 abbrev pub invariant-loop-k : goal.invariant-loop-k
 invariant-loop-k l = Behind (plan_of l.s) l.b l.k l.bit
-
-abbrev pub decreases-loop-k : goal.decreases-loop-k
-decreases-loop-k l = l.k

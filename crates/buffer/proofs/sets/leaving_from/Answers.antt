@@ -1,3 +1,4 @@
+use mathlib.Core.Path.{◌≡◌}
 use native.Mathlib.Numerals.{add-one}
 use native.Mathlib.Omega.{arith}
 use Rattle.plan.specs.Plan.{plan_of}
@@ -12,22 +13,17 @@ pub returns-then-n-sender_of : goal.returns-then-n-sender_of
 returns-then-n-sender_of c =
     let a = c.args in
     let turn = c.loop-b in
-    begin_here (plan_of a.s.now) a.n turn.b turn.invariant (omega (arith, c.sender_of.ensures.0, c.if-n-sender_of.true))
+    begin_here (plan_of a.s.now) a.n turn.b turn.invariant.0 (omega (arith, c.sender_of.ensures.0, c.if-n-sender_of.true))
 
 pub loop-b-preserved : goal.loop-b-preserved
 loop-b-preserved c =
     let a = c.args in
     let turn = c.loop-b in
-    rw (add-one turn.b) (leave_next (plan_of a.s.now) a.n turn.b turn.invariant (omega (arith, channel_count_lem a.s.now, c.channel_count-m.ensures.0)) (omega (arith, c.sender_of.ensures.0, c.if-n-sender_of.false)))
+    (rw (add-one turn.b) (leave_next (plan_of a.s.now) a.n turn.b turn.invariant.0 (omega (arith, channel_count_lem a.s.now, c.channel_count-m.ensures.0)) (omega (arith, c.sender_of.ensures.0, c.if-n-sender_of.false))), omega (arith, c.channel_count-m.ensures.0))
 
 pub returns : goal.returns
 returns c =
     let a = c.args in
     let turn = c.loop-b in
-    begin_nowhere (plan_of a.s.now) a.n turn.b turn.invariant (omega (arith, channel_count_lem a.s.now, c.channel_count-m.ensures.0))
-
-pub channel_count-m-requires : goal.channel_count-m-requires
-channel_count-m-requires c = c.requires.0
-
-pub loop-b-init : goal.loop-b-init
-loop-b-init c = c.requires.1
+    let is : c.max.result ≡ turn.b = omega (arith, c.max.ensures) in
+    rw is (begin_nowhere (plan_of a.s.now) a.n turn.b turn.invariant.0 (omega (arith, channel_count_lem a.s.now, c.channel_count-m.ensures.0)))

@@ -1,35 +1,35 @@
+use mathlib.Core.Path.{◌≡◌, ap}
 use native.Mathlib.Omega.{arith}
+use lib.ListN.{length}
+use Rattle.state.specs.State.{line_of}
+use Rattle.state.proofs.InPlace.{line-counts}
 use Rattle.buffer.proofs.ReadyLaws.{counted}
-use Rattle.line.proofs.CheckLaws.{steps_added, steps-within}
+use Rattle.line.proofs.CheckLaws.{counting_start, counting_more, counting_past, counting_end}
 use Rattle.line.proofs.whole.all_steps.Goals as goal
 
-pub overflow_add-result : goal.overflow_add-result
-overflow_add-result c =
-    let few = steps-within c.args.s.now (counted c.requires.0) c.requires.1 in
-    omega (arith, c.steps_from-c.ensures, c.steps_from-d.ensures, few 2, few 3)
+pub loop-console-init : goal.loop-console-init
+loop-console-init c = counting_start (line_of c.args.s.now)
 
-pub overflow_add-result-2 : goal.overflow_add-result-2
-overflow_add-result-2 c =
-    let few = steps-within c.args.s.now (counted c.requires.0) c.requires.1 in
-    omega (arith, c.steps_from-b.ensures, c.steps_from-c.ensures, c.steps_from-d.ensures, few 1, few 2, few 3)
+pub returns-then-steps-gt-STEP_LIMIT : goal.returns-then-steps-gt-STEP_LIMIT
+returns-then-steps-gt-STEP_LIMIT c =
+    let s = c.args.s.now in
+    let t = c.loop-console in
+    let four : length (line_of s).steps ≡ 4 = ap length (line-counts s (counted c.requires)) in
+    counting_past (line_of s) t.all t.console t.invariant (omega arith) (omega (arith, c.steps_from-steps.ensures))
 
-pub overflow_add-result-3 : goal.overflow_add-result-3
-overflow_add-result-3 c =
-    let few = steps-within c.args.s.now (counted c.requires.0) c.requires.1 in
-    omega (arith, c.steps_from-a.ensures, c.steps_from-b.ensures, c.steps_from-c.ensures, c.steps_from-d.ensures, few 0, few 1, few 2, few 3)
+pub overflow_add-all : goal.overflow_add-all
+overflow_add-all c = let t = c.loop-console in omega (arith, t.invariant.few)
+
+pub loop-console-preserved : goal.loop-console-preserved
+loop-console-preserved c =
+    let s = c.args.s.now in
+    let t = c.loop-console in
+    let four : length (line_of s).steps ≡ 4 = ap length (line-counts s (counted c.requires)) in
+    rw c.steps_from-steps.ensures (counting_more (line_of s) t.all t.console t.invariant (omega arith) (omega (arith, c.steps_from-steps.ensures)))
 
 pub returns : goal.returns
 returns c =
-    rw (c.steps_from-a.ensures, c.steps_from-b.ensures, c.steps_from-c.ensures, c.steps_from-d.ensures) (steps_added c.args.s.now (counted c.requires.0))
-
-pub steps_from-a-requires : goal.steps_from-a-requires
-steps_from-a-requires c = (c.requires.0, omega arith)
-
-pub steps_from-b-requires : goal.steps_from-b-requires
-steps_from-b-requires c = (c.requires.0, omega arith)
-
-pub steps_from-c-requires : goal.steps_from-c-requires
-steps_from-c-requires c = (c.requires.0, omega arith)
-
-pub steps_from-d-requires : goal.steps_from-d-requires
-steps_from-d-requires c = (c.requires.0, omega arith)
+    let s = c.args.s.now in
+    let t = c.loop-console in
+    let four : length (line_of s).steps ≡ 4 = ap length (line-counts s (counted c.requires)) in
+    counting_end (line_of s) t.all t.console t.invariant (omega arith)

@@ -1,21 +1,13 @@
-use native.Mathlib.Omega.{arith}
-use Rattle.state.specs.State.{line_of}
+use mathlib.Core.Path.{refl, ap, ◌∙◌}
+use Prim.Native.Nat.{ℕ}
+use borrow.Author.Rules.{rules}
+use Rattle.rules.specs.Lists.{all_of, up_to}
+use Rattle.node_check.proofs.WalkLaws.{all_below}
 use Rattle.items.specs.Items.{restart_right}
-use Rattle.line.proofs.CheckLaws.{tested_start, tested_turn, tested_end}
+use Rattle.state.specs.State.{line_of}
 use Rattle.line.proofs.whole.restarts_ok.Goals as goal
 
-pub loop-k-init : goal.loop-k-init
-loop-k-init c = let a = c.args in tested_start (restart_right (line_of a.s.now)) a.n
-
-pub restart_ok-ok-requires : goal.restart_ok-ok-requires
-restart_ok-ok-requires c =
-    (c.requires.0, c.requires.1, omega (arith, c.requires.2))
-
-pub loop-k-preserved : goal.loop-k-preserved
-loop-k-preserved c =
-    let t = c.loop-k in
-    let a = c.args in
-    tested_turn (restart_right (line_of a.s.now)) a.n t.ok t.k (omega arith) c.restart_ok-ok.ensures t.invariant
-
 pub returns : goal.returns
-returns c = let t = c.loop-k in let a = c.args in tested_end (restart_right (line_of a.s.now)) a.n t.ok t.k (omega arith) t.invariant
+returns c =
+    let s = c.args.s.now in
+    all_below _ _ _ (restart_right (line_of s)) c.node_count.result c.all.ensures.ran refl (λ x t q k. search rules) ∙ ap (λ (n : ℕ). all_of (restart_right (line_of s)) (up_to 0 n)) c.node_count.ensures.0

@@ -1,9 +1,5 @@
-use Prim.Native.Nat.{◌-◌}
 use Rattle.node_check.proofs.MaterialLaws.{Adding}
 use Rattle.node_check.proofs.sets.add_channel.Given as goal
 
 abbrev pub invariant-loop-i : goal.invariant-loop-i
-invariant-loop-i l = Adding l.initial.t l.mask l.bit l.t l.i l.left
-
-abbrev pub decreases-loop-i : goal.decreases-loop-i
-decreases-loop-i l = 16 - l.i
+invariant-loop-i l = Adding l.fn.t l.mask l.bit l.t l.i

@@ -1,5 +1,6 @@
+use native.Mathlib.Omega.{arith}
 use Rattle.plan.proofs.ReadLaws.{channels_byte}
 use Rattle.plan.proofs.bytes.channel_count.Goals as goal
 
 pub returns : goal.returns
-returns c = (cc (c.index_of.ensures.0, c.byte_at.ensures, channels_byte c.args.plan.now), c.index_of.ensures.1)
+returns c = let e = channels_byte c.args.plan.now in (cc, omega arith)

@@ -17,9 +17,9 @@ pub returns-then-bit-left : goal.returns-then-bit-left
 unfolding takes
 returns-then-bit-left c =
     let a = c.args in
-    other_taken (is_tick (record { piece = a.piece; material = a.material; mass = a.mass })) _ (rw (c.bit_set-bit.ensures, c.left_over-left.ensures) at c.if-bit-left.true)
+    other_taken (is_tick (record { piece = a.piece; material = a.material; mass = a.mass })) _ (rw (c.bit_set-bit.ensures, c.left_over-left.ensures, c.from.ensures) at c.if-bit-left.true)
 
 pub returns : goal.returns
 unfolding takes
 returns c =
-    c.is_tick.ensures ∙ tick_only _ _ (rw (c.bit_set-bit.ensures, c.left_over-left.ensures) at c.if-bit-left.false)
+    c.is_tick.ensures ∙ tick_only _ _ (rw (c.bit_set-bit.ensures, c.left_over-left.ensures, c.from.ensures) at c.if-bit-left.false)

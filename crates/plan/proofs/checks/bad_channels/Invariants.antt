@@ -1,4 +1,3 @@
-use Prim.Native.Nat.{◌-◌, ◌≤◌}
 use mathlib.Core.Path.{◌≡◌}
 use mathlib.Core.Bool.{◌&&◌}
 use lib.ListN.{drop}
@@ -7,7 +6,4 @@ use Rattle.plan.specs.Check.{channels_fit}
 use Rattle.plan.proofs.checks.bad_channels.Given as goal
 
 abbrev pub invariant-loop-b : goal.invariant-loop-b
-invariant-loop-b l = (l.b ≤ l.m) × (channels_fit l.n 0 0 (plan_of l.plan).channels ≡ (l.ok && channels_fit l.n l.sender l.receiver (drop l.b (plan_of l.plan).channels)))
-
-abbrev pub decreases-loop-b : goal.decreases-loop-b
-decreases-loop-b l = l.m - l.b
+invariant-loop-b l = channels_fit l.n 0 0 (plan_of l.plan).channels ≡ (l.ok && channels_fit l.n l.sender l.receiver (drop l.b (plan_of l.plan).channels))

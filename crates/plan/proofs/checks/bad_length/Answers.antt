@@ -4,4 +4,4 @@ use Rattle.plan.proofs.checks.bad_length.Goals as goal
 
 pub returns : goal.returns
 unfolding bad_length plan_length
-returns c = rw (c.count_of-field.ensures, c.word_at.ensures)
+returns c = rw (c.from-field.ensures, c.word_at.ensures)

@@ -1,5 +1,5 @@
 use Prim.Native.Nat.{◌≤◌, ◌<◌}
-use mathlib.Core.Path.{refl, ap, ◌∙◌}
+use mathlib.Core.Path.{ap, ◌∙◌}
 use mathlib.Core.Bool.{not}
 use native.Mathlib.Omega.{arith}
 use lib.ListN.{length, drop}
@@ -10,23 +10,17 @@ use Rattle.plan.proofs.LayoutLaws.{length-read_slots}
 use Rattle.plan.proofs.LoopLaws.{rule_slots, rules_more, rules_end}
 use Rattle.plan.proofs.checks.bad_rules.Goals as goal
 
-pub loop-i-init : goal.loop-i-init
-loop-i-init c = (omega arith, refl)
-
-pub node_rule_fits-ok-requires : goal.node_rule_fits-ok-requires
-node_rule_fits-ok-requires c = (omega (arith, c.node_count-n.ensures.0), omega (arith, c.node_count-n.ensures.1))
-
 pub loop-i-preserved : goal.loop-i-preserved
 loop-i-preserved c =
     let s = c.args.plan.now in
     let t = c.loop-i in
-    let l : t.i < length (rule_slots s) = rw (length-read_slots rule_fields (plan_nodes s) (drop 5 s)) (omega (arith, c.node_count-n.ensures.0)) in
-    (omega arith, rw c.node_rule_fits-ok.ensures (t.invariant.1 ∙ rules_more t.ok (rule_slots s) t.i l))
+    let l : t.i < length (rule_slots s) = rw (length-read_slots rule_fields (plan_nodes s) (drop 5 s)) (omega (arith, c.node_count-i-end.ensures.0)) in
+    rw c.node_rule_fits-ok.ensures (t.invariant ∙ rules_more t.ok (rule_slots s) t.i l)
 
 pub returns : goal.returns
 unfolding bad_rules
 returns c =
     let s = c.args.plan.now in
     let t = c.loop-i in
-    let l : length (rule_slots s) ≤ t.i = rw (length-read_slots rule_fields (plan_nodes s) (drop 5 s)) (omega (arith, c.node_count-n.ensures.0)) in
-    ap not (rules_end t.ok (rule_slots s) t.i l t.invariant.1)
+    let l : length (rule_slots s) ≤ t.i = rw (length-read_slots rule_fields (plan_nodes s) (drop 5 s)) (omega (arith, c.node_count-i-end.ensures.0)) in
+    ap not (rules_end t.ok (rule_slots s) t.i l t.invariant)

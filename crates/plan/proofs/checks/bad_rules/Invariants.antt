@@ -1,4 +1,3 @@
-use Prim.Native.Nat.{◌-◌, ◌≤◌}
 use mathlib.Core.Path.{◌≡◌}
 use mathlib.Core.Bool.{◌&&◌}
 use lib.ListN.{drop}
@@ -7,7 +6,4 @@ use Rattle.plan.proofs.LoopLaws.{rule_slots}
 use Rattle.plan.proofs.checks.bad_rules.Given as goal
 
 abbrev pub invariant-loop-i : goal.invariant-loop-i
-invariant-loop-i l = (l.i ≤ l.n) × (rules_fit (rule_slots l.plan) ≡ (l.ok && rules_fit (drop l.i (rule_slots l.plan))))
-
-abbrev pub decreases-loop-i : goal.decreases-loop-i
-decreases-loop-i l = l.n - l.i
+invariant-loop-i l = rules_fit (rule_slots l.plan) ≡ (l.ok && rules_fit (drop l.i (rule_slots l.plan)))

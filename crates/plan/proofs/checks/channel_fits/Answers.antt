@@ -3,4 +3,4 @@ use Rattle.plan.proofs.checks.channel_fits.Goals as goal
 
 pub returns : goal.returns
 unfolding channel_fits
-returns c = rw c.index_of-receiver.ensures.0
+returns c = rw c.from.ensures

@@ -1,8 +1,9 @@
-use native.Mathlib.Omega.{arith}
-use lib.Pow.{pow_pos}
-use Rattle.plan.specs.Plan.{plan_channels}
-use Rattle.buffer.proofs.MaskWalk.{next}
-use Rattle.recover.proofs.LowLaws.{lows_none, lows_start, lows_there, lows_few, lows_turn, lows_end}
+use Rattle.std.proofs.Common.{ℕ, arith, ap, ◌∙◌, ◌+◌, ◌≤◌, length, get_or}
+use Rattle.std.proofs.lemmas.Grind.{common_steps}
+use Rattle.plan.specs.Mask.{listed}
+use Rattle.rules.specs.Line.{lane_at}
+use Rattle.state.specs.State.{line_of}
+use Rattle.recover.proofs.LowLaws.{LowsTo, lows_none, lows_few, lows_start, lows_there, lows_turn}
 use Rattle.recover.proofs.lows.lows_on.Goals as goal
 
 pub returns-then-no_low : goal.returns-then-no_low
@@ -10,65 +11,30 @@ returns-then-no_low c =
     let a = c.args in
     lows_none a.s.now a.n a.b a.rows.now c.requires.2 (c.no_low.ensures c.if-no_low.true)
 
-pub loop-left-init : goal.loop-left-init
-loop-left-init c =
-    let a = c.args in
-    lows_start a.s.now a.n a.b c.requires.0 c.requires.1 a.rows.now c.entering_mask-left.result c.entering_mask-left.ensures (omega arith) c.requires.2
+pub loop-place-init-derived : goal.loop-place-init-derived
+loop-place-init-derived c =
+    let few : length (listed c.entering.result) ≤ 4 = rw (c.entering.ensures.few c.requires.0.ready.channels) (lows_few c.args.s.now c.args.n c.args.b c.requires.0 c.requires.1 c.args.rows.now) in
+    grind (arith, common_steps)
 
-pub overflow_cast-c : goal.overflow_cast-c
-overflow_cast-c c =
-    let t = c.loop-left in
+pub loop-place-init : goal.loop-place-init
+loop-place-init c =
     let a = c.args in
-    omega (arith, (next (plan_channels a.s.now) t.left c.mask_next-c.result t.invariant.channels t.invariant.rest c.loop-left-test.true c.mask_next-c.ensures).small)
-
-pub sender_of-parent-requires : goal.sender_of-parent-requires
-sender_of-parent-requires c =
-    let t = c.loop-left in
-    let x = next (plan_channels c.args.s.now) t.left c.mask_next-c.result t.invariant.channels t.invariant.rest c.loop-left-test.true c.mask_next-c.ensures in
-    record { ready = c.requires.0.ready; below = x.below }
+    let all = c.entering.ensures.few c.requires.0.ready.channels in
+    let few : length (listed c.entering.result) ≤ 4 = rw all (lows_few a.s.now a.n a.b c.requires.0 c.requires.1 a.rows.now) in
+    let start : LowsTo a.s.now a.n a.b a.rows.now (listed c.entering.result) 0 a.rows.now = rw all (lows_start a.s.now a.n a.b c.requires.0 c.requires.1 a.rows.now c.requires.2) in
+    grind (arith, common_steps)
 
 pub low_clock_of-low-requires : goal.low_clock_of-low-requires
 low_clock_of-low-requires c =
-    let t = c.loop-left in
     let a = c.args in
-    let x = next (plan_channels a.s.now) t.left c.mask_next-c.result t.invariant.channels t.invariant.rest c.loop-left-test.true c.mask_next-c.ensures in
-    (c.requires.0.ready, c.requires.0.below, lows_there a.s.now a.n a.b c.requires.0 c.requires.1 a.rows.now t.left t.place t.rows c.mask_next-c.result t.invariant x)
+    let t = c.loop-place in
+    let there = lows_there a.s.now a.n a.b c.requires.0 c.requires.1 a.rows.now (listed t.place-iterator.iter) (listed c.next.new.self.iter) t.place-iterator.count t.rows c.in-Some.c t.invariant.2 c.in-Some.ensures.steps.0 in
+    (c.requires.0.ready, c.requires.0.below, omega (arith, there, c.in-Some.ensures.steps.1))
 
-pub without-left-requires : goal.without-left-requires
-without-left-requires c =
-    let t = c.loop-left in
+pub loop-place-preserved : goal.loop-place-preserved
+loop-place-preserved c =
     let a = c.args in
-    let x = next (plan_channels a.s.now) t.left c.mask_next-c.result t.invariant.channels t.invariant.rest c.loop-left-test.true c.mask_next-c.ensures in
-    (x.small, x.bit)
-
-pub overflow_add-place : goal.overflow_add-place
-overflow_add-place c =
-    let t = c.loop-left in
-    let a = c.args in
-    let x = next (plan_channels a.s.now) t.left c.mask_next-c.result t.invariant.channels t.invariant.rest c.loop-left-test.true c.mask_next-c.ensures in
-    omega (arith, lows_few a.s.now a.n a.b c.requires.0 c.requires.1 a.rows.now t.left t.place t.rows c.mask_next-c.result t.invariant x)
-
-pub loop-left-smaller : goal.loop-left-smaller
-loop-left-smaller c = omega (arith, c.without-left.ensures, pow_pos c.mask_next-c.result, c.loop-left-test.true)
-
-pub loop-left-preserved : goal.loop-left-preserved
-loop-left-preserved c =
-    let t = c.loop-left in
-    let a = c.args in
-    let x = next (plan_channels a.s.now) t.left c.mask_next-c.result t.invariant.channels t.invariant.rest c.loop-left-test.true c.mask_next-c.ensures in
-    rw c.without-left.ensures (lows_turn a.s.now a.n a.b c.requires.0 c.requires.1 a.rows.now t.left t.place t.rows c.mask_next-c.result t.invariant x c.sender_of-parent.result c.low_clock_of-low.result c.raise.new.rows c.sender_of-parent.ensures.0 c.low_clock_of-low.ensures c.raise.ensures.1)
-
-pub returns : goal.returns
-returns c =
-    let t = c.loop-left in
-    let a = c.args in
-    lows_end a.s.now a.n a.b c.requires.0 c.requires.1 a.rows.now t.place t.rows (rw c.loop-left-test.false at t.invariant)
-
-pub no_low-requires : goal.no_low-requires
-no_low-requires c = c.requires.0
-
-pub overflow_cast-parent : goal.overflow_cast-parent
-overflow_cast-parent c = omega (arith, c.sender_of-parent.ensures.1, c.requires.0.ready.nodes)
-
-pub raise-requires : goal.raise-requires
-raise-requires c = c.loop-left.invariant.long
+    let t = c.loop-place in
+    let more = lows_turn a.s.now a.n a.b c.requires.0 c.requires.1 a.rows.now (listed t.place-iterator.iter) (listed c.next.new.self.iter) t.place-iterator.count t.rows c.in-Some.c t.invariant.2 c.in-Some.ensures.steps.0
+    c.sender_of.result c.low_clock_of-low.result c.raise.new.rows c.sender_of.ensures.0 (c.low_clock_of-low.ensures ∙ ap (λ (i : ℕ). get_or (lane_at (line_of a.s.now) a.b).low (1 + i) 0) c.in-Some.ensures.steps.1) c.raise.ensures.1 in
+    grind (arith, common_steps)

@@ -1,8 +1,8 @@
+use Rattle.plan.specs.Mask.{listed}
 use Rattle.recover.proofs.LowLaws.{LowsTo}
 use Rattle.recover.proofs.lows.lows_on.Given as goal
 
-abbrev pub invariant-loop-left : goal.invariant-loop-left
-invariant-loop-left l = LowsTo l.s l.n l.b l.initial.rows l.left l.place l.rows
-
-abbrev pub decreases-loop-left : goal.decreases-loop-left
-decreases-loop-left l = l.left
+abbrev pub invariant-loop-place : goal.invariant-loop-place
+invariant-loop-place l =
+    (goal.iterator-loop-place).can_next l.place-iterator × (goal.iterator-loop-place).is_finite l.place-iterator
+    × LowsTo l.s l.n l.b l.initial.rows (listed l.place-iterator.iter) l.place-iterator.count l.rows

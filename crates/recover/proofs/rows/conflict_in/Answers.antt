@@ -1,28 +1,13 @@
-use mathlib.Core.Path.{refl, sym}
-use native.Mathlib.Omega.{arith}
-use Rattle.recover.proofs.RowLaws.{conflicting_turn, conflicting_end}
+use Rattle.std.proofs.Common.{sym, ◌∙◌}
+use Rattle.recover.proofs.RowLaws.{conflict_here, conflict_behind}
 use Rattle.recover.proofs.rows.conflict_in.Goals as goal
 
-pub returns-then-rising : goal.returns-then-rising
-returns-then-rising c = let e = c.rising.ensures in (sym (e.0 c.if-rising.true), e.1)
+pub returns-then-clashes : goal.returns-then-clashes
+returns-then-clashes c =
+    let w = c.in-Some in
+    (sym (c.loop-g.invariant ∙ conflict_here c.loop-g.rest.now w.g.now w.behind.now w.ensures.cases.0 (sym c.if-clashes.ensures)), c.rising.ensures.1)
 
-pub loop-i-init : goal.loop-i-init
-loop-i-init c = record { within = omega arith; now = refl }
-
-pub clashes-found-requires : goal.clashes-found-requires
-clashes-found-requires c = let p = c.requires in (p.0, p.1, omega arith)
-
-pub loop-i-preserved : goal.loop-i-preserved
-loop-i-preserved c =
-    let t = c.loop-i in
-    let a = c.args in
-    conflicting_turn a.xs.now a.count t.found t.i c.clashes-found.result (omega arith) c.clashes-found.ensures t.invariant
-
-pub returns : goal.returns
-returns c =
-    let t = c.loop-i in
-    let a = c.args in
-    (conflicting_end a.xs.now a.count t.found t.i (omega arith) t.invariant, c.rising.ensures.1)
-
-pub rising-requires : goal.rising-requires
-rising-requires c = c.requires
+pub loop-g-preserved : goal.loop-g-preserved
+loop-g-preserved c =
+    let w = c.in-Some in
+    c.loop-g.invariant ∙ conflict_behind c.loop-g.rest.now w.g.now w.behind.now w.ensures.cases.0 (sym c.if-clashes.ensures)

@@ -17,7 +17,7 @@ loop-b-init c = record { within = omega arith; now = λ ts g. refl }
 pub row_restored-ok-requires : goal.row_restored-ok-requires
 row_restored-ok-requires c =
     let p = c.requires in
-    (record { ready = p.0; below = omega (arith, c.channel_count-m.ensures.0) }, p.1, p.2.long)
+    (record { ready = p.0; below = omega (arith, c.channel_count-b-end.ensures.0) }, p.1, p.2.long)
 
 pub loop-b-preserved : goal.loop-b-preserved
 loop-b-preserved c =
@@ -26,7 +26,7 @@ loop-b-preserved c =
     let s = a.s.now in
     let sender = (channel_at (plan_of s) t.b).sender in
     let other : Bool = not (eqb (channel_at (plan_of s) t.b).receiver a.n) in
-    let h : t.b < plan_channels s = omega (arith, c.channel_count-m.ensures.0) in
+    let h : t.b < plan_channels s = omega (arith, c.channel_count-b-end.ensures.0) in
     let on : OnChannel s t.b = record { ready = c.requires.0; below = h } in
     let inside : sender < rows_long = omega (arith, sender_inside s t.b on, on.ready.nodes) in
     record {
@@ -38,7 +38,7 @@ pub returns : goal.returns
 returns c ts g =
     let t = c.loop-b in
     let a = c.args in
-    t.invariant.now ts g ∙ rows_whole a.s.now a.n ts t.b (omega (arith, c.channel_count-m.ensures.0))
+    t.invariant.now ts g ∙ rows_whole a.s.now a.n ts t.b (omega (arith, c.channel_count-b-end.ensures.0))
 
-pub channel_count-m-requires : goal.channel_count-m-requires
-channel_count-m-requires c = c.requires.0
+pub channel_count-b-end-requires : goal.channel_count-b-end-requires
+channel_count-b-end-requires c = c.requires.0

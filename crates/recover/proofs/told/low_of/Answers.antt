@@ -1,27 +1,23 @@
-use Prim.Native.Nat.{◌<◌}
-use native.Mathlib.Omega.{arith}
+use Rattle.std.proofs.Common.{rules, of_calls, arith, sym, ◌∙◌, ◌≡◌, ◌<◌}
 use Rattle.plan.specs.Plan.{plan_channels}
-use Rattle.recover.proofs.ChildLaws.{low_start, low_turn, low_end}
+use Rattle.recover.proofs.ChildLaws.{least_with, low_turn, low_other, low_end}
 use Rattle.recover.proofs.told.low_of.Goals as goal
-
-pub loop-b-init : goal.loop-b-init
-loop-b-init c = low_start c.args.s.now c.args.n
-
-pub sender_of-requires : goal.sender_of-requires
-sender_of-requires c = record { ready = c.requires; below = omega (arith, c.channel_count-m.ensures.0) }
-
-pub taken_of-requires : goal.taken_of-requires
-taken_of-requires c = (c.requires, omega (arith, c.channel_count-m.ensures.0))
+use Rattle.recover.proofs.told.low_of.Goals.{then-sender_of-n, else-sender_of-n}
 
 pub loop-b-preserved : goal.loop-b-preserved
 loop-b-preserved c =
-    let a = c.args in
+    let s = c.args.s.now in
+    let n = c.args.n in
     let t = c.loop-b in
-    let h : t.b < plan_channels a.s.now = omega (arith, c.channel_count-m.ensures.0) in
-    rw (c.low_with-low.ensures, c.taken_of.ensures, c.sender_of.ensures.0) (low_turn a.s.now a.n t.b t.low t.seen h t.invariant)
+    let inside : t.b < plan_channels s = omega (arith, c.channel_count-b-end.ensures.0) in
+    let e = c.sender_of.ensures.0 in
+    elim c.if-sender_of-n.branch [
+      | then-sender_of-n w ↦ (let is : w.map_or.result ≡ least_with t.low w.taken_of-taken.result = search (rules, of_calls) in
+          rw (w.low-is, is, w.taken_of-taken.ensures) (low_turn s n t.b t.low inside t.invariant (sym e ∙ w.if-sender_of-n.true)))
+      | else-sender_of-n w ↦ rw w.low-is (low_other s n t.b t.low inside t.invariant (λ q. w.if-sender_of-n.false (e ∙ q)))
+    ]
 
 pub returns : goal.returns
 returns c =
-    let a = c.args in
     let t = c.loop-b in
-    low_end a.s.now a.n t.b t.low t.seen (omega (arith, c.channel_count-m.ensures.0)) t.invariant
+    c.unwrap_or.ensures ∙ low_end c.args.s.now c.args.n t.b t.low (omega (arith, c.channel_count-b-end.ensures.0)) t.invariant

@@ -1,50 +1,60 @@
+use Prim.Native.Nat.{ℕ}
+use mathlib.Core.Path.{ap}
+use lib.ListN.{get_or}
 use native.Mathlib.Omega.{arith}
-use Rattle.report.proofs.ParentLaws.{walking_four, walking_less}
+use Rattle.std.proofs.lemmas.Grind.{common_steps}
+use Rattle.plan.specs.Mask.{listed}
+use Rattle.node_fields.specs.Kept.{kept_is}
+use Rattle.report.proofs.ParentLaws.{four_parents, walking_at}
 use Rattle.report.proofs.KeptLaws.{restoring_start, restoring_room, restoring_turn, restoring_end}
 use Rattle.report.proofs.kept.restored_words.Goals as goal
 
-pub loop-left-init : goal.loop-left-init
-loop-left-init c =
+pub loop-place-init : goal.loop-place-init
+loop-place-init c =
     let a = c.args in
-    restoring_start a.s.now a.n c.requires.0 c.requires.1 a.out.now a.at c.requires.2 c.entering_mask-left.result c.entering_mask-left.ensures
+    let start = restoring_start a.s.now a.n c.requires.0 (kept_is a.kept) c.requires.1 a.text.now c.requires.2 in
+    let four = four_parents a.s.now a.n c.requires.0 in
+    let those = c.entering.ensures.few c.requires.0.holds.ready.channels in
+    grind (arith, common_steps)
 
-pub next_parent-p-requires : goal.next_parent-p-requires
-next_parent-p-requires c =
+pub byte-requires : goal.byte-requires
+byte-requires c =
     let a = c.args in
-    let v = c.loop-left in
-    let more = c.loop-left-test.true in
-    let room = restoring_room a.s.now a.n c.requires.0 c.requires.1 a.out.now a.at c.requires.2 v.out v.to v.left v.place v.invariant more in
-    (c.requires.0, c.requires.1, v.invariant.walking.mask, more, omega (arith, room))
+    let v = c.loop-place in
+    let room = restoring_room a.s.now a.n c.requires.0 (kept_is a.kept) c.requires.1 a.text.now c.requires.2 v.text v.place-iterator.count (listed v.place-iterator.iter) v.invariant.2 c.in-Some.ensures.steps.0 in
+    omega (arith, room)
 
-pub node_and_time-to-requires : goal.node_and_time-to-requires
-node_and_time-to-requires c =
+pub offset_bounds-kept-place : goal.offset_bounds-kept-place
+offset_bounds-kept-place c =
+    let here = walking_at c.loop-place.invariant.2.walking c.in-Some.ensures.steps.0 in
+    omega (arith, here.inside, four_parents c.args.s.now c.args.n c.requires.0, c.in-Some.ensures.steps.1)
+
+pub bounds-kept-place : goal.bounds-kept-place
+bounds-kept-place c =
+    let here = walking_at c.loop-place.invariant.2.walking c.in-Some.ensures.steps.0 in
+    omega (arith, here.inside, four_parents c.args.s.now c.args.n c.requires.0, c.in-Some.ensures.steps.1)
+
+pub sender_of-requires : goal.sender_of-requires
+sender_of-requires c = record { ready = c.requires.0.holds.ready; below = (walking_at c.loop-place.invariant.2.walking c.in-Some.ensures.steps.0).below }
+
+pub node_and_time-requires : goal.node_and_time-requires
+node_and_time-requires c =
     let a = c.args in
-    let v = c.loop-left in
-    let p = c.next_parent-p.ensures in
-    let room = restoring_room a.s.now a.n c.requires.0 c.requires.1 a.out.now a.at c.requires.2 v.out v.to v.left v.place v.invariant c.loop-left-test.true in
-    (omega (arith, p.known, c.requires.0.holds.ready.nodes), omega (arith, room, p.wrote.end, p.wrote.same))
+    let v = c.loop-place in
+    let room = restoring_room a.s.now a.n c.requires.0 (kept_is a.kept) c.requires.1 a.text.now c.requires.2 v.text v.place-iterator.count (listed v.place-iterator.iter) v.invariant.2 c.in-Some.ensures.steps.0 in
+    let b = c.byte.ensures.wrote in
+    (omega (arith, c.sender_of.ensures.1, c.requires.0.holds.ready.nodes), omega (arith, room, b.end, b.same))
 
-pub overflow_add-place : goal.overflow_add-place
-overflow_add-place c =
-    let v = c.loop-left in
-    omega (arith, walking_four v.invariant.walking c.requires.0)
-
-pub loop-left-smaller : goal.loop-left-smaller
-loop-left-smaller c =
-    let v = c.loop-left in
-    walking_less v.invariant.walking c.next_parent-p.ensures
-
-pub loop-left-preserved : goal.loop-left-preserved
-loop-left-preserved c =
+pub loop-place-preserved : goal.loop-place-preserved
+loop-place-preserved c =
     let a = c.args in
-    let v = c.loop-left in
-    restoring_turn a.s.now a.n c.requires.0 c.requires.1 a.out.now a.at c.requires.2 v.out v.to v.left v.place v.invariant c.next_parent-p.new.out c.next_parent-p.result c.node_and_time-to.new.out c.node_and_time-to.result c.next_parent-p.ensures c.node_and_time-to.ensures
-
-pub shape_of-out : goal.shape_of-out
-shape_of-out c = c.loop-left.invariant.writing.wrote.same
+    let v = c.loop-place in
+    let more = restoring_turn a.s.now a.n c.requires.0 (kept_is a.kept) c.requires.1 a.text.now c.requires.2 v.text v.place-iterator.count (listed v.place-iterator.iter) v.invariant.2 c.in-Some.ensures.steps.0
+    c.sender_of.result (get_or a.kept.entries c.in-Some.place 0) c.byte.new.self c.node_and_time.new.text c.sender_of.ensures.0 (ap (λ (k : ℕ). get_or a.kept.entries k 0) c.in-Some.ensures.steps.1) c.byte.ensures c.node_and_time.ensures in
+    grind (arith, common_steps)
 
 pub returns : goal.returns
 returns c =
     let a = c.args in
-    let v = c.loop-left in
-    restoring_end a.s.now a.n c.requires.0 c.requires.1 a.out.now a.at c.requires.2 v.out v.to v.left v.place v.invariant c.loop-left-test.false
+    let v = c.loop-place in
+    restoring_end a.s.now a.n c.requires.0 (kept_is a.kept) c.requires.1 a.text.now c.requires.2 v.text v.place-iterator.count (listed v.place-iterator.iter) v.invariant.2 c.in-None.ensures.steps.0.0

@@ -7,12 +7,11 @@ use Rattle.report.proofs.kept.target_word.Goals as goal
 
 pub returns : goal.returns
 returns c =
-    let parent = c.size.ensures in
     let a = c.args in
     writing_last
     (writing_on refl
     (writing_on refl
-    (writing_on refl (writing_of a.out.now a.at (target-parts (target_is a.g)) (omega (arith, c.requires))) c.byte_and_number-open.ensures)
-    c.byte-parent.ensures)
-    (rw parent at c.node_and_time-close.ensures))
-    c.byte.ensures
+    (writing_on refl (writing_of a.text.now (target-parts (target_is a.g)) (omega arith)) c.byte_and_number.ensures)
+    c.byte.ensures)
+    c.node_and_time.ensures)
+    c.byte-2.ensures

@@ -13,9 +13,9 @@ returns c =
     (writing_on refl
     (writing_on refl
     (writing_on refl
-    (writing_on refl (writing_of a.out.now a.at (entry-parts a.n (entry_is a.e)) (omega (arith, c.requires.1))) c.byte-first.ensures)
-    c.byte_and_number-second.ensures)
-    c.byte_and_number-third.ensures)
-    c.origin_words-fourth.ensures)
-    c.record_words-last.ensures)
-    c.byte.ensures
+    (writing_on refl (writing_of a.text.now (entry-parts a.n (entry_is a.e)) (omega arith)) c.byte.ensures)
+    c.byte_and_number.ensures)
+    c.byte_and_number-2.ensures)
+    c.origin_words.ensures)
+    c.record_words.ensures)
+    c.byte-2.ensures

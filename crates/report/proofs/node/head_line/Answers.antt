@@ -13,8 +13,8 @@ returns c =
     (writing_on refl
     (writing_on refl
     (writing_on refl
-    (writing_on refl (writing_of a.out.now a.at (head_parts (line_of a.s.now) a.n) (omega (arith, c.requires.1))) c.byte-first.ensures)
-    c.byte_and_number-second.ensures)
-    c.status_word-third.ensures)
-    (rw time at c.byte_and_number-last.ensures))
-    c.byte.ensures
+    (writing_on refl (writing_of a.text.now (head_parts (line_of a.s.now) a.n) (omega arith)) c.byte.ensures)
+    c.byte_and_number.ensures)
+    c.status_word.ensures)
+    (rw time at c.byte_and_number-2.ensures))
+    c.byte-2.ensures

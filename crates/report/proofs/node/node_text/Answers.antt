@@ -11,7 +11,7 @@ returns c =
     writing_last
     (writing_on refl
     (writing_on refl
-    (writing_on refl (writing_of a.out.now a.at (node-parts (line_of a.s.now) a.n) (omega (arith, c.requires.1))) c.head_line-logged.ensures)
-    c.log_lines-clock.ensures)
-    c.clock_line-kept.ensures)
+    (writing_on refl (writing_of a.text.now (node-parts (line_of a.s.now) a.n) (omega arith)) c.head_line.ensures)
+    c.log_lines.ensures)
+    c.clock_line.ensures)
     c.kept_line.ensures

@@ -6,10 +6,11 @@ use Rattle.report.proofs.node.record_words.Goals as goal
 
 pub returns : goal.returns
 returns c =
-    let material = c.wide32.ensures.0 in
+    let material = c.from.ensures in
+    let mass = c.from-2.ensures in
     let a = c.args in
     writing_last
     (writing_on refl
-    (writing_on refl (writing_of a.out.now a.at (record_parts a.r) (omega (arith, c.requires))) c.byte_and_number-second.ensures)
-    (rw material at c.byte_and_number-third.ensures))
-    c.byte_and_number.ensures
+    (writing_on refl (writing_of a.text.now (record_parts a.r) (omega arith)) c.byte_and_number.ensures)
+    (rw material at c.byte_and_number-2.ensures))
+    (rw mass at c.byte_and_number-3.ensures)

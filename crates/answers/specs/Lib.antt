@@ -1,0 +1,2 @@
+-- What the contracts of refused and accepted calls cite.
+pub mod Number

@@ -1,0 +1,8 @@
+use mathlib.Core.Path.{◌∙◌}
+use Rattle.node_check.proofs.PieceBytes.{entry_made_lem}
+use Rattle.node_check.proofs.Page.entry_made.Goals as goal
+
+pub returns : goal.returns
+returns c =
+    let p = c.args.self.now in
+    c.origin_ok.ensures ∙ entry_made_lem p.n c.args.slot p.joins.state.now c.from-from.result c.get32-time.result c.from-earlier.result c.get32-since.result c.from-from.ensures c.get32-time.ensures c.from-earlier.ensures c.get32-since.ensures

@@ -1,9 +1,0 @@
-use Rattle.node_check.specs.Sets.{none_past}
-use Rattle.node_check.proofs.SetLaws.{SetsLeft}
-use Rattle.node_check.proofs.sets.none_past.Given as goal
-
-abbrev pub invariant-loop-left : goal.invariant-loop-left
-invariant-loop-left l = SetsLeft l.s l.n (none_past l.k) l.slot l.left
-
-abbrev pub decreases-loop-left : goal.decreases-loop-left
-decreases-loop-left l = l.left

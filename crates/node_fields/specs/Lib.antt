@@ -1,0 +1,2 @@
+-- What a node's fields hold.
+pub mod Kept

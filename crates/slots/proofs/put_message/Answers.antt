@@ -1,9 +1,0 @@
-use native.Mathlib.Omega.{arith}
-use Rattle.slots.specs.Slots.{message_is}
-use Rattle.slots.proofs.SlotLaws.{message-written}
-use Rattle.slots.proofs.put_message.Goals as goal
-
-pub returns : goal.returns
-returns c =
-    let a = c.args in
-    rw (c.put16.ensures, c.put8.ensures, c.put_made.ensures, c.put32.ensures, c.put_record.ensures) (message-written a.s.now a.at (omega arith) (message_is a.m))
