@@ -11,8 +11,8 @@ use native.Mathlib.Omega.{arith}
 use borrow.Author.Tests.{ne_eqb, eqb-true}
 use lib.Dec.{eqb, eqb-zero-suc, eqb-suc-zero}
 use lib.Bits.{bit_or, or_zero_l, or_add_and, and_le_r}
-use lib.ListN.{length, get_or, take, drop, replicate, length-drop}
-use lib.Seq.{length-take-le, take-suc, take-add, drop-cons, drop-drop, get_or-drop}
+use lib.ListN.{length, get_or, take, drop, set, replicate, length-drop}
+use lib.Seq.{length-take-le, take-suc, take_all, take-add, drop-cons, drop-drop, get_or-drop, paste, paste-suc}
 use Rattle.plan.specs.Layout.{spelled, bytes_of}
 use Rattle.plan.specs.Lawful.{Zeros}
 use Rattle.state.specs.State.{same_bytes}
@@ -92,6 +92,15 @@ zero_bytes_lem (b ∷ s) e =
 pub zero_same : (s : List ℕ) → same_bytes (replicate (length s) 0) s ≡ zero_bytes s
 zero_same [] = refl
 zero_same (b ∷ s) = ap (λ (t : Bool). eqb 0 b && t) (zero_same s)
+
+-- ---- bytes written one by one
+
+pub paste_turn : (d : List ℕ) (at : ℕ) (s : List ℕ) (j i : ℕ) → at + j ≡ i → i < length d → j < length s → set (paste d at s j) i (get_or s j 0) ≡ paste d at s (suc j)
+paste_turn d at s j i e l h = ap (λ (k : ℕ). set (paste d at s j) k (get_or s j 0)) (sym e) ∙ paste-suc d at s j 0 (omega arith) h
+
+-- All of them.
+pub paste_all : (d : List ℕ) (at : ℕ) (s : List ℕ) (n to : ℕ) → length s ≡ n → at + n ≡ to → paste d at s n ≡ take at d ++ s ++ drop to d
+paste_all d at s n to e f = rw (take_all n s (omega arith), f)
 
 -- ---- a number's bytes written
 

@@ -86,7 +86,10 @@ pub fn copy_to(from: &[u8], to: &mut [u8])
     requires { length from.now ≤ length to.old }
     ensures { to.new ≡ from.now ++ drop (length from.now) to.old }
 {
-    to[..from.len()].copy_from_slice(from);
+    // Not copy_from_slice, which would call memmove: the libraries for C ask for no such name.
+    for i in 0..from.len() {
+        to[i] = from[i];
+    }
 }
 
 // A byte at a place.

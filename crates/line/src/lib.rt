@@ -23,7 +23,7 @@ pub fn line_load(plan: &[u8], state: &mut [u8]) -> Result<(), Refusal>
     if state.len() != Line::STATE_SIZE {
         return Err(Refusal::State);
     }
-    // No plainer by copy_from_slice and fill, which these are.
+    // Buffer's own: copy_from_slice would call memmove, which a caller in C need not have.
     bytes::copy_to(plan, state);
     bytes::fill_zero(state, plan.len(), Line::STATE_SIZE);
     Ok(())
