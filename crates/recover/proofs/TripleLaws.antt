@@ -8,7 +8,7 @@ use native.Mathlib.Omega.{arith}
 use mathlib.Core.Logic.{◌≢◌}
 use borrow.Author.Tests.{eq-eqb, ne_eqb}
 use lib.Dec.{leb, eqb}
-use lib.ListN.{length, get_or, take, drop, take-append-drop}
+use lib.ListN.{length, get_or, take, drop}
 use lib.Seq.{take-suc, take_all}
 use Rattle.plan.specs.declared.Channel.{Channel}
 use Rattle.plan.specs.Plan.{plan_of, plan_nodes, plan_channels, channel_at}
@@ -71,9 +71,6 @@ made_tells n o b q t p u e same f = rw (e, f, eq-eqb q n same)
 triples_append : (n : ℕ) (xs ys : List Entry) → triples n (xs ++ ys) ≡ triples n xs ++ triples n ys
 triples_append n [] ys = refl
 triples_append n (e ∷ xs) ys = ap (λ (ts : List Target). triple_of n e ++ ts) (triples_append n xs ys) ∙ sym (append_assoc (triple_of n e) (triples n xs) (triples n ys))
-
-pub triples_parts : (n : ℕ) (log : List Entry) (i : ℕ) → triples n (take i log) ++ triples n (drop i log) ≡ triples n log
-triples_parts n log i = sym (triples_append n (take i log) (drop i log)) ∙ ap (triples n) (take-append-drop i log)
 
 pub triples_turn : (n : ℕ) (log : List Entry) (i : ℕ) → i < length log → triples n (take (i + 1) log) ≡ triples n (take i log) ++ triple_of n (get_or log i no_entry)
 triples_turn n log i h = rw (add-one i, take-suc log i no_entry h) (triples_append n (take i log) (get_or log i no_entry ∷ []) ∙ ap (λ (ts : List Target). triples n (take i log) ++ ts) (nil_right (triple_of n (get_or log i no_entry))))

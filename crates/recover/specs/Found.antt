@@ -98,14 +98,14 @@ is_above rows parent time = ltb parent rows_long && ltb (get_or rows parent 0) t
 
 -- ---- what some triples tell
 
--- Those above low are added to the targets, and those up to low are in their parents' rows.
-pub record Gained (low : ℕ) (ts before : List Target) (rows : List ℕ) (after : List Target) (next : List ℕ) : Type 0 where
-  pub targets : after ≡ add_above low ts before
+-- Those above low are added to the targets, or these are too many, and those up to low are in their parents' rows, whatever the targets are.
+pub record Gained {A : Type 0} (low : ℕ) (ts before : List Target) (rows : List ℕ) (r : Result A Refusal) (after : List Target) (next : List ℕ) : Type 0 where
+  pub targets : Gathered (add_above low ts before) r after
   pub raised : Rows next (raised_by rows (λ q. restored_over low q ts))
 
 -- What channel b tells of node n: its triples, and in the parents' rows what its low clock holds, too.
-pub record GainedOn (s : List ℕ) (n b low : ℕ) (before : List Target) (rows : List ℕ) (after : List Target) (next : List ℕ) : Type 0 where
-  pub targets : after ≡ add_above low (triples_on s n b) before
+pub record GainedOn {A : Type 0} (s : List ℕ) (n b low : ℕ) (before : List Target) (rows : List ℕ) (r : Result A Refusal) (after : List Target) (next : List ℕ) : Type 0 where
+  pub targets : Gathered (add_above low (triples_on s n b) before) r after
   pub raised : Rows next (raised_by rows (λ q. max (child_low s n b q) (restored_over low q (triples_on s n b))))
 
 -- ---- rows

@@ -27,6 +27,17 @@ pub struct Found {
 }
 
 impl Found {
+    // Nothing of any node, for find to fill.
+    pub fn new() -> Found
+        ensures { (result.low ≡ 0) × (result.targets ≡ []) × Rows result.entries (λ q. 0) }
+    {
+        Found {
+            low: 0,
+            targets: Targets::new(),
+            entries: [0; 12],
+        }
+    }
+
     // Whether targets conflict, or all rows are complete as soon as the node is restored, and it has targets.
     pub fn has_no_outcome(&self, s: &[u8], n: usize) -> bool
         requires { Ready s.now × Rows self.now.entries (restored (line_of s.now) n) }
@@ -131,12 +142,13 @@ impl Found {
         requires { Ready s.now × LogsCounted s.now × (n < plan_nodes s.now) × (k < plan_nodes s.now) × (length self.old.entries ≡ rows_long) }
         ensures { Told (triples n (node_at (line_of s.now) k).log) self.old result self.new }
     {
+        let mut outcome: Result<(), Refusal> = Ok(());
         for i in 0..log_count(s, k) {
             if let Some(g) = told_at(s, n, k, i) {
-                self.hear(g)?;
+                outcome = outcome.and(self.hear(g));
             }
         }
-        Ok(())
+        outcome
     }
 
     // On channel b: by the low clock and in the log at its end, if the channel leaves the node.
@@ -154,17 +166,19 @@ impl Found {
 
 // Of a node. "Targets are the distinct triples (B-time, A, A-time) with B-time above low, over all children": refused if there are more than 64.
 // "the restored entry is the greatest A-time in children's log entries made from B's messages with B-time at most low, 0 if none", and at least what the children's low clocks hold.
-pub fn find(s: &[u8], n: usize) -> Result<Found, Refusal>
+// Low and the entries are found of a node that is refused, too.
+// What is found is lent: handed out, it would lie on the stack of each caller twice, and line_check would need twice the stack.
+pub fn find(s: &[u8], n: usize, found: &mut Found) -> Result<(), Refusal>
     requires { Ready s.now × LogsCounted s.now × (n < plan_nodes s.now) }
-    ensures { MatchResult result (Finds s.now n) (TooMany (targets_of (line_of s.now) n)) }
+    ensures told { MatchResult result (λ _. Finds s.now n found.new) (TooMany (targets_of (line_of s.now) n)) }
+    ensures rows { (found.new.low ≡ low_of (line_of s.now) n) × Rows found.new.entries (restored (line_of s.now) n) }
 {
-    let mut found = Found {
-        low: low_of(s, n),
-        targets: Targets::new(),
-        entries: [0; 12],
-    };
+    found.low = low_of(s, n);
+    found.targets.clear();
+    found.entries = [0; 12];
+    let mut outcome: Result<(), Refusal> = Ok(());
     for b in 0..look::channel_count(s) {
-        found.hear_channel(s, n, b)?;
+        outcome = outcome.and(found.hear_channel(s, n, b));
     }
-    Ok(found)
+    outcome
 }

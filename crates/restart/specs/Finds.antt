@@ -1,6 +1,5 @@
 -- What Recover finds of a node, and the rows of a kept answer.
-use Rattle.std.specs.Prelude.{ℕ, ◌<◌, ◌≡◌, List, get_or, IfOk}
-use Rattle.std.specs.declared.result.Result.{Result}
+use Rattle.std.specs.Prelude.{ℕ, ◌<◌, ◌≡◌, List, get_or, Result, Ok, Err, IfOk}
 use Rattle.std.proofs.Math.Option.{some}
 use Rattle.plan.specs.Plan.{Plan, node_count, channel_count, channel_at, entering}
 use Rattle.rules.specs.Line.{down, Asked, node_at}
@@ -19,6 +18,11 @@ pub record Restores (s : List ℕ) (n : ℕ) (found : Found) : Type 0 where
   pub stopped : (node_at (line_of s) n).status ≡ down
   pub leads : effect (line_of s) (recover n) ≡ some (recovered n (line_of s))
   pub finds : Finds s n found
+
+-- What a call that fills what is lent gives: what stands in it then, or its refusal.
+abbrev pub filled : Result (Unit {0}) Refusal → Found → Result Found Refusal
+filled (Ok u) found = Ok found
+filled (Err e) found = Err e
 
 -- So it is, or Recover is refused with this number.
 pub record Restoring (s : List ℕ) (n : ℕ) (r : Result Found Refusal) : Type 0 where

@@ -16,7 +16,7 @@ ghost use Rattle.buffer.specs.Status.{status_is};
 ghost use Rattle.node_fields.specs.Kept.{kept_is};
 ghost use Rattle.recover.specs.Found.{targets_in};
 ghost use Rattle.restart.specs.Answers.{is_end, beside_on, reach_answer, crash_answer, restart_asked};
-ghost use Rattle.restart.specs.Finds.{Restoring, KeptRows};
+ghost use Rattle.restart.specs.Finds.{filled, Restoring, KeptRows};
 ghost use Rattle.restart.specs.Lanes.{wiped, cleared, with_entry, marked, crashed_on, restored_on, crashed_lanes, restored_lanes};
 ghost use Rattle.restart.specs.Nodes.{emptied, settled, Fillable};
 
@@ -171,16 +171,16 @@ pub fn crash(s: &mut [u8], n: usize) -> Result<(), Refusal>
 // ---- Recover, Ask and Commit
 
 // What Recover finds of a node, if it isn't refused.
-fn find(s: &[u8], n: usize) -> Result<Found, Refusal>
+fn find(s: &[u8], n: usize, found: &mut Found) -> Result<(), Refusal>
     requires { Undamaged s.now }
-    ensures { Restoring s.now n result }
+    ensures { Restoring s.now n (filled result found.new) }
 {
     may_restart(s, n)?;
-    let found = told::find(s, n)?;
+    told::find(s, n, found)?;
     if found.has_no_outcome(s, n) {
         return Err(Refusal::NoPlacing);
     }
-    Ok(found)
+    Ok(())
 }
 
 // The targets found, into a node that has none.
@@ -261,7 +261,8 @@ pub fn recover(s: &mut [u8], n: usize) -> Result<(), Refusal>
     requires { Undamaged s.old }
     ensures { Did s.old (recover n) s.new (number result) }
 {
-    let found = find(s, n)?;
+    let mut found = Found::new();
+    find(s, n, &mut found)?;
     node_fields::clear_targets(s, n);
     put_targets(s, n, found.targets.all());
     settle(s, n, found.low);
@@ -274,7 +275,8 @@ pub fn ask(s: &mut [u8], n: usize) -> Result<(), Refusal>
     requires { Undamaged s.old }
     ensures { Did s.old (ask n) s.new (number result) }
 {
-    let answer = find(s, n)?;
+    let mut answer = Found::new();
+    find(s, n, &mut answer)?;
     let kept = answer.answer(s, n);
     node_fields::clear_targets(s, n);
     put_targets(s, n, answer.targets.all());

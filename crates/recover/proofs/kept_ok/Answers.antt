@@ -8,4 +8,4 @@ pub returns-in-Err : goal.returns-in-Err
 returns-in-Err c =
     let l = line_of c.args.s.now in
     let n = c.args.n in
-    kept_some l n false c.in-Some.kept c.in-Some.ensures (answer_many l n (kept_is c.in-Some.kept) c.in-Err.field-0 c.in-Err.ensures)
+    kept_some l n false c.in-Some.kept c.in-Some.ensures (answer_many l n (kept_is c.in-Some.kept) c.in-Err.field-0 c.in-Err.ensures.told)

@@ -9,7 +9,7 @@ use Rattle.recover.proofs.told.Found.hear_channel.Goals as goal
 pub returns-then-sender_of-n : goal.returns-then-sender_of-n
 returns-then-sender_of-n c =
     let a = c.args in
-    told_other a.s.now a.n a.b a.self.now (λ e. c.if-sender_of-n.true (c.sender_of.ensures.0 ∙ e)) c.requires.3
+    told_other a.s.now a.n a.b a.self.now tt (λ e. c.if-sender_of-n.true (c.sender_of.ensures.0 ∙ e)) c.requires.3
 
 pub returns : goal.returns
 returns c =
