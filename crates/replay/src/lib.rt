@@ -181,6 +181,17 @@ fn end(s: &mut [u8], a: Arrival, log: &[PlacedRecord])
     node_fields::set_status(s, a.node, Status::Up);
 }
 
+// The last row is complete: 24, or the replay ends. Its log has a function's stack to itself, which a Take that goes on does not pay for.
+#[inline(never)]
+fn ended(s: &mut [u8], a: Arrival) -> Result<(), Refusal>
+    requires { Open s.old a × (rows_after (line_of s.old) a.node a.channel a.message.time ≡ true) }
+    ensures { Did s.old (frames.take a.channel) s.new (number result) }
+{
+    let log = replay_table::placed(s, a.node, a.last)?;
+    end(s, a, log.entries());
+    Ok(())
+}
+
 // What is left of a Take once neither 20 nor 21 is the answer: 24, or it is done.
 fn take_on(s: &mut [u8], goals: &[u32; 12], a: Arrival) -> Result<(), Refusal>
     requires { Open s.old a × Rows goals.now (row_goal (node_at (line_of s.old) a.node).targets) }
@@ -190,9 +201,7 @@ fn take_on(s: &mut [u8], goals: &[u32; 12], a: Arrival) -> Result<(), Refusal>
         hold(s, a);
         return Ok(());
     }
-    let log = replay_table::placed(s, a.node, a.last)?;
-    end(s, a, log.entries());
-    Ok(())
+    ended(s, a)
 }
 
 // Take, where the receiver replays, both ends are not down and the channel has a message: 20, 21 and 24 refuse it.

@@ -60,7 +60,8 @@ fn count_step(s: &mut [u8], console: usize)
     bytes::put32(s, layout::STEPS + layout::COUNT * console, steps + 1);
 }
 
-// A frame passed to such a state: 9 to 21 and 24 to 27 refuse it.
+// A frame passed to such a state: 9 to 21 and 24 to 27 refuse it. By itself, so that the check before it does not lie on its stack.
+#[inline(never)]
 pub fn step(s: &mut [u8], frame: &[u8]) -> Result<(), Refusal>
     requires { Undamaged s.old }
     ensures { Stepped s.old frame.now s.new (number result) }
