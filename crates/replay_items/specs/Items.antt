@@ -31,7 +31,7 @@ held_by s e = take e.held (held_with (line_of s) e.node e.last)
 pub record Asked (s : List ℕ) (e : Ending) : Type 0 where
   pub node : AtNode s e.node
   pub leaving : listed e.leaving ≡ leaving (plan_of s) e.node
-  pub targets : e.targets ≡ (node_at (line_of s) e.node).targets
+  pub targets : e.targets.now ≡ (node_at (line_of s) e.node).targets
   pub counted : e.held ≤ length (held_with (line_of s) e.node e.last)
   pub few : e.held ≤ held_limit
   pub agreed : conflict (node_at (line_of s) e.node).targets ≡ false

@@ -107,11 +107,11 @@ impl Goals {
 // ---- what is asked
 
 // The end of a node's replay: the channels that leave the node, its targets, and how many records it holds, the last one perhaps behind those that are stored.
-#[derive(Drop)]
-pub struct Ending {
+#[derive(Clone, Copy)]
+pub struct Ending<'a> {
     pub node: usize,
     pub leaving: Channels,
-    pub targets: Goals,
+    pub targets: &'a Goals,
     pub held: usize,
     pub last: Option<Waiting>,
 }

@@ -21,6 +21,6 @@ returns c =
     let ts : List Target = (node_at (line_of a.s.now) e.node).targets in
     let own : h.sender ≡ a.parent = omega (arith, c.from.ensures, c.if-from-parent.false) in
     let fixed : c.time_at-fixed.result ≡ fixed_at ts h =
-    c.time_at-fixed.ensures ∙ fixed_is e.targets h c.place_of-place.result (ap conflict asked.targets ∙ asked.agreed) c.place_of-place.ensures ∙ ap (λ (us : List Target). fixed_at us h) asked.targets in
+    c.time_at-fixed.ensures ∙ fixed_is e.targets.now h c.place_of-place.result (ap conflict asked.targets ∙ asked.agreed) c.place_of-place.ensures ∙ ap (λ (us : List Target). fixed_at us h) asked.targets in
     c.push.ensures ∙ one_more (line_of a.s.now) e.node (held_by a.s.now e) a.i a.parent a.row h (c.held_at-h.ensures ∙ sym (held_inside a.s.now e a.i c.requires.1)) a.items.now c.time_at-fixed.result c.floor_with-floor.result
     (eq-eqb h.sender a.parent own) fixed c.floor_with-floor.ensures
