@@ -1,12 +1,12 @@
 -- Texts written one behind the other.
-use Prim.Native.Nat.{ℕ, ◌+◌, ◌-◌, ◌*◌, ◌≤◌, ◌<◌}
+use Prim.Native.Nat.{ℕ, suc, ◌+◌, ◌-◌, ◌*◌, ◌≤◌, ◌<◌}
 use mathlib.Core.Path.{◌≡◌, refl, sym, ap, ◌∙◌}
 use mathlib.Core.List.{List, [], ◌∷◌, ◌++◌, map, append_assoc}
-use native.Mathlib.Nat.{add-zero, add-mul, one-mul}
+use native.Mathlib.Nat.{add-zero, add-suc, suc-add, add-mul, one-mul}
 use native.Mathlib.Numerals.{add-one}
 use native.Mathlib.Omega.{arith}
 use lib.ListN.{length, get_or, take, drop, set, length-append, drop_of_length-le}
-use lib.Seq.{drop-cons, drop-drop}
+use lib.Seq.{drop-cons, set_split, take-append-le, take-take, drop_at, drop-drop, length-take-le}
 use Rattle.rules.specs.Lists.{joined}
 use Rattle.rules.proofs.Lists.ListLaws.{nil_right}
 use Rattle.basics.specs.Put.{put, put-none, put-set, put-behind, length-put}
@@ -82,6 +82,18 @@ writing_last {part = part} w x = writing_end (writing_on (sym (nil_right part)) 
 
 pub byte_written : (s : List ℕ) (at b : ℕ) → at < length s → Wrote 1 s at (b ∷ []) (set s at b) (at + 1)
 byte_written s at b h = wrote_at 1 s at (b ∷ []) (set s at b) (at + 1) (put-set s at b h) refl (omega arith) (omega arith)
+
+-- What is written right ahead of a part joins it.
+pub put_ahead : (s : List ℕ) (at x : ℕ) (ys : List ℕ) → suc at + length ys ≤ length s → set (put s (suc at) ys) at x ≡ put s at (x ∷ ys)
+unfolding put
+put_ahead s at x ys h =
+    let end : ℕ = suc at + length ys in
+    let front : length (take (suc at) s) ≡ suc at = length-take-le (suc at) s (omega arith) in
+    let long : length (put s (suc at) ys) ≡ length s = length-put s (suc at) ys h in
+    let tail : drop (suc at) (take (suc at) s ++ (ys ++ drop end s)) ≡ ys ++ drop end s = drop_at (take (suc at) s) (ys ++ drop end s) (suc at) front in
+    let head : take at (take (suc at) s ++ (ys ++ drop end s)) ≡ take at s = take-append-le at (take (suc at) s) (ys ++ drop end s) (omega (arith, front)) ∙ take-take at (suc at) s (omega arith) in
+    set_split (put s (suc at) ys) at x (omega (arith, long))
+    ∙ rw (head, tail) (ap (λ (n : ℕ). take at s ++ x ∷ (ys ++ drop n s)) (sym (add-suc at (length ys) ∙ sym (suc-add at (length ys)))))
 
 -- Bytes that take the place of as many.
 pub word_written : (s w part : List ℕ) (at : ℕ) → at + length w ≤ length s → part ≡ w → Wrote (length w) s at w (take at s ++ (part ++ drop (at + length w - at) (drop at s))) (at + length w)
